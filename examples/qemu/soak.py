@@ -29,7 +29,7 @@ MOST_FRAMES = 128
 # The frames of each client, behind one another's. The first has room for two of the widest requests.
 CLIENT_FRAMES = [0, 300, 15, 15, 15, 15, 15, 15, 15]
 CLIENTS = len(CLIENT_FRAMES) - 1
-MOST_UNANSWERED, MOST_COUNT, FAILURES = 16, 1024, 100
+MOST_UNANSWERED_OF_ALL_CLIENTS, MOST_COUNT, FAILURES = 16, 1024, 100
 # How often the first client's request is a wide one, and of how many sectors it is then.
 WIDE, WIDE_COUNTS = 0.1, (256, 257, 512, 1000, 1023, 1024, 1024, 1025)
 # How often a grant is revoked, of the times that requests were made and answered.
@@ -226,7 +226,7 @@ class Shadow:
                 return f"8 FrameLent {place}"
         if kind == "trim":
             return "11 TrimUnsupported"
-        if sum(1 for request in self.open.values() if request["client"] == client) >= MOST_UNANSWERED:
+        if sum(1 for request in self.open.values() if request["client"] == client) >= MOST_UNANSWERED_OF_ALL_CLIENTS:
             return "12 ClientFull"
         return None
 

@@ -3,7 +3,7 @@ use Rattle.std.proofs.Common.{ℕ, ◌≡◌, ◌+◌, Option, refl, sym, ◌∙
 use Rattle.hba_regs.specs.declared.reg.Reg.{Reg}
 use Rattle.hba_regs.specs.declared.reg.Reg.TheVariants.{Cap, Ghc, Is, Pi, Vs, Cap2, Bohc, Px}
 use Rattle.adapter.specs.Device.{FetchedCommand, Bases, DevicePort, Device}
-use Rattle.adapter.specs.KeptBySteps.{PortBitsOnlyFall}
+use Rattle.adapter.specs.KeptBySteps.{PortBitsOnlyFallFreeSlotsStay}
 use Rattle.adapter.specs.Steps.{with_port}
 use Rattle.adapter.specs.Access.{Reads, notes_after_reading, device_after_reading}
 use Rattle.adapter.specs.Guarded.{MissesRange, IsGuardedSlot, IsGuarded}
@@ -58,7 +58,7 @@ module _ (Tables Kept : ℕ → Type 0) where
   guard_alike old new a g = record {
     tables_are_kept = g.tables_are_kept;
     ports_are_guarded = λ q.
-        let k : PortBitsOnlyFall (old.port q) (new.port q) = still (old.port q) (new.port q) (a.port q) in
+        let k : PortBitsOnlyFallFreeSlotsStay (old.port q) (new.port q) = still (old.port q) (new.port q) (a.port q) in
         record {
           slots_are_guarded = λ slot used.
               let P : (ℕ → ℕ) → Type 0 = λ memory. IsGuardedSlot Tables Kept memory (new.port q).bases.clb slot in

@@ -5,13 +5,13 @@ use Rattle.hba_regs.specs.declared.reg.PortReg.{PortReg}
 use Rattle.hba_regs.specs.declared.reg.PortReg.TheVariants.{Clb, Clbu, Fb, Fbu, Is, Ie, Cmd, Tfd, Sig, Ssts, Sctl, Serr, Sact, Ci}
 use Rattle.ata_types.specs.declared.Port.{Port}
 use Rattle.adapter.specs.Device.{Notes, DevicePort, Device}
-use Rattle.adapter.specs.KeptBySteps.{KeepsOverSteps, KeepsOutsideReset, PortBitsOnlyFall, KeepsControlsFlagsRise}
+use Rattle.adapter.specs.KeptBySteps.{KeepsOverSteps, KeepsOutsideReset, PortBitsOnlyFallFreeSlotsStay, KeepsControlsFlagsRise}
 use Rattle.adapter.specs.Rules.{IsOn}
-pub use Rattle.adapter.specs.RegisterEffects.{KeepsOverStepsOutsideReset, PortRegisterRead, PortRegisterWritten}
+pub use Rattle.adapter.specs.RegisterEffects.{IsAsAfterStepsOutsideReset, PortRegisterRead, PortRegisterWritten}
 use Rattle.adapter.specs.Steps.{Steps, with_port}
 use Rattle.adapter.specs.Access.{PortShows, notes_after_reading, Reads, Writes, Access, Does, DoesAll, IsDriven}
 use Rattle.adapter.proofs.Changed.{changed_same, changed_other, changed_each}
-use Rattle.adapter.proofs.KeptLemmas.{law_step_lists_keep_what_steps_keep, same_engine, still, same_controls, calm, PortBitsOnlyFall-refl, PortBitsOnlyFall-trans, KeepsControlsFlagsRise-refl, KeepsControlsFlagsRise-trans}
+use Rattle.adapter.proofs.KeptLemmas.{law_step_lists_keep_what_steps_keep, same_engine, still, same_controls, calm, PortBitsOnlyFallFreeSlotsStay-refl, PortBitsOnlyFallFreeSlotsStay-trans, KeepsControlsFlagsRise-refl, KeepsControlsFlagsRise-trans}
 
 -- ---- lists of accesses
 
@@ -55,8 +55,8 @@ shows_noted Serr v p n h = h
 shows_noted Sact v p n h = h
 shows_noted Ci v p n h = h
 
-pub KeepsOverStepsOutsideReset-trans : {old mid new : Device} → KeepsOverStepsOutsideReset old mid → KeepsOverStepsOutsideReset mid new → KeepsOverStepsOutsideReset old new
-KeepsOverStepsOutsideReset-trans a b = record {
+pub IsAsAfterStepsOutsideReset-trans : {old mid new : Device} → IsAsAfterStepsOutsideReset old mid → IsAsAfterStepsOutsideReset mid new → IsAsAfterStepsOutsideReset old new
+IsAsAfterStepsOutsideReset-trans a b = record {
   memory_size = b.memory_size ∙ a.memory_size;
   cap_is_kept = b.cap_is_kept ∙ a.cap_is_kept;
   pi_is_kept = b.pi_is_kept ∙ a.pi_is_kept;
@@ -66,10 +66,10 @@ KeepsOverStepsOutsideReset-trans a b = record {
     ie_is_kept = b.keeps_outside_reset.ie_is_kept ∙ a.keeps_outside_reset.ie_is_kept;
     controls_are_kept = λ q. KeepsControlsFlagsRise-trans (a.keeps_outside_reset.controls_are_kept q) (b.keeps_outside_reset.controls_are_kept q);
   };
-  ports_keep_what_steps_keep = λ q. PortBitsOnlyFall-trans (a.ports_keep_what_steps_keep q) (b.ports_keep_what_steps_keep q);
+  ports_keep_what_steps_keep = λ q. PortBitsOnlyFallFreeSlotsStay-trans (a.ports_keep_what_steps_keep q) (b.ports_keep_what_steps_keep q);
 }
 
-pub steps_keep_all : {old new : Device} → old.hr ≡ false → Steps old new → KeepsOverStepsOutsideReset old new
+pub steps_keep_all : {old new : Device} → old.hr ≡ false → Steps old new → IsAsAfterStepsOutsideReset old new
 steps_keep_all h steps = let k = law_step_lists_keep_what_steps_keep steps in record { memory_size = k.memory_size_is_kept; cap_is_kept = k.cap_is_kept; pi_is_kept = k.pi_is_kept; keeps_outside_reset = k.keeps_outside_reset h; ports_keep_what_steps_keep = k.port_bits_only_fall }
 
 module _ (port : Port) (r : PortReg) (v : ℕ) (old new : Device) (call : Reads (Px port r) v old new) (h : old.hr ≡ false) where
@@ -83,7 +83,7 @@ module _ (port : Port) (r : PortReg) (v : ℕ) (old new : Device) (call : Reads 
   unfolding there
   is_there = ap (λ (d : Device). d.port port.0) call.effect ∙ changed_same call.at_access.port port.0 there
 
-  noted_keeps : KeepsOverStepsOutsideReset call.at_access (with_port call.at_access port.0 there)
+  noted_keeps : IsAsAfterStepsOutsideReset call.at_access (with_port call.at_access port.0 there)
   unfolding there
   noted_keeps =
       let on : KeepsOutsideReset old call.at_access = kept.keeps_outside_reset h in
@@ -97,14 +97,14 @@ module _ (port : Port) (r : PortReg) (v : ℕ) (old new : Device) (call : Reads 
           ie_is_kept = refl;
           controls_are_kept = changed_each call.at_access.port port.0 there (λ q p. KeepsControlsFlagsRise (call.at_access.port q) p) (calm (call.at_access.port port.0) there (same_controls (call.at_access.port port.0))) (λ q. KeepsControlsFlagsRise-refl (call.at_access.port q));
         };
-        ports_keep_what_steps_keep = changed_each call.at_access.port port.0 there (λ q p. PortBitsOnlyFall (call.at_access.port q) p) (still (call.at_access.port port.0) there (same_engine (call.at_access.port port.0))) (λ q. PortBitsOnlyFall-refl (call.at_access.port q));
+        ports_keep_what_steps_keep = changed_each call.at_access.port port.0 there (λ q p. PortBitsOnlyFallFreeSlotsStay (call.at_access.port q) p) (still (call.at_access.port port.0) there (same_engine (call.at_access.port port.0))) (λ q. PortBitsOnlyFallFreeSlotsStay-refl (call.at_access.port q));
       }
 
-  seen_keeps : KeepsOverStepsOutsideReset old new
+  seen_keeps : IsAsAfterStepsOutsideReset old new
   unfolding there
   seen_keeps =
-      let P : Device → Type 0 = λ d. KeepsOverStepsOutsideReset old d in
-      subst P (sym call.effect) (KeepsOverStepsOutsideReset-trans (steps_keep_all h call.steps) noted_keeps)
+      let P : Device → Type 0 = λ d. IsAsAfterStepsOutsideReset old d in
+      subst P (sym call.effect) (IsAsAfterStepsOutsideReset-trans (steps_keep_all h call.steps) noted_keeps)
 
   seen_shows : PortShows r v (new.port port.0)
   unfolding there

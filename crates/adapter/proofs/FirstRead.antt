@@ -10,7 +10,7 @@ use Rattle.adapter.specs.FirstRead.{header_bytes, command_fis_bytes, prd_bytes, 
 use Rattle.adapter.specs.Idle.{IsIdlePort, HoldsBytesAndTellsDisks}
 use Rattle.adapter.specs.OneCommand.{HasOneCommand, SlotDecodesToCommand, CommandLayout, layout_of, is_in_span, is_in_pieces, is_read_only, is_device_writable, is_not_device_writable, IsOutsideCommand}
 use Rattle.adapter.specs.ReadDone.{read_of, IsReadDone}
-use Rattle.adapter.specs.Rules.{IsUnowned, IsStable}
+use Rattle.adapter.specs.Rules.{IsInMemoryNotOwnedByDevice, IsStable}
 use Rattle.adapter.specs.Decoding.{DecodesTo, IsWholePieces, piece_addresses}
 use Rattle.adapter.specs.declared.command.Prd.{Prd}
 use Rattle.adapter.proofs.Absurd.{true-false, some-none, some_one}
@@ -220,7 +220,7 @@ elsewhere = record {
     or_no : (a b : Bool) → a ≡ false → b ≡ false → a || b ≡ false
     or_no a b x y = rw (x, y) refl
 
-pub first_free : IsStable (IsUnowned 0x65000 4096) first_read_device
+pub first_free : IsStable (IsInMemoryNotOwnedByDevice 0x65000 4096) first_read_device
 unfolding first_command
 first_free =
     let P : CommandLayout → Type 0 = λ s. IsOutsideCommand s 0x65000 4096 first_read_device in

@@ -1,9 +1,9 @@
 -- Kept bytes that are no command's may be loaded and stored, whatever the device does first.
 use Rattle.std.proofs.Common.{ℕ, ◌≡◌, ◌<◌, ◌≤◌, ◌+◌, List, length, ap, subst, inl, inr, arith}
 use Rattle.adapter.specs.Device.{Bases, Device}
-use Rattle.adapter.specs.KeptBySteps.{KeepsOverSteps, PortBitsOnlyFall}
+use Rattle.adapter.specs.KeptBySteps.{KeepsOverSteps, PortBitsOnlyFallFreeSlotsStay}
 use Rattle.adapter.specs.Steps.{Steps}
-use Rattle.adapter.specs.Rules.{DeviceOwns, IsUnowned, IsStable, InDataBlocks}
+use Rattle.adapter.specs.Rules.{DeviceOwns, IsInMemoryNotOwnedByDevice, IsStable, InDataBlocks}
 use Rattle.adapter.specs.Guarded.{IsGuardedSlot, IsGuarded, IsKeptOutsideTables}
 use Rattle.adapter.proofs.Guards.{steps_guard, in_use_before}
 use Rattle.adapter.proofs.KeptLemmas.{law_step_lists_keep_what_steps_keep}
@@ -29,7 +29,7 @@ module _ (Tables Kept : ℕ → Type 0) (at n : ℕ) where
   unused_byte d g apart port slot a low high (inr (inr (fre, from, to))) =
       (g.ports_are_guarded port).received_fis_is_not_kept fre a from to (apart.kept a low high)
 
-  apart_free : (d : Device) → IsGuarded Tables Kept d → IsKeptOutsideTables Tables Kept at n d → IsUnowned at n d
+  apart_free : (d : Device) → IsGuarded Tables Kept d → IsKeptOutsideTables Tables Kept at n d → IsInMemoryNotOwnedByDevice at n d
   apart_free d g apart = record { inside = apart.inside; is_not_owned = unused_byte d g apart }
 
   apart_stays : (old mid : Device) → IsKeptOutsideTables Tables Kept at n old → Steps old mid → IsKeptOutsideTables Tables Kept at n mid
@@ -40,12 +40,12 @@ module _ (Tables Kept : ℕ → Type 0) (at n : ℕ) where
         kept = apart.kept;
         no_table = apart.no_table;
         no_header = λ port slot a used low high from to.
-            let p : PortBitsOnlyFall (old.port port) (mid.port port) = k.port_bits_only_fall port in
+            let p : PortBitsOnlyFallFreeSlotsStay (old.port port) (mid.port port) = k.port_bits_only_fall port in
             let list = ap (λ (b : Bases). b.clb) p.bases_are_kept in
             apart.no_header port slot a (in_use_before (old.port port) (mid.port port) p slot used) low high (omega (arith, list, from)) (omega (arith, list, to));
       }
 
   -- what `load` and `store` ask
-  pub apart_free_stays : (d : Device) → IsGuarded Tables Kept d → IsKeptOutsideTables Tables Kept at n d → IsStable (IsUnowned at n) d
+  pub apart_free_stays : (d : Device) → IsGuarded Tables Kept d → IsKeptOutsideTables Tables Kept at n d → IsStable (IsInMemoryNotOwnedByDevice at n) d
   apart_free_stays d g apart mid steps =
       apart_free mid (steps_guard Tables Kept d mid g steps).0 (apart_stays d mid apart steps)

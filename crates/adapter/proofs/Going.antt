@@ -13,22 +13,22 @@ use Rattle.adapter.specs.declared.access.DeviceStep.{DeviceStep}
 use Rattle.adapter.specs.declared.access.DeviceStep.TheVariants as asked
 use Rattle.adapter.proofs.Runs.{Steps-refl, Steps-one, Steps-trans}
 use Rattle.adapter.proofs.Scribbling.{area_filled, one_filled, scribbled_is_one}
-use Rattle.adapter.specs.AskedSteps.{DoesClear, DoesSlotStep, DoesSlotSteps, FailsAndPosts, FailsAfter, FailsAskedStep, SlotGoesOn, MayPost, DoesOrFailsStep, DoesAskedStep, DoesScribble, IsScribbled, bsy_mask, fatal_bit, memory_filled}
+use Rattle.adapter.specs.AskedSteps.{DoesClear, DoesSlotStep, DoesExactlySlotSteps, FailsAndPosts, FailsAfter, FailsAskedStep, DoesAtLeastOneSlotStep, PostsAnyBytesOrNone, DoesOrFailsStep, DoesAskedStep, DoesScribble, IsScribbled, bsy_mask, fatal_bit, memory_filled_if_all_inside}
 
 module _ (Posts : (port flag : ℕ) → Operation → Device → Device → Type 0) where
-  pub goes_one : (port slot : ℕ) (old new : Device) → DoesSlotStep Posts port slot old new → SlotGoesOn Posts port slot old new
+  pub goes_one : (port slot : ℕ) (old new : Device) → DoesSlotStep Posts port slot old new → DoesAtLeastOneSlotStep Posts port slot old new
   goes_one port slot old new one = (0, (old, refl, one))
 
   -- a step that happened or not, after some or none
-  pub goes_next : (port slot : ℕ) (old mid new : Device) (did : Bool) → (did ≡ true → SlotGoesOn Posts port slot old mid) → (did ≡ false → mid ≡ old) →
-      DoesSlotStep Posts port slot mid new → SlotGoesOn Posts port slot old new
+  pub goes_next : (port slot : ℕ) (old mid new : Device) (did : Bool) → (did ≡ true → DoesAtLeastOneSlotStep Posts port slot old mid) → (did ≡ false → mid ≡ old) →
+      DoesSlotStep Posts port slot mid new → DoesAtLeastOneSlotStep Posts port slot old new
   goes_next port slot old mid new true before same one = let b = before refl in (suc b.0, (mid, b.1, one))
   goes_next port slot old mid new false before same one =
       let P : Device → Type 0 = λ d. DoesSlotStep Posts port slot d new in
       goes_one port slot old new (subst P (same refl) one)
 
 -- what is posted is a step of the device
-pub post_steps : (port flag : ℕ) (operation : Operation) (old new : Device) → MayPost port flag operation old new → Steps old new
+pub post_steps : (port flag : ℕ) (operation : Operation) (old new : Device) → PostsAnyBytesOrNone port flag operation old new → Steps old new
 post_steps port flag operation old new (inl same) = let P : Device → Type 0 = λ d. Steps old d in subst P (sym same) (Steps-refl old)
 post_steps port flag operation old new (inr post) =
     Steps-one (Scribble port 0 post.0 post.1) old new
@@ -37,7 +37,7 @@ post_steps port flag operation old new (inr post) =
 clear_steps : (port slot most : ℕ) (old new : Device) → DoesClear port slot most old new → Steps old new
 clear_steps port slot most old new c = Steps-one (Clear port slot c.fetched_command c.first c.count) old new c.can c.effect
 
-one_steps : (port slot : ℕ) (old new : Device) → DoesSlotStep MayPost port slot old new → Steps old new
+one_steps : (port slot : ℕ) (old new : Device) → DoesSlotStep PostsAnyBytesOrNone port slot old new → Steps old new
 one_steps port slot old new (inl f) = Steps-one (Fetch port slot f.meaning f.places) old new f.can f.effect
 one_steps port slot old new (inr (inl m)) = Steps-one (Move port slot m.fetched_command m.bytes) old new m.can m.effect
 one_steps port slot old new (inr (inr (inr c))) = clear_steps port slot c.0 old new c.1
@@ -45,25 +45,25 @@ one_steps port slot old new (inr (inr (inl e))) =
     Steps-trans (Steps-one (Done port slot e.done.cause_bit e.done.fetched_command) old e.after_end e.done.can e.done.effect)
     (post_steps port e.done.cause_bit e.done.fetched_command.meaning.operation e.after_end new e.posts)
 
-some_steps : (n port slot : ℕ) (old new : Device) → DoesSlotSteps MayPost n port slot old new → Steps old new
+some_steps : (n port slot : ℕ) (old new : Device) → DoesExactlySlotSteps PostsAnyBytesOrNone n port slot old new → Steps old new
 some_steps zero port slot old new e = let P : Device → Type 0 = λ d. Steps old d in subst P (sym e) (Steps-refl old)
 some_steps (suc n) port slot old new s = Steps-trans (some_steps n port slot old s.0 s.1) (one_steps port slot s.0 new s.2)
 
-fault_steps : (port slot error kept : ℕ) (old new : Device) → FailsAndPosts MayPost port slot error kept old new → Steps old new
+fault_steps : (port slot error kept : ℕ) (old new : Device) → FailsAndPosts PostsAnyBytesOrNone port slot error kept old new → Steps old new
 fault_steps port slot error kept old new f =
     Steps-trans (Steps-one (Fault port slot error kept f.fault.fetched_command) old f.after_failure f.fault.can f.fault.effect)
     (post_steps port 30 f.fault.fetched_command.meaning.operation f.after_failure new f.posts)
 
 -- a command failed after some steps, or none
 fails_steps : (Part : Device → Device → Type 0) → ((old new : Device) → Part old new → Steps old new) → (port slot : ℕ) (old new : Device) →
-    FailsAfter MayPost Part port slot old new → Steps old new
+    FailsAfter PostsAnyBytesOrNone Part port slot old new → Steps old new
 fails_steps Part steps port slot old new f = Steps-trans (before f.part_is_done_or_nothing) (fault_steps port slot f.error 0 f.after_part new f.fails)
   where
     before : (f.after_part ≡ old) ⊎ Part old f.after_part → Steps old f.after_part
     before (inl same) = let P : Device → Type 0 = λ d. Steps old d in subst P (sym same) (Steps-refl old)
     before (inr some) = steps old f.after_part some
 
-goes_steps : (port slot : ℕ) (old new : Device) → SlotGoesOn MayPost port slot old new → Steps old new
+goes_steps : (port slot : ℕ) (old new : Device) → DoesAtLeastOneSlotStep PostsAnyBytesOrNone port slot old new → Steps old new
 goes_steps port slot old new did = some_steps (suc did.0) port slot old new did.1
 
 -- a place that the device may fill, or that isn't in the memory
@@ -78,7 +78,7 @@ bytes_of count byte small = All-replicate (λ b. b < 256) count byte small
 -- PRDBC of a slot, after others
 count_steps : (slot port byte : ℕ) (d : Device) (before : ℕ → ℕ) → (d.port port).fre ≡ true → byte < 256 → (held : Option FetchedCommand) → (d.port port).taken slot ≡ held →
     {from : Device} → Steps from (record d { memory = before }) →
-    Steps from (record d { memory = if is_some held then memory_filled d.memory_size ((d.port port).bases.clb + HEADER_BYTES * slot + 4) 4 byte before else before })
+    Steps from (record d { memory = if is_some held then memory_filled_if_all_inside d.memory_size ((d.port port).bases.clb + HEADER_BYTES * slot + 4) 4 byte before else before })
 count_steps slot port byte d before fre small None e so_far = so_far
 count_steps slot port byte d before fre small (Some t) e so_far =
     let at : ℕ = (d.port port).bases.clb + HEADER_BYTES * slot + 4 in
@@ -90,7 +90,7 @@ scribbles : (slots port byte : ℕ) (d : Device) → (d.port port).fre ≡ true 
     (memory : ℕ → ℕ) × IsScribbled slots d.memory_size byte (d.port port) d.memory memory × Steps d (record d { memory = memory })
 scribbles zero port byte d fre small =
     let at : ℕ = (d.port port).bases.fb in (
-      memory_filled d.memory_size at RECEIVED_FIS_BYTES byte d.memory,
+      memory_filled_if_all_inside d.memory_size at RECEIVED_FIS_BYTES byte d.memory,
       area_filled d.memory_size byte (d.port port) d.memory,
       fill_steps port 0 at RECEIVED_FIS_BYTES byte d (nat_le (at + RECEIVED_FIS_BYTES) d.memory_size)
           (record { fre_is_set = fre; place = inl (omega arith, omega arith); are_bytes = bytes_of RECEIVED_FIS_BYTES byte small }),
@@ -98,7 +98,7 @@ scribbles zero port byte d fre small =
 scribbles (suc slot) port byte d fre small =
     let p : DevicePort = d.port port in
     let before = scribbles slot port byte d fre small in
-    let memory : ℕ → ℕ = if is_some (p.taken slot) then memory_filled d.memory_size (p.bases.clb + HEADER_BYTES * slot + 4) 4 byte before.0 else before.0 in
+    let memory : ℕ → ℕ = if is_some (p.taken slot) then memory_filled_if_all_inside d.memory_size (p.bases.clb + HEADER_BYTES * slot + 4) 4 byte before.0 else before.0 in
     let next : slot + 1 ≡ suc slot = omega arith in
     let P : ℕ → Type 0 = λ n. IsScribbled n d.memory_size byte p d.memory memory in
     (memory, subst P next (one_filled d.memory_size byte p slot d.memory before.0 memory before.1 refl), count_steps slot port byte d before.0 fre small (p.taken slot) refl before.2)
@@ -111,7 +111,7 @@ scribble_steps port byte old new did =
     let Q : Device → Type 0 = λ d. Steps old d in
     subst Q (sym did.effect) (subst P same way.2)
 
-done_steps : (s : DeviceStep) (old new : Device) → DoesAskedStep MayPost s old new → Steps old new
+done_steps : (s : DeviceStep) (old new : Device) → DoesAskedStep PostsAnyBytesOrNone s old new → Steps old new
 done_steps (asked.Fetch p slot) old new did = one_steps p.0 slot.0 old new (inl did)
 done_steps (asked.Move p slot) old new did = one_steps p.0 slot.0 old new (inr (inl did))
 done_steps (asked.Clear p slot most) old new did = clear_steps p.0 slot.0 most old new did
@@ -129,13 +129,13 @@ done_steps (asked.Unplug p) old new did = Steps-one (Unplug p.0) old new did.can
 done_steps (asked.Plug p number) old new did = Steps-one (Plug p.0 did.disk) old new did.can did.effect
 done_steps (asked.LosePlug p) old new did = Steps-one (Plug p.0 did.disk) old new did.can did.effect
 
-failed_steps : (s : DeviceStep) (old new : Device) → FailsAskedStep MayPost s old new → Steps old new
+failed_steps : (s : DeviceStep) (old new : Device) → FailsAskedStep PostsAnyBytesOrNone s old new → Steps old new
 failed_steps (asked.Fetch p slot) old new f =
     Steps-trans (Steps-one (FetchFault p.0 slot.0 f.fault.queued 0) old f.after_failure f.fault.can f.fault.effect)
     (post_steps p.0 30 Identify f.after_failure new (f.posts Identify))
 failed_steps (asked.Move p slot) old new f = fault_steps p.0 slot.0 f.0 0 old new f.1
 failed_steps (asked.Clear p slot most) old new f = fails_steps (DoesClear p.0 slot.0 most) (clear_steps p.0 slot.0 most) p.0 slot.0 old new f
-failed_steps (asked.Finish p slot) old new f = fails_steps (SlotGoesOn MayPost p.0 slot.0) (goes_steps p.0 slot.0) p.0 slot.0 old new f
+failed_steps (asked.Finish p slot) old new f = fails_steps (DoesAtLeastOneSlotStep PostsAnyBytesOrNone p.0 slot.0) (goes_steps p.0 slot.0) p.0 slot.0 old new f
 failed_steps (asked.Done p slot) old new f = absurd f
 failed_steps (asked.Fault p slot error) old new f = absurd f
 failed_steps (asked.FaultBusy p slot error) old new f = absurd f

@@ -3,7 +3,7 @@ use Rattle.std.proofs.Common.{ℕ, ◌≡◌, ◌+◌, Bool, true, false, List, 
 use Rattle.adapter.specs.Memory.{patched, changed}
 use Rattle.adapter.specs.Commands.{Meaning, reads_memory}
 use Rattle.adapter.specs.Device.{FetchedCommand, Bases, DevicePort, Device}
-use Rattle.adapter.specs.KeptBySteps.{KeepsOverSteps, PortBitsOnlyFall}
+use Rattle.adapter.specs.KeptBySteps.{KeepsOverSteps, PortBitsOnlyFallFreeSlotsStay}
 use Rattle.adapter.specs.Rules.{InUse}
 use Rattle.adapter.specs.Steps.{DeviceTransition, Can, device_after, TransitionsLead, Steps, MayFetch, MayScribble, next_place}
 use Rattle.adapter.specs.Steps.DeviceTransition.{Fetch, FetchFault, Move, Clear, Done, Fault, Fatal, Fall, FrFall, LinkUp, Unplug, Plug, ResetEnds, Scribble}
@@ -60,7 +60,7 @@ module _ (Tables Kept : ℕ → Type 0) where
   }
 
 -- a slot that is in use was in use
-module _ (old new : DevicePort) (k : PortBitsOnlyFall old new) (slot : ℕ) where
+module _ (old new : DevicePort) (k : PortBitsOnlyFallFreeSlotsStay old new) (slot : ℕ) where
   taken_before : (ci : Bool) (o : Option FetchedCommand) → old.ci slot ≡ ci → old.taken slot ≡ o → (t : FetchedCommand) → new.taken slot ≡ Some t → InUse old slot
   taken_before true o set is t now = inl set
   taken_before false (Some u) unset is t now = inr (u, is)
@@ -125,7 +125,7 @@ module _ (Tables Kept : ℕ → Type 0) (d : Device) (g : IsGuarded Tables Kept 
       record {
         tables_are_kept = g.tables_are_kept;
         ports_are_guarded = λ q.
-            let k : PortBitsOnlyFall (d.port q) ((device_after step d).port q) = all.port_bits_only_fall q in
+            let k : PortBitsOnlyFallFreeSlotsStay (d.port q) ((device_after step d).port q) = all.port_bits_only_fall q in
             let p : IsGuardedPort Tables Kept d.memory (d.port q) = g.ports_are_guarded q in
             record {
               slots_are_guarded = λ slot used.

@@ -5,7 +5,7 @@ use Rattle.adapter.proofs.Changed.{changed_each}
 use Rattle.adapter.specs.Memory.{changed}
 use Rattle.adapter.specs.Commands.{is_queued}
 use Rattle.adapter.specs.Device.{FetchedCommand, DevicePort, Device}
-use Rattle.adapter.specs.KeptBySteps.{KeepsOverSteps, KeepsOutsideReset, PortBitsOnlyFall, KeepsControlsFlagsRise}
+use Rattle.adapter.specs.KeptBySteps.{KeepsOverSteps, KeepsOutsideReset, PortBitsOnlyFallFreeSlotsStay, KeepsControlsFlagsRise}
 use Rattle.adapter.specs.Steps.{DeviceTransition, Can, device_after, TransitionsLead, Steps, with_port}
 use Rattle.adapter.specs.Steps.DeviceTransition.{Fetch, FetchFault, Move, Clear, Done, Fault, Fatal, Fall, FrFall, LinkUp, Unplug, Plug, ResetEnds, Scribble}
 use Rattle.adapter.specs.declared.tape.Entry.{Entry}
@@ -41,7 +41,7 @@ SameEngine old new =
 pub same_engine : (p : DevicePort) → SameEngine p p
 same_engine p = (refl, refl, refl, refl, refl, refl, refl, refl)
 
-pub still : (old new : DevicePort) → SameEngine old new → PortBitsOnlyFall old new
+pub still : (old new : DevicePort) → SameEngine old new → PortBitsOnlyFallFreeSlotsStay old new
 still old new (bases, st, fre, cr, fr, ci, sact, taken) =
     let at : (slot : ℕ) → new.taken slot ≡ old.taken slot = λ slot. ap (λ (f : ℕ → Option FetchedCommand). f slot) taken in
     record {
@@ -57,8 +57,8 @@ still old new (bases, st, fre, cr, fr, ci, sact, taken) =
       slots_stay_free = λ slot unset none. at slot ∙ none;
     }
 
-pub PortBitsOnlyFall-refl : (p : DevicePort) → PortBitsOnlyFall p p
-PortBitsOnlyFall-refl p = still p p (same_engine p)
+pub PortBitsOnlyFallFreeSlotsStay-refl : (p : DevicePort) → PortBitsOnlyFallFreeSlotsStay p p
+PortBitsOnlyFallFreeSlotsStay-refl p = still p p (same_engine p)
 
 -- what the driver's controls are, and the flags, are the same, and CR is
 abbrev pub SameControls : DevicePort → DevicePort → Type 0
@@ -107,7 +107,7 @@ slot_keeps p slot new used =
 
 -- the command of a slot of a working port goes on
 worked : (p : DevicePort) (slot : ℕ) (t u : FetchedCommand) (new : DevicePort) → p.cr ≡ true → p.taken slot ≡ Some t
-    → SameEngine (record p { taken = changed p.taken slot (Some u) }) new → PortBitsOnlyFall p new
+    → SameEngine (record p { taken = changed p.taken slot (Some u) }) new → PortBitsOnlyFallFreeSlotsStay p new
 worked p slot t u new running is (bases, st, fre, cr, fr, ci, sact, taken) = record {
   bases_are_kept = bases;
   st_stays_clear = λ h. st ∙ h;
@@ -123,9 +123,9 @@ worked p slot t u new running is (bases, st, fre, cr, fr, ci, sact, taken) = rec
 
 -- ---- one step, at its port
 
-module _ (d : Device) (port : ℕ) (new : DevicePort) (keeps : PortBitsOnlyFall (d.port port) new) (controls : KeepsControlsFlagsRise (d.port port) new) (same : new.notes ≡ (d.port port).notes) where
-  ports : (q : ℕ) → PortBitsOnlyFall (d.port q) (changed d.port port new q)
-  ports = changed_each d.port port new (λ q p. PortBitsOnlyFall (d.port q) p) keeps (λ q. PortBitsOnlyFall-refl (d.port q))
+module _ (d : Device) (port : ℕ) (new : DevicePort) (keeps : PortBitsOnlyFallFreeSlotsStay (d.port port) new) (controls : KeepsControlsFlagsRise (d.port port) new) (same : new.notes ≡ (d.port port).notes) where
+  ports : (q : ℕ) → PortBitsOnlyFallFreeSlotsStay (d.port q) (changed d.port port new q)
+  ports = changed_each d.port port new (λ q p. PortBitsOnlyFallFreeSlotsStay (d.port q) p) keeps (λ q. PortBitsOnlyFallFreeSlotsStay-refl (d.port q))
 
   all_controls : (q : ℕ) → KeepsControlsFlagsRise (d.port q) (changed d.port port new q)
   all_controls = changed_each d.port port new (λ q p. KeepsControlsFlagsRise (d.port q) p) controls (λ q. KeepsControlsFlagsRise-refl (d.port q))
@@ -167,7 +167,7 @@ Keeps-refl d = record {
   memory_size_is_kept = refl;
   cap_is_kept = refl;
   pi_is_kept = refl;
-  port_bits_only_fall = λ q. PortBitsOnlyFall-refl (d.port q);
+  port_bits_only_fall = λ q. PortBitsOnlyFallFreeSlotsStay-refl (d.port q);
   notes_are_kept = λ q. refl;
   new_entries = [];
   tape_grows = sym (append-nil d.tape);
@@ -330,7 +330,7 @@ step_keeps (Scribble port slot at bytes) d can = record {
   memory_size_is_kept = refl;
   cap_is_kept = refl;
   pi_is_kept = refl;
-  port_bits_only_fall = λ q. PortBitsOnlyFall-refl (d.port q);
+  port_bits_only_fall = λ q. PortBitsOnlyFallFreeSlotsStay-refl (d.port q);
   notes_are_kept = λ q. refl;
   new_entries = [];
   tape_grows = sym (append-nil d.tape);
@@ -339,14 +339,14 @@ step_keeps (Scribble port slot at bytes) d can = record {
 
 -- ---- lists of steps
 
-module _ {old mid new : DevicePort} (a : PortBitsOnlyFall old mid) (b : PortBitsOnlyFall mid new) where
+module _ {old mid new : DevicePort} (a : PortBitsOnlyFallFreeSlotsStay old mid) (b : PortBitsOnlyFallFreeSlotsStay mid new) where
   -- CR fell in the first part or in the second
   fell_between : (cr : Bool) → mid.cr ≡ cr → old.cr ≡ true → new.cr ≡ false → (slot : ℕ) → new.taken slot ≡ None
   fell_between true is ran quiet = b.cr_fall_drops_taken_commands is quiet
   fell_between false is ran quiet = b.none_stays_taken_while_cr_is_clear is (a.cr_fall_drops_taken_commands ran is)
 
-  pub PortBitsOnlyFall-trans : PortBitsOnlyFall old new
-  PortBitsOnlyFall-trans = record {
+  pub PortBitsOnlyFallFreeSlotsStay-trans : PortBitsOnlyFallFreeSlotsStay old new
+  PortBitsOnlyFallFreeSlotsStay-trans = record {
     bases_are_kept = b.bases_are_kept ∙ a.bases_are_kept;
     st_stays_clear = λ h. b.st_stays_clear (a.st_stays_clear h);
     fre_stays_clear = λ h. b.fre_stays_clear (a.fre_stays_clear h);
@@ -386,7 +386,7 @@ Keeps-trans {old} {mid} {new} a b = record {
   memory_size_is_kept = b.memory_size_is_kept ∙ a.memory_size_is_kept;
   cap_is_kept = b.cap_is_kept ∙ a.cap_is_kept;
   pi_is_kept = b.pi_is_kept ∙ a.pi_is_kept;
-  port_bits_only_fall = λ q. PortBitsOnlyFall-trans (a.port_bits_only_fall q) (b.port_bits_only_fall q);
+  port_bits_only_fall = λ q. PortBitsOnlyFallFreeSlotsStay-trans (a.port_bits_only_fall q) (b.port_bits_only_fall q);
   notes_are_kept = λ q. b.notes_are_kept q ∙ a.notes_are_kept q;
   new_entries = a.new_entries ++ b.new_entries;
   tape_grows = b.tape_grows ∙ (ap (λ t. t ++ b.new_entries) a.tape_grows ∙ append_assoc old.tape a.new_entries b.new_entries);

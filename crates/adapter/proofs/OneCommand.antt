@@ -4,7 +4,7 @@ use Rattle.std.proofs.Common.{ℕ, zero, suc, ◌≡◌, ◌<◌, ◌≤◌, ◌
 use Rattle.std.proofs.lemmas.Bool.{cases_eq, cases_lt, le-leb, lt-ltb}
 use Rattle.adapter.specs.Device.{DevicePort, Device}
 use Rattle.adapter.specs.Idle.{IsIdle, IsIdlePort}
-use Rattle.adapter.specs.Rules.{InUse, InDataBlocks, IsUnowned, IsStable}
+use Rattle.adapter.specs.Rules.{InUse, InDataBlocks, IsInMemoryNotOwnedByDevice, IsStable}
 use Rattle.adapter.specs.Guarded.{PassesTest, MissesRange, MissesPieces, IsGuardedSlot, IsGuardedPort, IsGuarded}
 use Rattle.adapter.specs.OneCommand.{CommandLayout, is_in_span, is_in_pieces, is_read_only, is_device_writable, is_not_device_writable, IsFreeSlot, layout_of, HasOneCommand, NoneHasCommand, IsOutsideCommand}
 use Rattle.adapter.proofs.Absurd.{true-false, some-none}
@@ -94,7 +94,7 @@ idle_guarded kept d i = record {
   ports_are_guarded = λ q. port_idle (PassesTest (λ _. false)) (PassesTest kept) d.memory (d.port q) (i.ports_are_idle q);
 }
 
-pub idle_free : (at n : ℕ) (d : Device) → IsIdle d → at + n ≤ d.memory_size → IsStable (IsUnowned at n) d
+pub idle_free : (at n : ℕ) (d : Device) → IsIdle d → at + n ≤ d.memory_size → IsStable (IsInMemoryNotOwnedByDevice at n) d
 idle_free at n d i inside =
     apart_free_stays (PassesTest (λ _. false)) (PassesTest (λ _. true)) at n d (idle_guarded (λ _. true) d i)
     (record {
@@ -178,7 +178,7 @@ module _ (d : Device) (port slot : ℕ) (c : HasOneCommand d port slot) where
             ]
       ]
 
-  pub elsewhere_free : (at n : ℕ) → IsOutsideCommand (layout_of d port slot c.command) at n d → IsStable (IsUnowned at n) d
+  pub elsewhere_free : (at n : ℕ) → IsOutsideCommand (layout_of d port slot c.command) at n d → IsStable (IsInMemoryNotOwnedByDevice at n) d
   elsewhere_free at n e =
       apart_free_stays Tables Kept at n d command_is_guarded
       (record {

@@ -13,7 +13,7 @@ use Rattle.hba_regs.specs.declared.reg.Reg.TheVariants.{Cap, Ghc, Pi, Vs, Cap2, 
 use Rattle.hba_regs.specs.declared.reg.Reg.TheVariants as adapter
 use Rattle.hba_regs.specs.declared.reg.PortReg.{PortReg}
 use Rattle.hba_regs.specs.declared.reg.PortReg.TheVariants.{Clb, Clbu, Fb, Fbu, Is, Ie, Cmd, Tfd, Sig, Ssts, Sctl, Serr, Sact, Ci}
-use Rattle.adapter.specs.Access.{Access, ShowsPendingUnlessUnnamedCause, Does, DoesAll, Reads, Writes, named_cause_bits, is_named_cause, is_pending, named_causes_mask, device_after_reading, port_after_write, raises_cause, raises_interrupt, shown_interrupt, port_after_hba_is_write, port_after_st_write, device_after_write}
+use Rattle.adapter.specs.Access.{Access, ShowsPendingAndPerhapsUnnamedCause, Does, DoesAll, Reads, Writes, named_cause_bits, is_named_cause, is_ips_set, named_causes_mask, device_after_reading, port_after_write, raises_cause, raises_interrupt, shown_interrupt, port_after_hba_is_write, port_after_st_write, device_after_write}
 use Rattle.adapter.specs.Access.Access.{Reading, Writing, Loading, Storing}
 use Rattle.adapter.specs.Device.{DevicePort, Device}
 use Rattle.adapter.specs.KeptBySteps.{KeepsControlsFlagsRise}
@@ -102,7 +102,7 @@ any_more : (f g : ℕ → Bool) → ((k : ℕ) → f k ≡ true → g k ≡ true
 any_more f g more [] h = h
 any_more f g more (k ∷ ks) h = ⊎_elim (λ x. or_left (g k) (list_any g ks) (more k x)) (λ x. or_right (g k) (list_any g ks) (any_more f g more ks x)) (or_cases (f k) (list_any f ks) h)
 
-pub shown_pends : (p : DevicePort) (place : ℕ) → is_named_cause place ≡ true → shown_interrupt p place ≡ true → bit p.ie place ≡ true → is_pending p ≡ true
+pub shown_pends : (p : DevicePort) (place : ℕ) → is_named_cause place ≡ true → shown_interrupt p place ≡ true → bit p.ie place ≡ true → is_ips_set p ≡ true
 shown_pends p place is shown enabled = or_right p.ips_latched (raises_interrupt p) (named_raises (raises_cause p) place is (and_from _ _ shown enabled))
 
 -- ---- what was pending stays so, where no cause falls
@@ -129,23 +129,23 @@ module _ (old new : DevicePort) (r : Rises old new) where
       let both = and_parts (shown_interrupt old place) (bit old.ie place) h in
       and_from (shown_interrupt new place) (bit new.ie place) (shown_on place both.0) (ap (λ (n : ℕ). bit n place) r.ie ∙ both.1)
 
-  pending_on : is_pending old ≡ true → is_pending new ≡ true
+  pending_on : is_ips_set old ≡ true → is_ips_set new ≡ true
   pending_on h = ⊎_elim (λ x. or_left new.ips_latched (raises_interrupt new) (r.ips x)) (λ x. or_right new.ips_latched (raises_interrupt new) (any_more (raises_cause old) (raises_cause new) raises_on named_cause_bits x)) (or_cases old.ips_latched (raises_interrupt old) h)
 
 controls_rise : (old new : DevicePort) → KeepsControlsFlagsRise old new → Rises old new
 controls_rise old new k = record { ips = λ h. k.ips_is_kept ∙ h; ie = k.ie_is_kept; is = k.causes_stay_set; serr_n = k.serr_n_stays_set; serr_x = k.serr_x_stays_set }
 
-pub steps_pend : (port : ℕ) (old new : Device) → Steps old new → old.hr ≡ false → is_pending (old.port port) ≡ true → is_pending (new.port port) ≡ true
+pub steps_pend : (port : ℕ) (old new : Device) → Steps old new → old.hr ≡ false → is_ips_set (old.port port) ≡ true → is_ips_set (new.port port) ≡ true
 steps_pend port old new s off = pending_on (old.port port) (new.port port) (controls_rise (old.port port) (new.port port) (((law_step_lists_keep_what_steps_keep s).keeps_outside_reset off).controls_are_kept port))
 
 -- ---- a step that raises a cause
 
 module _ (d : Device) (its : ℕ) (new : DevicePort) where
   -- at the port where it is raised
-  here : (port place : ℕ) → port ≡ its → is_named_cause place ≡ true → shown_interrupt new place ≡ true → new.ie ≡ (d.port its).ie → bit (d.port port).ie place ≡ true → is_pending (changed d.port its new port) ≡ true
+  here : (port place : ℕ) → port ≡ its → is_named_cause place ≡ true → shown_interrupt new place ≡ true → new.ie ≡ (d.port its).ie → bit (d.port port).ie place ≡ true → is_ips_set (changed d.port its new port) ≡ true
   here port place at is shown same enabled =
-      let P : ℕ → Type 0 = λ q. bit (d.port q).ie place ≡ true → is_pending (changed d.port its new q) ≡ true in
-      subst P (sym at) (λ e. subst (λ (p : DevicePort). is_pending p ≡ true) (sym (changed_same d.port its new)) (shown_pends new place is shown (ap (λ (n : ℕ). bit n place) same ∙ e))) enabled
+      let P : ℕ → Type 0 = λ q. bit (d.port q).ie place ≡ true → is_ips_set (changed d.port its new q) ≡ true in
+      subst P (sym at) (λ e. subst (λ (p : DevicePort). is_ips_set p ≡ true) (sym (changed_same d.port its new)) (shown_pends new place is shown (ap (λ (n : ℕ). bit n place) same ∙ e))) enabled
 
 -- a flag of PxIS that was raised is shown
 flag_shown : (p : DevicePort) (flag : ℕ) → nat_eq flag 6 ≡ false → nat_eq flag 22 ≡ false → (is : ℕ → Bool) → p.is ≡ changed is flag true → shown_interrupt p flag ≡ true
@@ -181,19 +181,19 @@ its_cause : (place k : ℕ) → place ≡ k → is_named_cause k ≡ true → is
 its_cause place k is = subst (λ (n : ℕ). is_named_cause n ≡ true) (sym is)
 
 module _ (d : Device) (its : ℕ) (new : DevicePort) where
-  flag_raised : (port place flag : ℕ) → port ≡ its → place ≡ flag → IsFlag flag → new.is ≡ changed (d.port its).is flag true → new.ie ≡ (d.port its).ie → bit (d.port port).ie place ≡ true → is_pending (changed d.port its new port) ≡ true
+  flag_raised : (port place flag : ℕ) → port ≡ its → place ≡ flag → IsFlag flag → new.is ≡ changed (d.port its).is flag true → new.ie ≡ (d.port its).ie → bit (d.port port).ie place ≡ true → is_ips_set (changed d.port its new port) ≡ true
   flag_raised port place flag at is flags raised same enabled =
       let f : IsFlag place = flag_of place flag is flags in
       here d its new port place at f.cause (subst (λ (n : ℕ). shown_interrupt new n ≡ true) (sym is) (flag_shown new flag flags.no_x flags.no_n (d.port its).is raised)) same enabled
 
   -- PCS and PRCS show PxSERR
-  x_raised : (port place : ℕ) → port ≡ its → place ≡ 6 → new.serr_x ≡ true → new.ie ≡ (d.port its).ie → bit (d.port port).ie place ≡ true → is_pending (changed d.port its new port) ≡ true
+  x_raised : (port place : ℕ) → port ≡ its → place ≡ 6 → new.serr_x ≡ true → new.ie ≡ (d.port its).ie → bit (d.port port).ie place ≡ true → is_ips_set (changed d.port its new port) ≡ true
   x_raised port place at is x same = here d its new port place at (its_cause place 6 is refl) (subst (λ (n : ℕ). shown_interrupt new n ≡ true) (sym is) x) same
 
-  n_raised : (port place : ℕ) → port ≡ its → place ≡ 22 → new.serr_n ≡ true → new.ie ≡ (d.port its).ie → bit (d.port port).ie place ≡ true → is_pending (changed d.port its new port) ≡ true
+  n_raised : (port place : ℕ) → port ≡ its → place ≡ 22 → new.serr_n ≡ true → new.ie ≡ (d.port its).ie → bit (d.port port).ie place ≡ true → is_ips_set (changed d.port its new port) ≡ true
   n_raised port place at is n same = here d its new port place at (its_cause place 22 is refl) (subst (λ (k : ℕ). shown_interrupt new k ≡ true) (sym is) n) same
 
-pub raised_pends : (step : DeviceTransition) (port place : ℕ) (d : Device) → Can step d → SetsCause step port place → bit (d.port port).ie place ≡ true → is_pending ((device_after step d).port port) ≡ true
+pub raised_pends : (step : DeviceTransition) (port place : ℕ) (d : Device) → Can step d → SetsCause step port place → bit (d.port port).ie place ≡ true → is_ips_set ((device_after step d).port port) ≡ true
 raised_pends (FetchFault its slot queued kept_bits) port place d can (at, is) = flag_raised d its _ port place 30 at is fault_flag refl refl
 raised_pends (Done its slot flag t) port place d can (at, is) = flag_raised d its _ port place flag at is (done_flag flag can.cause_is_allowed) refl refl
 raised_pends (Fault its slot error kept_bits t) port place d can (at, is) = flag_raised d its _ port place 30 at is fault_flag refl refl
@@ -237,7 +237,7 @@ record Leaves (port : ℕ) (access : Access) (d new : Device) : Type 0 where
   off : d.hr ≡ false → new.hr ≡ false
   tape : new.tape ≡ d.tape
   ie : LeavesIe port access → (new.port port).ie ≡ (d.port port).ie
-  pends : is_pending (d.port port) ≡ true → is_pending (new.port port) ≡ true
+  pends : is_ips_set (d.port port) ≡ true → is_ips_set (new.port port) ≡ true
 
 leaves_all : (port : ℕ) (access : Access) (d : Device) → Leaves port access d d
 leaves_all port access d = record { off = λ h. h; tape = refl; ie = λ spares. refl; pends = λ h. h }
@@ -254,28 +254,28 @@ noted_leaves port (Px its r) v d = record {
   off = λ h. h;
   tape = refl;
   ie = λ spares. changed_each d.port its.0 _ (λ q p. p.ie ≡ (d.port q).ie) refl (λ q. refl) port;
-  pends = changed_each d.port its.0 _ (λ q p. is_pending (d.port q) ≡ true → is_pending p ≡ true) (λ x. x) (λ q x. x) port;
+  pends = changed_each d.port its.0 _ (λ q p. is_ips_set (d.port q) ≡ true → is_ips_set p ≡ true) (λ x. x) (λ q x. x) port;
 }
 
 -- ST, and what else a write of a register of the port changes beside what raises an interrupt
-st_pends : (st : Bool) (tape : ℕ) (p : DevicePort) → is_pending p ≡ true → is_pending (port_after_st_write st tape p) ≡ true
+st_pends : (st : Bool) (tape : ℕ) (p : DevicePort) → is_ips_set p ≡ true → is_ips_set (port_after_st_write st tape p) ≡ true
 st_pends true tape p h = by p.st
   where
-    by : (st : Bool) → is_pending (if st then p else record p { st = true; cr = true; broken = false; halt = halt_after_start p.halt; notes = record p.notes { st_set_at = tape } }) ≡ true
+    by : (st : Bool) → is_ips_set (if st then p else record p { st = true; cr = true; broken = false; halt = halt_after_start p.halt; notes = record p.notes { st_set_at = tape } }) ≡ true
     by true = h
     by false = h
 st_pends false tape p h = h
 
-port_pends : (r : PortReg) (v tape : ℕ) (p : DevicePort) → is_pending p ≡ true → is_pending (port_after_write r v tape p) ≡ true
+port_pends : (r : PortReg) (v tape : ℕ) (p : DevicePort) → is_ips_set p ≡ true → is_ips_set (port_after_write r v tape p) ≡ true
 port_pends Clb v tape p h = h
 port_pends Clbu v tape p h = h
 port_pends Fb v tape p h = h
 port_pends Fbu v tape p h = h
 port_pends Cmd v tape p h = st_pends (bit v 0) tape p h
 port_pends Sctl v tape p h = h
-port_pends Serr v tape p h = or_left (is_pending p) _ h
-port_pends Is v tape p h = or_left (is_pending p) _ h
-port_pends Ie v tape p h = or_left (is_pending p) _ h
+port_pends Serr v tape p h = or_left (is_ips_set p) _ h
+port_pends Is v tape p h = or_left (is_ips_set p) _ h
+port_pends Ie v tape p h = or_left (is_ips_set p) _ h
 port_pends Ci v tape p h = h
 port_pends Sact v tape p h = h
 port_pends Tfd v tape p h = h
@@ -319,14 +319,14 @@ written_leaves port adapter.Is v d none = record { off = λ h. h; tape = refl; i
     same true = refl
     same false = refl
 
-    by : (b : Bool) → b ≡ false → is_pending (d.port port) ≡ true → is_pending (if b then port_after_hba_is_write (d.port port) else d.port port) ≡ true
+    by : (b : Bool) → b ≡ false → is_ips_set (d.port port) ≡ true → is_ips_set (if b then port_after_hba_is_write (d.port port) else d.port port) ≡ true
     by false is h = h
     by true is h = true-false refl is
 written_leaves port (Px its r) v d none = record {
   off = λ h. h;
   tape = refl;
   ie = λ spares. changed_each d.port its.0 _ (λ q p. q ≡ port → p.ie ≡ (d.port q).ie) (λ at. port_enables its port r v _ (d.port its.0) (sym at) spares) (λ q at. refl) port refl;
-  pends = changed_each d.port its.0 _ (λ q p. is_pending (d.port q) ≡ true → is_pending p ≡ true) (port_pends r v _ (d.port its.0)) (λ q x. x) port;
+  pends = changed_each d.port its.0 _ (λ q p. is_ips_set (d.port q) ≡ true → is_ips_set p ≡ true) (port_pends r v _ (d.port its.0)) (λ q x. x) port;
 }
 written_leaves port Cap v d none = leaves_all port _ d
 written_leaves port Pi v d none = leaves_all port _ d
@@ -355,13 +355,13 @@ module _ (port : ℕ) (P : Device → Type 0) (May : Access → Type 0)
 -- what is pending on the port, with no reset
 record Pends (port : ℕ) (d : Device) : Type 0 where
   off : d.hr ≡ false
-  pends : is_pending (d.port port) ≡ true
+  pends : is_ips_set (d.port port) ≡ true
 
 any_access : (accesses : List Access) → All (λ (access : Access). Unit {0}) accesses
 any_access [] = All-nil (λ (access : Access). Unit {0})
 any_access (access ∷ accesses) = All-cons (λ (access : Access). Unit {0}) access accesses tt (any_access accesses)
 
-pub accesses_pend : (port : ℕ) (accesses : List Access) (old new : Device) → DoesAll accesses old new → All (KeepsIsBit port) accesses → old.hr ≡ false → is_pending (old.port port) ≡ true → is_pending (new.port port) ≡ true
+pub accesses_pend : (port : ℕ) (accesses : List Access) (old new : Device) → DoesAll accesses old new → All (KeepsIsBit port) accesses → old.hr ≡ false → is_ips_set (old.port port) ≡ true → is_ips_set (new.port port) ≡ true
 accesses_pend port accesses old new does none off h =
     (all_go port (Pends port) (λ access. Unit {0})
     (λ old new s p. record { off = ((law_step_lists_keep_what_steps_keep s).keeps_outside_reset p.off).no_reset; pends = steps_pend port old new s p.off p.pends })
@@ -384,7 +384,7 @@ module _ (port : ℕ) (told : Entry) (its : interrupting_port told ≡ Some port
     tells : EnablesNamedCauses (d.port port)
     gained : List Entry
     tape : d.tape ≡ begun ++ gained
-    pends : Contains gained told → is_pending (d.port port) ≡ true
+    pends : Contains gained told → is_ips_set (d.port port) ≡ true
 
   enables_on : (p q : DevicePort) → q.ie ≡ p.ie → EnablesNamedCauses p → EnablesNamedCauses q
   enables_on p q same all place is = ap (λ (n : ℕ). bit n place) same ∙ all place is
@@ -393,7 +393,7 @@ module _ (port : ℕ) (told : Entry) (its : interrupting_port told ≡ Some port
     controls : KeepsControlsFlagsRise (d.port port) ((device_after step d).port port)
     controls = ((step_keeps step d can).keeps_outside_reset w.off).controls_are_kept port
 
-    goes_on : is_pending (d.port port) ≡ true → is_pending ((device_after step d).port port) ≡ true
+    goes_on : is_ips_set (d.port port) ≡ true → is_ips_set ((device_after step d).port port) ≡ true
     goes_on = pending_on (d.port port) ((device_after step d).port port) (controls_rise (d.port port) ((device_after step d).port port) controls)
 
     quiet : (device_after step d).tape ≡ d.tape → Waits (device_after step d)
@@ -405,7 +405,7 @@ module _ (port : ℕ) (told : Entry) (its : interrupting_port told ≡ Some port
       pends = λ has. goes_on (w.pends has);
     }
 
-    recorded : (e : Entry) → (device_after step d).tape ≡ d.tape ++ e ∷ [] → (interrupting_port e ≡ Some port → is_pending ((device_after step d).port port) ≡ true) → Waits (device_after step d)
+    recorded : (e : Entry) → (device_after step d).tape ≡ d.tape ++ e ∷ [] → (interrupting_port e ≡ Some port → is_ips_set ((device_after step d).port port) ≡ true) → Waits (device_after step d)
     recorded e same raised = record {
       off = ((step_keeps step d can).keeps_outside_reset w.off).no_reset;
       tells = enables_on (d.port port) ((device_after step d).port port) controls.ie_is_kept w.tells;
@@ -453,7 +453,7 @@ module _ (port : ℕ) (told : Entry) (its : interrupting_port told ≡ Some port
   }
 
 pub told_pend : (port : ℕ) (told : Entry) (accesses : List Access) (gained : List Entry) (old new : Device) → interrupting_port told ≡ Some port → DoesAll accesses old new → All (KeepsIsBit port) accesses → All (LeavesIe port) accesses
-    → old.hr ≡ false → EnablesNamedCauses (old.port port) → new.tape ≡ old.tape ++ gained → Contains gained told → is_pending (new.port port) ≡ true
+    → old.hr ≡ false → EnablesNamedCauses (old.port port) → new.tape ≡ old.tape ++ gained → Contains gained told → is_ips_set (new.port port) ≡ true
 told_pend port told accesses gained old new its does none spares off tells tape has =
     let w : Waits port told its old.tape new = all_go port (Waits port told its old.tape) (LeavesIe port)
     (λ a b s. leads_wait port told its old.tape s.steps a b s.lead) (effect_waits port told its old.tape) accesses old new does spares none
@@ -462,15 +462,15 @@ told_pend port told accesses gained old new its does none spares off tells tape 
 
 -- ---- IS itself
 
-pub pending_shown : (port v : ℕ) (old new : Device) → Reads adapter.Is v old new → HasPort new port → ShowsPendingUnlessUnnamedCause (bit v port) (new.port port)
+pub pending_shown : (port v : ℕ) (old new : Device) → Reads adapter.Is v old new → HasPort new port → ShowsPendingAndPerhapsUnnamedCause (bit v port) (new.port port)
 pending_shown port v old new x has =
     let low = has.0 in
-    subst (λ (d : Device). ShowsPendingUnlessUnnamedCause (bit v port) (d.port port)) (sym x.effect)
+    subst (λ (d : Device). ShowsPendingAndPerhapsUnnamedCause (bit v port) (d.port port)) (sym x.effect)
     (x.shows port (omega (arith, low)) (subst (λ (d : Device). bit d.pi port ≡ true) x.effect has.1))
 
-pub pending_cleared : (port v : ℕ) (old new : Device) → Writes adapter.Is v old new → bit v port ≡ true → is_pending (new.port port) ≡ raises_interrupt (new.port port)
-pending_cleared port v old new x set = subst (λ (d : Device). is_pending (d.port port) ≡ raises_interrupt (d.port port)) (sym x.effect) (by (bit v port) set)
+pub pending_cleared : (port v : ℕ) (old new : Device) → Writes adapter.Is v old new → bit v port ≡ true → is_ips_set (new.port port) ≡ raises_interrupt (new.port port)
+pending_cleared port v old new x set = subst (λ (d : Device). is_ips_set (d.port port) ≡ raises_interrupt (d.port port)) (sym x.effect) (by (bit v port) set)
   where
-    by : (b : Bool) → b ≡ true → is_pending (if b then port_after_hba_is_write (x.at_access.port port) else x.at_access.port port) ≡ raises_interrupt (if b then port_after_hba_is_write (x.at_access.port port) else x.at_access.port port)
+    by : (b : Bool) → b ≡ true → is_ips_set (if b then port_after_hba_is_write (x.at_access.port port) else x.at_access.port port) ≡ raises_interrupt (if b then port_after_hba_is_write (x.at_access.port port) else x.at_access.port port)
     by true is = refl
     by false is = true-false is refl

@@ -1,12 +1,12 @@
 -- A read that may be fetched can be done: one piece after another.
 use Rattle.std.proofs.Common.{ℕ, zero, suc, true, ◌≡◌, ◌+◌, ◌<◌, ◌≤◌, List, [], ◌∷◌, ◌++◌, length, slice_index, Option, None, Some, IfSome, Bool, false, refl, sym, ◌∙◌, ap, subst, arith, inl, inr, append_assoc, append-nil}
 use Rattle.std.proofs.lemmas.Bool.{cases_eq}
-use Rattle.adapter.specs.AskedSteps.{DoesSlotSteps, EndsAndPosts, PostsNone}
+use Rattle.adapter.specs.AskedSteps.{DoesExactlySlotSteps, EndsAndPosts, PostsNone}
 use Rattle.adapter.specs.Memory.{patched, bytes_at, changed}
 use Rattle.adapter.specs.Device.{Disk, IsValidSector, FetchedCommand, Halt, DevicePort, Device}
 use Rattle.adapter.specs.OneCommand.{IsFreeSlot}
 use Rattle.adapter.specs.ReadDone.{read_of, IsReadThatCanComplete, read_move_entries, IsReadDone}
-use Rattle.adapter.specs.Steps.{device_after, Steps, WorksOn, IsWorking, admits, newly_fetched, MayMove, MayBeDone, port_after_fetch, port_after_move, port_after_done, done_entry, move_of}
+use Rattle.adapter.specs.Steps.{device_after, Steps, WorksOn, IsWorking, admits, newly_fetched, MayMove, MayBeDone, port_after_fetch, port_after_move, port_after_done_except_lasting, done_entry, move_of}
 use Rattle.adapter.specs.Steps.DeviceTransition.{Fetch, Move, Done}
 use Rattle.adapter.specs.declared.command.Operation.{Operation}
 use Rattle.adapter.specs.declared.command.Operation.TheVariants.{Read, Trim}
@@ -34,7 +34,7 @@ module _ (old : Device) (port slot first count : ℕ) (places : List ℕ) (told 
   -- so many pieces were moved
   record IsMoved (n : ℕ) (d : Device) : Type 0 where
     pub steps : Steps old d
-    pub goes : DoesSlotSteps PostsNone (suc n) port slot old d
+    pub goes : DoesExactlySlotSteps PostsNone (suc n) port slot old d
     pub is : (d.port port).is ≡ (old.port port).is
     pub works : WorksOn (d.port port) slot (command n) Read
     pub disk : (d.port port).disk ≡ (old.port port).disk
@@ -142,7 +142,7 @@ module _ (old : Device) (port slot first count : ℕ) (places : List ℕ) (told 
       let d : Device = before.0 in
       let m : IsMoved count d = before.1 in
       let end : Device = device_after (Done port slot 0 (command count)) d in
-      let new : DevicePort = port_after_done (d.port port) slot 0 Read in
+      let new : DevicePort = port_after_done_except_lasting (d.port port) slot 0 Read in
       let here : end.port port ≡ new = changed_same d.port port new in
       let can : MayBeDone d port slot 0 (command count) = record {
         works = m.works;

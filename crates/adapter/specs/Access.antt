@@ -41,8 +41,8 @@ raises_interrupt p = list_any (raises_cause p) named_cause_bits
 
 -- The port's bit of IS is set by the level of the port's interrupt, and stays until it is cleared (AHCI 1.3.1, 3.1.3
 -- and 10.7).
-abbrev pub is_pending : DevicePort → Bool
-is_pending p = p.ips_latched || raises_interrupt p
+abbrev pub is_ips_set : DevicePort → Bool
+is_ips_set p = p.ips_latched || raises_interrupt p
 
 -- the causes that are named, as bits of PxIE; and whether it enables others
 abbrev pub named_causes_mask : ℕ
@@ -53,8 +53,8 @@ enables_unnamed_causes ie = not (nat_eq (bit_and ie named_causes_mask) ie)
 
 -- The bit of IS is one where the port's interrupt is pending. Where it isn't, it is zero, unless a cause that isn't
 -- named may have set it.
-abbrev pub ShowsPendingUnlessUnnamedCause : Bool → DevicePort → Type 0
-ShowsPendingUnlessUnnamedCause shown p = (is_pending p ≡ true) ⊎ (p.other_causes ≡ false) → shown ≡ is_pending p
+abbrev pub ShowsPendingAndPerhapsUnnamedCause : Bool → DevicePort → Type 0
+ShowsPendingAndPerhapsUnnamedCause shown p = (is_ips_set p ≡ true) ⊎ (p.other_causes ≡ false) → shown ≡ is_ips_set p
 
 abbrev pub PortShows : PortReg → ℕ → DevicePort → Type 0
 PortShows Clb v p = p.bases.clb_set ≡ true → v ≡ p.bases.clb
@@ -79,7 +79,7 @@ Shows Vs v d = v ≡ 0x00010301
 Shows Ghc v d = (bit v 0 ≡ d.hr) × (bit v 1 ≡ d.ie) × (bit v 31 ≡ d.ae)
 -- of each port that the adapter has; the other bits may be anything
 Shows adapter.Is v d = (port : ℕ) → port < 32 → bit d.pi port ≡ true
-    → ShowsPendingUnlessUnnamedCause (bit v port) (d.port port)
+    → ShowsPendingAndPerhapsUnnamedCause (bit v port) (d.port port)
 Shows (Px port r) v d = PortShows r v (d.port port.0)
 Shows _ v d = Unit {0}
 
@@ -90,8 +90,8 @@ abbrev pub count_after_reading : Bool → ℕ → ℕ
 count_after_reading again n = if again then min MOST_READINGS (n + 1) else 0
 
 -- the count of SSTS: a reading with a device sets it to the most, where it stays
-abbrev pub link_count_after_reading : ℕ → ℕ → ℕ
-link_count_after_reading det n = if nat_eq det 3 then MOST_READINGS else min MOST_READINGS (n + 1)
+abbrev pub link_wait_count_full_once_linked : ℕ → ℕ → ℕ
+link_wait_count_full_once_linked det n = if nat_eq det 3 then MOST_READINGS else min MOST_READINGS (n + 1)
 
 -- the counts of SSTS, TFD and CI move only while SCTL.DET is 0
 abbrev pub while_no_comreset : DevicePort → ℕ → ℕ → ℕ
@@ -106,7 +106,7 @@ notes_after_reading Cmd v p =
 notes_after_reading Ssts v p =
     record p.notes {
       last_ssts = v;
-      link_wait_count = while_no_comreset p (link_count_after_reading (v % 16) p.notes.link_wait_count)
+      link_wait_count = while_no_comreset p (link_wait_count_full_once_linked (v % 16) p.notes.link_wait_count)
           p.notes.link_wait_count;
     }
 notes_after_reading Tfd v p =
@@ -182,18 +182,18 @@ port_after_write Sctl v tape_length p = port_after_det_write (v % 16) tape_lengt
 -- the port's bit of IS stays, also where its causes go (AHCI 1.3.1, 3.1.3): so these three keep it first
 port_after_write Serr v tape_length p =
     record p {
-      ips_latched = is_pending p;
+      ips_latched = is_ips_set p;
       serr_n = p.serr_n && not (bit v 16);
       serr_x = p.serr_x && not (bit v 26);
     }
 port_after_write Is v tape_length p =
     record p {
-      ips_latched = is_pending p;
+      ips_latched = is_ips_set p;
       is = λ place. p.is place && not (bit v place);
       notes = record p.notes { acknowledged = true };
     }
 port_after_write Ie v tape_length p =
-    record p { ips_latched = is_pending p; other_causes = p.other_causes || enables_unnamed_causes v; ie = v }
+    record p { ips_latched = is_ips_set p; other_causes = p.other_causes || enables_unnamed_causes v; ie = v }
 port_after_write Ci v tape_length p = record p { ci = λ slot. p.ci slot || bit v slot }
 port_after_write Sact v tape_length p = record p { sact = λ slot. p.sact slot || bit v slot }
 port_after_write _ v tape_length p = p

@@ -55,36 +55,40 @@ pub record IsPosted (port at : ℕ) (bytes : List ℕ) (old new : Device) : Type
 
 -- What an adapter may post as a command of this operation ends or fails, with this cause in PxIS: any bytes in the
 -- port's area, or nothing.
-abbrev pub MayPost : (port flag : ℕ) → Operation → Device → Device → Type 0
-MayPost port flag operation old new = (new ≡ old) ⊎ ((at : ℕ) × (bytes : List ℕ) × IsPosted port at bytes old new)
+abbrev pub PostsAnyBytesOrNone : (port cause_bit : ℕ) → Operation → Device → Device → Type 0
+PostsAnyBytesOrNone port cause_bit operation old new = (new ≡ old)
+    ⊎ ((at : ℕ) × (bytes : List ℕ) × IsPosted port at bytes old new)
 
 -- nothing is posted
-abbrev pub PostsNone : (port flag : ℕ) → Operation → Device → Device → Type 0
-PostsNone port flag operation old new = new ≡ old
+abbrev pub PostsNone : (port cause_bit : ℕ) → Operation → Device → Device → Type 0
+PostsNone port cause_bit operation old new = new ≡ old
 
 -- the slot's command ended, and then this was posted
-pub record EndsAndPosts (Posts : (port flag : ℕ) → Operation → Device → Device → Type 0) (port slot : ℕ)
+pub record EndsAndPosts (Posts : (port cause_bit : ℕ) → Operation → Device → Device → Type 0) (port slot : ℕ)
     (old new : Device) : Type 0 where
   pub after_end : Device
   pub done : DoesDone port slot old after_end
   pub posts : Posts port done.cause_bit done.fetched_command.meaning.operation after_end new
 
 -- a step of this slot's command
-abbrev pub DoesSlotStep : ((port flag : ℕ) → Operation → Device → Device → Type 0) → ℕ → ℕ → Device → Device → Type 0
+abbrev pub DoesSlotStep : ((port cause_bit : ℕ) → Operation → Device → Device → Type 0) → ℕ → ℕ → Device → Device
+    → Type 0
 DoesSlotStep Posts port slot old new =
     DoesFetch port slot old new ⊎ DoesMove port slot old new ⊎ EndsAndPosts Posts port slot old new
     ⊎ ((most : ℕ) × DoesClear port slot most old new)
 
 -- so many steps of the slot's command, one after another, and nothing else
-abbrev pub DoesSlotSteps : ((port flag : ℕ) → Operation → Device → Device → Type 0) → ℕ → ℕ → ℕ → Device → Device
+abbrev pub DoesExactlySlotSteps : ((port cause_bit : ℕ) → Operation → Device → Device → Type 0) → ℕ → ℕ → ℕ → Device
+    → Device
     → Type 0
-DoesSlotSteps Posts zero port slot old new = new ≡ old
-DoesSlotSteps Posts (suc n) port slot old new = (mid : Device) × DoesSlotSteps Posts n port slot old mid
+DoesExactlySlotSteps Posts zero port slot old new = new ≡ old
+DoesExactlySlotSteps Posts (suc n) port slot old new = (mid : Device) × DoesExactlySlotSteps Posts n port slot old mid
     × DoesSlotStep Posts port slot mid new
 
--- the slot's command went on by one step or more
-abbrev pub SlotGoesOn : ((port flag : ℕ) → Operation → Device → Device → Type 0) → ℕ → ℕ → Device → Device → Type 0
-SlotGoesOn Posts port slot old new = (n : ℕ) × DoesSlotSteps Posts (suc n) port slot old new
+-- one step or more of the slot's command was done
+abbrev pub DoesAtLeastOneSlotStep : ((port cause_bit : ℕ) → Operation → Device → Device → Type 0) → ℕ → ℕ → Device
+    → Device → Type 0
+DoesAtLeastOneSlotStep Posts port slot old new = (n : ℕ) × DoesExactlySlotSteps Posts (suc n) port slot old new
 
 -- the slot's command failed with this error; BSY and DRQ are left set as these bits say (ACS-3, 6.2 and 6.3)
 pub record DoesFault (port slot error kept_bits : ℕ) (old new : Device) : Type 0 where
@@ -103,7 +107,7 @@ pub record DoesFetchFault (port slot : ℕ) (old new : Device) : Type 0 where
   pub effect : new ≡ device_after (FetchFault port slot queued 0) old
 
 -- The slot's command failed, and then this was posted, with TFES of PxIS (AHCI 1.3.1, 3.3.5).
-pub record FailsAndPosts (Posts : (port flag : ℕ) → Operation → Device → Device
+pub record FailsAndPosts (Posts : (port cause_bit : ℕ) → Operation → Device → Device
     → Type 0) (port slot error kept_bits : ℕ)
     (old new : Device) : Type 0 where
   pub after_failure : Device
@@ -112,14 +116,15 @@ pub record FailsAndPosts (Posts : (port flag : ℕ) → Operation → Device →
 
 -- Or what is issued in the slot failed, since its bytes mean no command. Then that was posted which is posted for each
 -- operation alike: a model whose FIS differs by the operation can't do this step.
-pub record FailsToDecode (Posts : (port flag : ℕ) → Operation → Device → Device → Type 0) (port slot : ℕ)
+pub record FailsToDecode (Posts : (port cause_bit : ℕ) → Operation → Device → Device → Type 0) (port slot : ℕ)
     (old new : Device) : Type 0 where
   pub after_failure : Device
   pub fault : DoesFetchFault port slot old after_failure
   pub posts : (operation : Operation) → Posts port 30 operation after_failure new
 
 -- so much was done, or nothing, and then the slot's command failed; BSY and DRQ are clear
-pub record FailsAfter (Posts : (port flag : ℕ) → Operation → Device → Device → Type 0) (Part : Device → Device → Type 0)
+pub record FailsAfter (Posts : (port cause_bit : ℕ) → Operation → Device → Device → Type 0)
+    (Part : Device → Device → Type 0)
     (port slot : ℕ) (old new : Device) : Type 0 where
   pub after_part : Device
   pub part_is_done_or_nothing : (after_part ≡ old) ⊎ Part old after_part
@@ -137,25 +142,25 @@ pub record DoesFatal (port : ℕ) (error : FatalError) (old new : Device) : Type
   pub effect : new ≡ device_after (Fatal port (fatal_bit error)) old
 
 -- these bytes of memory are filled with one; nothing is, where not all of them lie in the memory
-abbrev pub memory_filled : (size at count byte : ℕ) → (ℕ → ℕ) → ℕ → ℕ
-memory_filled size at count byte memory =
+abbrev pub memory_filled_if_all_inside : (size at count byte : ℕ) → (ℕ → ℕ) → ℕ → ℕ
+memory_filled_if_all_inside size at count byte memory =
     if nat_le (at + count) size then patched memory at (replicate count byte) else memory
 
 -- the place is one of these bytes, which all lie in the memory
-abbrev pub IsByteWithin : (size at count place : ℕ) → Type 0
-IsByteWithin size at count place = (at + count ≤ size) × (at ≤ place) × (place < at + count)
+abbrev pub IsByteOfSpanInsideMemory : (size at count place : ℕ) → Type 0
+IsByteOfSpanInsideMemory size at count place = (at + count ≤ size) × (at ≤ place) × (place < at + count)
 
 -- a place of the port's received FIS area, or of PRDBC of a slot whose command is taken, of the first slots, so many
 -- (AHCI 1.3.1, 4.2.1 and 4.2.2)
-abbrev pub IsScribblePlace : (slots size : ℕ) → DevicePort → ℕ → Type 0
-IsScribblePlace slots size p place = IsByteWithin size p.bases.fb RECEIVED_FIS_BYTES place
+abbrev pub IsInReceivedFisOrTakenPrdbc : (slots size : ℕ) → DevicePort → ℕ → Type 0
+IsInReceivedFisOrTakenPrdbc slots size p place = IsByteOfSpanInsideMemory size p.bases.fb RECEIVED_FIS_BYTES place
     ⊎ ((slot : ℕ) × (slot < slots) × (is_some (p.taken slot) ≡ true)
-    × IsByteWithin size (p.bases.clb + HEADER_BYTES * slot + 4) 4 place)
+    × IsByteOfSpanInsideMemory size (p.bases.clb + HEADER_BYTES * slot + 4) 4 place)
 
 -- each of these places has this byte, and each other one has what it had
 pub record IsScribbled (slots size byte : ℕ) (p : DevicePort) (old new : ℕ → ℕ) : Type 0 where
-  pub filled : (place : ℕ) → IsScribblePlace slots size p place → new place ≡ byte
-  pub others_are_kept : (place : ℕ) → (IsScribblePlace slots size p place → ⊥) → new place ≡ old place
+  pub filled : (place : ℕ) → IsInReceivedFisOrTakenPrdbc slots size p place → new place ≡ byte
+  pub others_are_kept : (place : ℕ) → (IsInReceivedFisOrTakenPrdbc slots size p place → ⊥) → new place ≡ old place
 
 -- while the port receives FISes, its received FIS area was filled with this byte, and PRDBC of each slot whose command
 -- is taken
@@ -180,13 +185,13 @@ pub record DoesPlug (port number : ℕ) (old new : Device) : Type 0 where
 
 -- What was asked of the device, and nothing else, where this is posted as commands end or fail. What its disks will say
 -- of themselves, and on which ports it does nothing by itself, is no part of its state.
-abbrev pub DoesAskedStep : ((port flag : ℕ) → Operation → Device → Device → Type 0) → DeviceStep → Device → Device
+abbrev pub DoesAskedStep : ((port cause_bit : ℕ) → Operation → Device → Device → Type 0) → DeviceStep → Device → Device
     → Type 0
 DoesAskedStep Posts (asked.Fetch p s) old new = DoesFetch p.0 s.0 old new
 DoesAskedStep Posts (asked.Move p s) old new = DoesMove p.0 s.0 old new
 DoesAskedStep Posts (asked.Clear p s most) old new = DoesClear p.0 s.0 most old new
 DoesAskedStep Posts (asked.Done p s) old new = EndsAndPosts Posts p.0 s.0 old new
-DoesAskedStep Posts (asked.Finish p s) old new = SlotGoesOn Posts p.0 s.0 old new
+DoesAskedStep Posts (asked.Finish p s) old new = DoesAtLeastOneSlotStep Posts p.0 s.0 old new
 DoesAskedStep Posts (asked.Fault p s error) old new = FailsAndPosts Posts p.0 s.0 error 0 old new
 DoesAskedStep Posts (asked.FaultBusy p s error) old new = FailsAndPosts Posts p.0 s.0 error bsy_mask old new
 DoesAskedStep Posts (asked.Fatal p error) old new = DoesFatal p.0 error old new
@@ -201,20 +206,21 @@ DoesAskedStep Posts (asked.LosePlug p) old new = DoesPlug p.0 (old.port p.0).dis
 
 -- Or the command failed in its place: as it was taken, as its next piece was to be moved, or after some of what was
 -- asked, or none.
-abbrev pub FailsAskedStep : ((port flag : ℕ) → Operation → Device → Device → Type 0) → DeviceStep → Device → Device
+abbrev pub FailsAskedStep : ((port cause_bit : ℕ) → Operation → Device → Device → Type 0) → DeviceStep → Device → Device
     → Type 0
 FailsAskedStep Posts (asked.Fetch p s) old new = FailsToDecode Posts p.0 s.0 old new
 FailsAskedStep Posts (asked.Move p s) old new = (error : ℕ) × FailsAndPosts Posts p.0 s.0 error 0 old new
 FailsAskedStep Posts (asked.Clear p s most) old new = FailsAfter Posts (DoesClear p.0 s.0 most) p.0 s.0 old new
-FailsAskedStep Posts (asked.Finish p s) old new = FailsAfter Posts (SlotGoesOn Posts p.0 s.0) p.0 s.0 old new
+FailsAskedStep Posts (asked.Finish p s) old new =
+    FailsAfter Posts (DoesAtLeastOneSlotStep Posts p.0 s.0) p.0 s.0 old new
 FailsAskedStep Posts step old new = ⊥
 
 -- the one or the other
-abbrev pub DoesOrFailsWithPosts : ((port flag : ℕ) → Operation → Device → Device → Type 0) → DeviceStep → Device
+abbrev pub DoesOrFailsWithPosts : ((port cause_bit : ℕ) → Operation → Device → Device → Type 0) → DeviceStep → Device
     → Device
     → Type 0
 DoesOrFailsWithPosts Posts step old new = DoesAskedStep Posts step old new ⊎ FailsAskedStep Posts step old new
 
 -- what was asked of the device, or a fault in its place, and any FIS as a command ended or failed, or none
 abbrev pub DoesOrFailsStep : DeviceStep → Device → Device → Type 0
-DoesOrFailsStep step old new = DoesOrFailsWithPosts MayPost step old new
+DoesOrFailsStep step old new = DoesOrFailsWithPosts PostsAnyBytesOrNone step old new

@@ -44,6 +44,12 @@ reads_memory WriteQueued = true
 reads_memory Trim = true
 reads_memory _ = false
 
+-- the command sends a page to the driver itself: IDENTIFY DEVICE or READ LOG EXT
+abbrev pub sends_page : Operation → Bool
+sends_page Identify = true
+sends_page ReadLog = true
+sends_page _ = false
+
 -- where the bytes of a move go
 abbrev pub direction_of : Operation → Direction
 direction_of Write = FromMemory

@@ -5,7 +5,7 @@ use Rattle.adapter.specs.declared.tape.Entry.{Entry}
 
 -- The addresses are the driver's. Bits of CI, SACT, ST, CR, FRE and FR only fall; nothing is taken while CR
 -- is 0, nothing is left taken once it has fallen, and a free slot stays free.
-pub record PortBitsOnlyFall (old new : DevicePort) : Type 0 where
+pub record PortBitsOnlyFallFreeSlotsStay (old new : DevicePort) : Type 0 where
   pub bases_are_kept : new.bases ≡ old.bases
   pub st_stays_clear : old.st ≡ false → new.st ≡ false
   pub fre_stays_clear : old.fre ≡ false → new.fre ≡ false
@@ -43,7 +43,7 @@ pub record KeepsOverSteps (old new : Device) : Type 0 where
   pub memory_size_is_kept : new.memory_size ≡ old.memory_size
   pub cap_is_kept : new.cap ≡ old.cap
   pub pi_is_kept : new.pi ≡ old.pi
-  pub port_bits_only_fall : (port : ℕ) → PortBitsOnlyFall (old.port port) (new.port port)
+  pub port_bits_only_fall : (port : ℕ) → PortBitsOnlyFallFreeSlotsStay (old.port port) (new.port port)
   pub notes_are_kept : (port : ℕ) → (new.port port).notes ≡ (old.port port).notes
   pub new_entries : List Entry
   pub tape_grows : new.tape ≡ old.tape ++ new_entries

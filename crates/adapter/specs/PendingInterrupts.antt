@@ -18,7 +18,7 @@ use Rattle.adapter.specs.declared.tape.Entry.TheVariants as entry
 -- the step makes PxIS of the port show this cause
 abbrev pub SetsCause : DeviceTransition → (port place : ℕ) → Type 0
 SetsCause (FetchFault its slot queued kept_bits) port place = (port ≡ its) × (place ≡ 30)
-SetsCause (Done its slot flag t) port place = (port ≡ its) × (place ≡ flag)
+SetsCause (Done its slot cause_bit t) port place = (port ≡ its) × (place ≡ cause_bit)
 SetsCause (Fault its slot error kept_bits t) port place = (port ≡ its) × (place ≡ 30)
 SetsCause (Fatal its error) port place = (port ≡ its) × (place ≡ error)
 SetsCause (LinkUp its sig n) port place = (port ≡ its) × ((place ≡ 6) ⊎ ((place ≡ 22) × (n ≡ true)))

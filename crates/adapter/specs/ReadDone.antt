@@ -1,6 +1,6 @@
 -- A READ DMA EXT, from its fetch to its end.
 use Rattle.std.specs.Prelude.{ℕ, zero, suc, true, ◌≡◌, ◌+◌, ◌<◌, ◌≤◌, ◌⊎◌, List, [], ◌∷◌, ◌++◌, Some, slice_index}
-use Rattle.adapter.specs.AskedSteps.{SlotGoesOn, PostsNone}
+use Rattle.adapter.specs.AskedSteps.{DoesAtLeastOneSlotStep, PostsNone}
 use Rattle.adapter.specs.Memory.{bytes_at, changed}
 use Rattle.adapter.specs.Commands.{Meaning}
 use Rattle.adapter.specs.Device.{HasValidSectors, Device}
@@ -48,7 +48,7 @@ read_move_entries port slot first places told (suc n) =
 pub record IsReadDone (old new : Device) (port slot first count : ℕ) (places : List ℕ)
     (told : ℕ → List ℕ) : Type 0 where
   pub steps : Steps old new
-  pub slot_goes_on : SlotGoesOn PostsNone port slot old new
+  pub slot_goes_on : DoesAtLeastOneSlotStep PostsNone port slot old new
   pub dhrs_is_shown : (new.port port).is ≡ changed (old.port port).is 0 true
   pub slot_is_free : IsFreeSlot (new.port port) slot
   pub tape_tells_read : new.tape ≡ old.tape ++ (read_move_entries port slot first places told count

@@ -135,6 +135,6 @@ DeviceOwns d p slot at =
     ⊎ ((p.fre ≡ true) × (p.bases.fb ≤ at) × (at < p.bases.fb + RECEIVED_FIS_BYTES))
 
 -- these bytes are inside the memory, and the device may use none of them
-pub record IsUnowned (at n : ℕ) (d : Device) : Type 0 where
+pub record IsInMemoryNotOwnedByDevice (at n : ℕ) (d : Device) : Type 0 where
   pub inside : at + n ≤ d.memory_size
   pub is_not_owned : (port slot byte : ℕ) → at ≤ byte → byte < at + n → DeviceOwns d (d.port port) slot byte → ⊥

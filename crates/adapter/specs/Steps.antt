@@ -18,12 +18,12 @@ use Rattle.adapter.specs.declared.tape.Entry.TheVariants as entry
 pub data DeviceTransition : Type 0 where
   -- an issued command is taken; its bytes mean no command; a piece is moved; sectors of a trim are cleared
   Fetch : (port slot : ℕ) (meaning : Meaning) (places : List ℕ) → DeviceTransition
-  FetchFault : (port slot : ℕ) (queued : Bool) (busy_bits : ℕ) → DeviceTransition
+  FetchFault : (port slot : ℕ) (queued : Bool) (kept_bits : ℕ) → DeviceTransition
   Move : (port slot : ℕ) (t : FetchedCommand) (bytes : List ℕ) → DeviceTransition
   Clear : (port slot : ℕ) (t : FetchedCommand) (first count : ℕ) → DeviceTransition
   -- a taken command ends without error, or fails; the port meets a fatal error (27 IFS, 29 HBFS)
   Done : (port slot cause_bit : ℕ) (t : FetchedCommand) → DeviceTransition
-  Fault : (port slot error busy_bits : ℕ) (t : FetchedCommand) → DeviceTransition
+  Fault : (port slot error kept_bits : ℕ) (t : FetchedCommand) → DeviceTransition
   Fatal : (port place : ℕ) → DeviceTransition
   -- CR falls; FR falls; the link comes up
   Fall : (port : ℕ) → DeviceTransition
@@ -204,11 +204,11 @@ pub record IsFinished (t : FetchedCommand) : Type 0 where
   pub all_is_moved : t.moved ≡ length t.places
   pub all_is_cleared : t.meaning.operation ≡ Trim → t.cleared ≡ length (trim_sectors t.block)
 
-pub record MayBeDone (d : Device) (port slot flag : ℕ) (t : FetchedCommand) : Type 0 where
+pub record MayBeDone (d : Device) (port slot cause_bit : ℕ) (t : FetchedCommand) : Type 0 where
   pub works : WorksOn (d.port port) slot t t.meaning.operation
   pub finished : IsFinished t
   -- DHRS, PSS or SDBS
-  pub cause_is_allowed : (flag ≡ 0) ⊎ (flag ≡ 1) ⊎ (flag ≡ 3)
+  pub cause_is_allowed : (cause_bit ≡ 0) ⊎ (cause_bit ≡ 1) ⊎ (cause_bit ≡ 3)
 
 -- from the end of a flush on what the disk then holds is lasting (ACS-3, FLUSH CACHE EXT)
 abbrev pub lasting_after : Operation → DurableState → Disk → ℕ → DurableState
@@ -220,14 +220,14 @@ port_with_lasting_after_operation p operation here = record p {
   lasting = lasting_after operation p.lasting p.disk here;
 }
 
-abbrev pub port_after_done : DevicePort → ℕ → ℕ → Operation → DevicePort
-port_after_done p slot flag operation =
+abbrev pub port_after_done_except_lasting : DevicePort → ℕ → ℕ → Operation → DevicePort
+port_after_done_except_lasting p slot cause_bit operation =
     record p {
       taken = changed p.taken slot None;
       ci = if is_queued operation then p.ci else changed p.ci slot false;
       sact = if is_queued operation then changed p.sact slot false else p.sact;
       tfd = bit_and p.tfd 0xff7f;
-      is = changed p.is flag true;
+      is = changed p.is cause_bit true;
       halt = NotHalted;
     }
 
@@ -245,7 +245,7 @@ pub record MayLinkUp (p : DevicePort) (sig : ℕ) : Type 0 where
   pub present : p.present ≡ true
   pub no_comreset : p.sctl_det ≡ 0
   pub link_is_due : p.link_due ≡ true
-  pub sig_fits : sig < 2 ^ 32
+  pub sig_is_32_bit : sig < 2 ^ 32
 
 -- DET 3, and the disk's first FIS: its signature; BSY and DRQ clear. No step shows DET 1: the driver takes each value
 -- but 3 as no link.
@@ -328,8 +328,8 @@ pub record IsReplugOf (d : Device) (port : ℕ) (disk : Disk) : Type 0 where
       ⊎ WereHeldSinceFlush d.tape (d.port port).lasting port k (told k)
 
 -- what is lasting stays so where that disk comes back; of another one it is what it comes with
-abbrev pub lasting_after_plug : DurableState → (last disk : Disk) → ℕ → DurableState
-lasting_after_plug lasting last disk here =
+abbrev pub lasting_after_plug_or_replug : DurableState → (last disk : Disk) → ℕ → DurableState
+lasting_after_plug_or_replug lasting last disk here =
     if nat_eq disk.name last.name then lasting else record { sectors = disk.sectors; tape_length = here }
 
 -- ---- all steps: when each is possible
@@ -339,7 +339,7 @@ Can (Fetch port slot meaning places) d = MayFetch d port slot meaning places
 Can (FetchFault port slot queued kept_bits) d = MayFetchFault d port slot kept_bits
 Can (Move port slot t bytes) d = MayMove d port slot t bytes
 Can (Clear port slot t first count) d = MayClear d port slot t first count
-Can (Done port slot flag t) d = MayBeDone d port slot flag t
+Can (Done port slot cause_bit t) d = MayBeDone d port slot cause_bit t
 Can (Fault port slot error kept_bits t) d = MayFault (d.port port) slot error kept_bits t
 Can (Fatal port place) d = ((d.port port).cr ≡ true) × ((place ≡ 27) ⊎ (place ≡ 29))
 Can (Fall port) d = ((d.port port).st ≡ false) × ((d.port port).cr ≡ true)
@@ -405,10 +405,10 @@ device_after (Move port slot t bytes) d =
     }
 device_after (Clear port slot t first count) d =
     with_port_and_entry d port (port_after_clear (d.port port) slot t first count) (clear_entry port slot first count)
-device_after (Done port slot flag t) d =
+device_after (Done port slot cause_bit t) d =
     with_port_and_entry d port
-    (port_with_lasting_after_operation (port_after_done
-    (d.port port) slot flag t.meaning.operation) t.meaning.operation (length d.tape))
+    (port_with_lasting_after_operation (port_after_done_except_lasting
+    (d.port port) slot cause_bit t.meaning.operation) t.meaning.operation (length d.tape))
     (done_entry port slot t.meaning.operation)
 device_after (Fault port slot error kept_bits t) d =
     with_port_and_entry d port (port_after_fault (d.port port) (is_queued t.meaning.operation) error kept_bits)
@@ -427,7 +427,7 @@ device_after (Plug port disk) d =
     (record (d.port port) {
       disk = disk;
       plug_history = (d.port port).plug_history ++ disk ∷ [];
-      lasting = lasting_after_plug (d.port port).lasting (d.port port).disk disk (length d.tape);
+      lasting = lasting_after_plug_or_replug (d.port port).lasting (d.port port).disk disk (length d.tape);
       ssts_det = 3;
       present = true;
       fresh = false;

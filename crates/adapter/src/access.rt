@@ -1,6 +1,6 @@
 // The calls of an adapter, and of one whose device can be told what to do.
 ghost use Rattle.std.specs.Prelude.{ℕ, ◌+◌, ◌≡◌, length, true, false};
-ghost use Rattle.adapter.specs.{Device.{Device}, AskedSteps.{DoesOrFailsStep}, Idle.{DisksAreKnownIfTelling}, Steps.{Steps}, Access.{Reads, Writes, Loads, Stores}, Rules.{MayRead, MayWrite, IsUnowned, IsStable}};
+ghost use Rattle.adapter.specs.{Device.{Device}, AskedSteps.{DoesOrFailsStep}, Idle.{DisksAreKnownIfTelling}, Steps.{Steps}, Access.{Reads, Writes, Loads, Stores}, Rules.{MayRead, MayWrite, IsInMemoryNotOwnedByDevice, IsStable}};
 
 use ata_types::{Port, Slot};
 use hba_regs::Reg;
@@ -30,13 +30,13 @@ pub trait Adapter {
 
     /// Copies bytes of memory, from an address on.
     fn load(&mut self, addr: u32, out: &mut [u8])
-        requires { IsStable (IsUnowned addr (length out.old)) (device self.old) }
+        requires { IsStable (IsInMemoryNotOwnedByDevice addr (length out.old)) (device self.old) }
         ensures does { Loads addr out.new (device self.old) (device self.new) }
         ensures counted { access_count self.new ≡ access_count self.old + 1 };
 
     /// Puts bytes into memory, from an address on.
     fn store(&mut self, addr: u32, bytes: &[u8])
-        requires { IsStable (IsUnowned addr (length bytes.now)) (device self.old) }
+        requires { IsStable (IsInMemoryNotOwnedByDevice addr (length bytes.now)) (device self.old) }
         ensures does { Stores addr bytes.now (device self.old) (device self.new) }
         ensures counted { access_count self.new ≡ access_count self.old + 1 };
 

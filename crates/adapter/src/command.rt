@@ -1,4 +1,6 @@
 // Commands, and the words that header, FIS and PRDs have for them.
+ghost use Rattle.std.specs.Prelude.{◌≡◌, ◌↔◌, IsTrue};
+ghost use Rattle.adapter.specs.Commands.{direction_of, is_queued, is_ranged, piece_count, reads_memory, sends_page};
 
 /// What a command asks of the disk: the commands of ACS-3 and Serial ATA that this driver knows.
 #[derive(Clone, Copy, Debug, PartialEq, Eq)]
@@ -19,6 +21,77 @@ pub enum Operation {
     Trim,
     /// READ LOG EXT of log 10h, page 0.
     ReadLog,
+}
+
+impl Operation {
+    /// Whether it is one of several in flight.
+    #[inline]
+    pub fn is_queued(self) -> bool
+        ensures { result ≡ is_queued self }
+    {
+        matches!(self, Operation::ReadQueued | Operation::WriteQueued)
+    }
+
+    /// Whether it names the sectors that it moves.
+    #[inline]
+    pub fn is_ranged(self) -> bool
+        ensures { result ≡ is_ranged self }
+    {
+        matches!(
+            self,
+            Operation::Read | Operation::Write | Operation::ReadQueued | Operation::WriteQueued
+        )
+    }
+
+    /// Whether its device reads memory: the W bit of the header (AHCI 1.3.1, 4.2.2).
+    #[inline]
+    pub fn reads_memory(self) -> bool
+        ensures { result ≡ reads_memory self }
+    {
+        matches!(
+            self,
+            Operation::Write | Operation::WriteQueued | Operation::Trim
+        )
+    }
+
+    /// Whether it sends a page to the driver itself.
+    #[inline]
+    pub fn sends_page(self) -> bool
+        ensures { result ≡ sends_page self }
+    {
+        matches!(self, Operation::Identify | Operation::ReadLog)
+    }
+
+    /// Whether it clears the sectors of a block that it moves.
+    #[inline]
+    pub fn is_trim(self) -> bool
+        ensures { IsTrue result ↔ (self ≡ Operation.Trim) }
+    {
+        matches!(self, Operation::Trim)
+    }
+
+    /// How many pieces of 512 bytes it moves, for so many sectors.
+    #[inline]
+    pub fn pieces(self, count: u32) -> u32
+        ensures { result ≡ piece_count self count }
+    {
+        match self {
+            Operation::Flush => 0,
+            Operation::Identify | Operation::Trim | Operation::ReadLog => 1,
+            _ => count,
+        }
+    }
+
+    /// Where the bytes of its moves go.
+    #[inline]
+    pub fn direction(self) -> Direction
+        ensures { result ≡ direction_of self }
+    {
+        match self {
+            Operation::Trim | Operation::Write | Operation::WriteQueued => Direction::FromMemory,
+            _ => Direction::ToMemory,
+        }
+    }
 }
 
 /// The fields of a Register FIS from host to device (Serial ATA; AHCI 1.3.1, 4.2.3.1).

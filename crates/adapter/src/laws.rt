@@ -2,9 +2,9 @@
 ghost use Rattle.std.specs.Prelude.{◌<◌, ◌≡◌, ◌+◌, ◌*◌, ◌≤◌, ◌++◌, ℕ, Some, Bool, true, false, List, All, Contains, if◌then◌else◌, is_some, length, slice_index};
 ghost use Rattle.ata_types.specs.{declared.Port.{Port}, declared.memory.TheConstants.{FRAME_BYTES, HEADER_BYTES, RECEIVED_FIS_BYTES}};
 ghost use Rattle.hba_regs.specs.{declared.reg.PortReg.{PortReg}, declared.reg.Reg.{Reg}, declared.reg.Reg.TheVariants.{Px}, Bits.{bit}};
-ghost use Rattle.adapter.specs.{declared.access.DeviceStep.{DeviceStep}, Access.{Access, ShowsPendingUnlessUnnamedCause, Does, DoesAll, IsDriven, Reads, Writes, is_named_cause, is_pending, named_causes_mask, raises_interrupt, shown_interrupt, device_after_write}, AskedSteps.{DoesOrFailsStep, IsScribbled, memory_filled}, Commands.{Meaning}, Device.{Device, DevicePort}, FirstRead.{first_read_device, first_disk_sector}};
+ghost use Rattle.adapter.specs.{declared.access.DeviceStep.{DeviceStep}, Access.{Access, ShowsPendingAndPerhapsUnnamedCause, Does, DoesAll, IsDriven, Reads, Writes, is_named_cause, is_ips_set, named_causes_mask, raises_interrupt, shown_interrupt, device_after_write}, AskedSteps.{DoesOrFailsStep, IsScribbled, memory_filled_if_all_inside}, Commands.{Meaning}, Device.{Device, DevicePort}, FirstRead.{first_read_device, first_disk_sector}};
 ghost use Rattle.adapter.specs.{Guarded.{PassesTest, MissesRange, IsGuarded, IsKeptOutsideTables}, Idle.{IsIdle, HoldsBytesAndTellsDisks}, KeptBySteps.{KeepsOverSteps, KeepsControlsFlagsRise}, Memory.{bytes_at, patched}, OneCommand.{NoneHasCommand, HasOneCommand, IsOutsideCommand, is_read_only, is_not_device_writable, layout_of}, ReadDone.{IsReadDone, IsReadThatCanComplete, read_of}};
-ghost use Rattle.adapter.specs.{PendingInterrupts.{LeavesIe, KeepsIsBit, SetsCause, EnablesNamedCauses, interrupting_port, flush_cause_cleared, flushed, flushing, flush_taken}, Rules.{HasPort, IsOn, IsUnowned, IsStable}, Decoding.{DecodesTo, piece_addresses}, RegisterEffects.{PortRegisterWritten, PortRegisterRead}, Steps.{Can, DeviceTransition, Steps, device_after}, declared.tape.Entry.{Entry}};
+ghost use Rattle.adapter.specs.{PendingInterrupts.{LeavesIe, KeepsIsBit, SetsCause, EnablesNamedCauses, interrupting_port, flush_cause_cleared, flushed, flushing, flush_taken}, Rules.{HasPort, IsOn, IsInMemoryNotOwnedByDevice, IsStable}, Decoding.{DecodesTo, piece_addresses}, RegisterEffects.{PortRegisterWritten, PortRegisterRead}, Steps.{Can, DeviceTransition, Steps, device_after}, declared.tape.Entry.{Entry}};
 ghost use Rattle.hba_regs.specs.declared.reg.Reg.TheVariants as adapter;
 
 /// The device may do nothing, and what it does goes on.
@@ -36,10 +36,11 @@ pub fn law_memory_reads_back()
 /// A scribble fills the received FIS area, and then PRDBC of one slot after another whose command is taken.
 pub fn law_scribble_slot_by_slot()
     ensures received_fis_area { (size byte : ℕ) (p : DevicePort) (old : ℕ → ℕ)
-        → IsScribbled 0 size byte p old (memory_filled size p.bases.fb RECEIVED_FIS_BYTES byte old) }
+        → IsScribbled 0 size byte p old (memory_filled_if_all_inside size p.bases.fb RECEIVED_FIS_BYTES byte old) }
     ensures prdbc_of_slot { (slot size byte : ℕ) (p : DevicePort) (old before new : ℕ → ℕ)
         → IsScribbled slot size byte p old before
-        → new ≡ (if is_some (p.taken slot) then memory_filled size (p.bases.clb + HEADER_BYTES * slot + 4) 4 byte before
+        → new ≡ (if is_some (p.taken slot) then memory_filled_if_all_inside size
+        (p.bases.clb + HEADER_BYTES * slot + 4) 4 byte before
         else before)
         → IsScribbled (slot + 1) size byte p old new }
 {}
@@ -50,7 +51,7 @@ pub fn law_step_lists_keep_what_steps_keep()
 {}
 
 /// By itself the device doesn't switch an adapter on that isn't: as its reset ends, AE falls.
-pub fn law_steps_never_switch_on()
+pub fn law_steps_never_switch_adapter_on()
     ensures { (old new : Device) → Steps old new → IsOn new → IsOn old }
 {}
 
@@ -68,9 +69,10 @@ pub fn law_kept_bytes_stay()
 {}
 
 /// Kept bytes that belong to no table and no header in use may be loaded and stored, whatever the device does first.
-pub fn law_kept_bytes_outside_tables_are_unowned()
+pub fn law_device_owns_no_kept_bytes_outside_tables()
     ensures { (tables kept : ℕ → Bool) (at n : ℕ) (d : Device) → IsGuarded (PassesTest tables) (PassesTest kept) d
-        → IsKeptOutsideTables (PassesTest tables) (PassesTest kept) at n d → IsStable (IsUnowned at n) d }
+        → IsKeptOutsideTables (PassesTest tables) (PassesTest kept) at n d
+        → IsStable (IsInMemoryNotOwnedByDevice at n) d }
 {}
 
 /// A reading of any register leaves kept bytes and guards as the device's steps do.
@@ -120,24 +122,24 @@ pub fn law_an_enabled_cause_is_pending()
         → is_named_cause place ≡ true }
     ensures cause_shown_is_pending { (p : DevicePort) (place : ℕ) → is_named_cause place ≡ true
         → shown_interrupt p place ≡ true
-        → bit p.ie place ≡ true → is_pending p ≡ true }
+        → bit p.ie place ≡ true → is_ips_set p ≡ true }
     ensures cause_raised_is_pending { (step : DeviceTransition) (port place : ℕ) (d : Device) → Can step d
         → SetsCause step port place
-        → bit (d.port port).ie place ≡ true → is_pending ((device_after step d).port port) ≡ true }
+        → bit (d.port port).ie place ≡ true → is_ips_set ((device_after step d).port port) ≡ true }
 {}
 
 /// What is pending stays so, whatever the device and the driver do, until the port's bit of IS is written or the
 /// adapter is reset: until then each reading of IS shows the bit. Once it is written, only what PxIS shows is pending.
 pub fn law_a_pending_interrupt_stays()
     ensures steps { (port : ℕ) (old new : Device) → Steps old new → old.hr ≡ false
-        → is_pending (old.port port) ≡ true → is_pending (new.port port) ≡ true }
+        → is_ips_set (old.port port) ≡ true → is_ips_set (new.port port) ≡ true }
     ensures accesses { (port : ℕ) (accesses : List Access) (old new : Device) → DoesAll accesses old new
         → All (KeepsIsBit port) accesses → old.hr ≡ false
-        → is_pending (old.port port) ≡ true → is_pending (new.port port) ≡ true }
+        → is_ips_set (old.port port) ≡ true → is_ips_set (new.port port) ≡ true }
     ensures is_reading_shows_pending { (port v : ℕ) (old new : Device) → Reads adapter.Is v old new → HasPort new port
-        → ShowsPendingUnlessUnnamedCause (bit v port) (new.port port) }
+        → ShowsPendingAndPerhapsUnnamedCause (bit v port) (new.port port) }
     ensures is_write_leaves_raised { (port v : ℕ) (old new : Device) → Writes adapter.Is v old new → bit v port ≡ true
-        → is_pending (new.port port) ≡ raises_interrupt (new.port port) }
+        → is_ips_set (new.port port) ≡ raises_interrupt (new.port port) }
 {}
 
 /// Where PxIE enables each named cause, what the tape tells of leaves the port's interrupt pending: a command that
@@ -148,20 +150,20 @@ pub fn law_what_the_tape_tells_is_pending()
         (old new : Device) → interrupting_port e ≡ Some port → DoesAll accesses old new → All (KeepsIsBit port) accesses
         → All (LeavesIe port) accesses → old.hr ≡ false → EnablesNamedCauses (old.port port)
         → new.tape ≡ old.tape ++ gained → Contains gained e
-        → is_pending (new.port port) ≡ true }
+        → is_ips_set (new.port port) ≡ true }
 {}
 
 /// There is an interrupt that comes and goes, so that the laws above speak of something: a flush may end on a port
 /// that tells of all causes; then its bit of IS stays while PxIS shows the cause, though it is written, and also once
 /// PxIS was cleared; then a write of the bit clears it.
 pub fn law_an_interrupt_comes_and_goes()
-    ensures none_is_pending { is_pending (flushing.port 0) ≡ false }
+    ensures none_is_pending { is_ips_set (flushing.port 0) ≡ false }
     ensures causes_are_enabled { (flushing.hr ≡ false) × EnablesNamedCauses (flushing.port 0) }
     ensures flush_may_end { Can (DeviceTransition.Done 0 0 0 flush_taken) flushing }
-    ensures end_is_pending { is_pending (flushed.port 0) ≡ true }
-    ensures stays_while_cause_shows { is_pending ((device_after_write adapter.Is 1 flushed).port 0) ≡ true }
-    ensures stays_without_cause { is_pending (flush_cause_cleared.port 0) ≡ true }
-    ensures goes_by_is_write { is_pending ((device_after_write adapter.Is 1 flush_cause_cleared).port 0) ≡ false }
+    ensures end_is_pending { is_ips_set (flushed.port 0) ≡ true }
+    ensures stays_while_cause_shows { is_ips_set ((device_after_write adapter.Is 1 flushed).port 0) ≡ true }
+    ensures stays_without_cause { is_ips_set (flush_cause_cleared.port 0) ≡ true }
+    ensures goes_by_is_write { is_ips_set ((device_after_write adapter.Is 1 flush_cause_cleared).port 0) ≡ false }
 {}
 
 /// Where no slot has a command, any bytes that are not of a received FIS area in use are guarded, and no table is
@@ -178,8 +180,8 @@ pub fn law_an_adapter_without_commands_is_guarded()
 pub fn law_an_idle_adapter_is_guarded()
     ensures guarded { (kept : ℕ → Bool) (d : Device) → IsIdle d
         → IsGuarded (PassesTest (λ _. false)) (PassesTest kept) d }
-    ensures bytes_are_unowned { (at n : ℕ) (d : Device) → IsIdle d → at + n ≤ d.memory_size
-        → IsStable (IsUnowned at n) d }
+    ensures device_owns_no_bytes { (at n : ℕ) (d : Device) → IsIdle d → at + n ≤ d.memory_size
+        → IsStable (IsInMemoryNotOwnedByDevice at n) d }
 {}
 
 /// An adapter with one command is guarded: what the device only reads for it are the tables, and what it doesn't write
@@ -188,8 +190,8 @@ pub fn law_an_adapter_with_a_command_is_guarded()
     ensures guarded { (port slot : ℕ) (d : Device) (c : HasOneCommand d port slot)
         → IsGuarded (PassesTest (is_read_only (layout_of d port slot c.command)))
         (PassesTest (is_not_device_writable (layout_of d port slot c.command))) d }
-    ensures bytes_are_unowned { (port slot at n : ℕ) (d : Device) (c : HasOneCommand d port slot)
-        → IsOutsideCommand (layout_of d port slot c.command) at n d → IsStable (IsUnowned at n) d }
+    ensures device_owns_no_bytes { (port slot at n : ℕ) (d : Device) (c : HasOneCommand d port slot)
+        → IsOutsideCommand (layout_of d port slot c.command) at n d → IsStable (IsInMemoryNotOwnedByDevice at n) d }
 {}
 
 /// A read that may be fetched can be done, on a disk that tells its sectors: some steps of its slot's command lead to
@@ -208,7 +210,7 @@ pub fn law_a_first_read_exists()
     ensures holds_bytes { HoldsBytesAndTellsDisks first_read_device }
     ensures command { HasOneCommand first_read_device 0 0 }
     ensures says { DecodesTo first_read_device.memory 0 0 (read_of 100 8) (piece_addresses 0x64000 8) }
-    ensures frame_is_free { IsStable (IsUnowned 0x65000 FRAME_BYTES) first_read_device }
+    ensures frame_is_free { IsStable (IsInMemoryNotOwnedByDevice 0x65000 FRAME_BYTES) first_read_device }
     ensures read_can_be_done { (new : Device) × IsReadDone first_read_device new 0 0 100 8 (piece_addresses 0x64000 8)
         first_disk_sector }
 {}

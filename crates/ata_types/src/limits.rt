@@ -18,8 +18,11 @@ pub const MOST_REQUEST_SECTORS: u32 = 1024;
 /// Frames of the longest read or write, eight sectors to each.
 pub const MOST_REQUEST_FRAMES: usize = 128;
 
-/// Unanswered requests of all clients together: 16 of each of eight.
-pub const MOST_UNANSWERED: usize = 128;
+/// Unanswered requests of one client.
+pub const MOST_UNANSWERED_OF_A_CLIENT: usize = 16;
+
+/// Unanswered requests of all clients together: so many of each of eight.
+pub const MOST_UNANSWERED_OF_ALL_CLIENTS: usize = 128;
 
 /// Bytes that one call stores into a frame, or loads from it.
 pub const MOST_CALL_BYTES: usize = 64;

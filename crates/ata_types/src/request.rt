@@ -1,6 +1,6 @@
 // What clients ask, and what they are told.
 use crate::Sector;
-use crate::limits::{MOST_REQUEST_FRAMES, MOST_UNANSWERED};
+use crate::limits::{MOST_REQUEST_FRAMES, MOST_UNANSWERED_OF_ALL_CLIENTS};
 use arrayvec::ArrayVec;
 
 /// A client of the server: 1 to 8.
@@ -72,4 +72,4 @@ pub struct Reply {
 }
 
 /// The answers of one call. There are never more unanswered requests than it has places.
-pub type Replies = ArrayVec<Reply, MOST_UNANSWERED>;
+pub type Replies = ArrayVec<Reply, MOST_UNANSWERED_OF_ALL_CLIENTS>;

@@ -13,7 +13,7 @@ use Rattle.ata_types.specs.declared.grant.Rights.{Rights}
 use Rattle.ata_types.specs.SectorGrants.{AllowsOp}
 use Rattle.block_machine.specs.Rules.{IsNamed, IsAllowedCount, frame_count_for}
 use Rattle.block_machine.specs.State.{Block, Accepted, Pending, Machine}
-use Rattle.block_machine.specs.Steps.{Step, Accept, Touch, IsEnabled, MayAccept, HoldsFrames, after_step}
+use Rattle.block_machine.specs.Steps.{Step, Accept, Touch, IsEnabled, MayAccept, IsInBookOrKept, after_step}
 use Rattle.block_machine.specs.Expected.{after, IsLegal, IsInitial, IsAccept}
 use Rattle.block_machine.specs.Confinement.{IsGranted, IsConfined, WasAccepted, MovesBytes}
 use Rattle.block_machine.proofs.Members.{contains_none, contains_here, contains_there, contains_cases}
@@ -21,7 +21,7 @@ use Rattle.block_machine.proofs.Trace.{Before, Comes, lives_before, next_grows, 
 use Rattle.block_machine.proofs.Runs.{traced, nobody}
 
 -- each request that lives was accepted
-pub living_accepted : (start : Machine) (h : List Step) → IsInitial start → IsLegal start h → (e : Pending) → HoldsFrames (after start h) e → WasAccepted start h e.request
+pub living_accepted : (start : Machine) (h : List Step) → IsInitial start → IsLegal start h → (e : Pending) → IsInBookOrKept (after start h) e → WasAccepted start h e.request
 living_accepted start [] s legal e l = absurd (nobody start s e l)
 living_accepted start (step ∷ past) s legal e l = ⊎_elim
     (λ (r : Before (after start past) e). inr (subst (λ (j : Accepted). WasAccepted start past j) (sym r.2) (living_accepted start past s legal.0 r.0 r.1)))

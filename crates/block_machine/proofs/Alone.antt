@@ -9,7 +9,7 @@ use Rattle.ata_types.specs.declared.request.Op.{Op}
 use Rattle.ata_types.specs.declared.request.Op.TheVariants.{Read, Write, Trim, Flush}
 use Rattle.block_machine.specs.declared.due.QueueMode.{QueueMode}
 use Rattle.block_machine.specs.declared.due.Unanswered.{Unanswered}
-use Rattle.block_machine.specs.DueRequests.{IsInOrder, waits_for, is_plain, is_unblocked, due_of}
+use Rattle.block_machine.specs.DueRequests.{IsInOrder, waits_for, is_plain, is_waiting_and_unblocked, due_of}
 use Rattle.block_machine.proofs.Order.{In, Ordered, in_from, from_in, ordered_from}
 use Rattle.block_machine.proofs.Counting.{count_cons, count_none, unheld}
 use Rattle.block_machine.proofs.Keeps.{same_port}
@@ -52,7 +52,7 @@ module _ (mode : QueueMode) (unqueued : mode.queued ≡ false) (port : Port) (bo
   kept_waiting : (r o : Unanswered) → Contains book r → r.port ≡ port → (r.issued || nat_lt r.id.0 o.id.0) ≡ true → due_test mode port book o ≡ false
   kept_waiting r o h own first = false_from_ne_true _ (λ due.
       let mine = and_parts (o.port.0 == port.0) _ due in
-      let clear = and_parts (is_unblocked mode book o) _ mine.1 in
+      let clear = and_parts (is_waiting_and_unblocked mode book o) _ mine.1 in
       let same : (r.port.0 == o.port.0) ≡ true = eq-eqb r.port.0 o.port.0 (ap (λ (p : Port). p.0) (own ∙ sym (same_port o.port port (eqb-true o.port.0 port.0 mine.0)))) in
       let held : waits_for mode o r ≡ true = and_from _ _ same (cond-true (is_plain mode o.op) _ _ (plain o.op) ∙ first) in
       both_ways _ (unheld mode book o clear.0 r h) held)
@@ -79,7 +79,7 @@ module _ (mode : QueueMode) (unqueued : mode.queued ≡ false) (port : Port) (bo
           let blocks : (o.issued || nat_lt o.id.0 r.id.0) ≡ true = sym (cond-true (is_plain mode r.op) _ _ (plain r.op)) ∙ mine.1 in
           both_ways _ (le-ltb o.id.0 r.id.0 its.1) (sym (ap (λ (b : Bool). b || nat_lt o.id.0 r.id.0) its.0) ∙ blocks))
 
-      clear : is_unblocked mode book r ≡ true
+      clear : is_waiting_and_unblocked mode book r ≡ true
       clear = and_from _ _ (not_from_false r.issued (first r h own).0) (not_from_false _ (any_none (waits_for mode r) book free))
 
       goes : due_test mode port book r ≡ true

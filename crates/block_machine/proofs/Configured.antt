@@ -6,7 +6,7 @@ use Rattle.std.specs.List.{AllPairs, Contains}
 use Rattle.ata_types.specs.declared.request.ClientId.{ClientId}
 use Rattle.ata_types.specs.declared.request.Frame.{Frame}
 use Rattle.ata_types.specs.declared.grant.GrantRow.{GrantRow}
-use Rattle.ata_types.specs.declared.limits.TheConstants.{MOST_UNANSWERED}
+use Rattle.ata_types.specs.declared.limits.TheConstants.{MOST_UNANSWERED_OF_ALL_CLIENTS, MOST_UNANSWERED_OF_A_CLIENT}
 use Rattle.block_machine.specs.Histories.{IsReachable}
 use Rattle.block_machine.specs.State.{Accepted, Pending, Machine}
 use Rattle.block_machine.specs.Rules.{DifferInName, is_same_grant_name}
@@ -110,7 +110,7 @@ total_all (x ∷ xs) n c =
     let more = total_more x xs n own.0 own.1 in
     omega (arith, rest, more)
 
-total_most : (es : List Pending) (n : ℕ) → ((c : ClientId) → unanswered_count es c ≤ 16) → total es n ≤ 16 * n
+total_most : (es : List Pending) (n : ℕ) → ((c : ClientId) → unanswered_count es c ≤ MOST_UNANSWERED_OF_A_CLIENT) → total es n ≤ 16 * n
 total_most es zero few = le_refl 0
 total_most es (suc n) few =
     let rest = total_most es n few in
@@ -118,7 +118,7 @@ total_most es (suc n) few =
     omega (arith, rest, own)
 
 -- 16 of each of 8 clients
-pub all_few : (start : Machine) (h : List Step) → IsInitial start → IsLegal start h → ((c : ClientId) → unanswered_count (after start h).book c ≤ 16) → length (after start h).book ≤ MOST_UNANSWERED
+pub all_few : (start : Machine) (h : List Step) → IsInitial start → IsLegal start h → ((c : ClientId) → unanswered_count (after start h).book c ≤ MOST_UNANSWERED_OF_A_CLIENT) → length (after start h).book ≤ MOST_UNANSWERED_OF_ALL_CLIENTS
 all_few start h s legal few =
     let all = total_all (after start h).book 8 (λ e i. accepted_client start h e.request s (living_accepted start h s legal e (inl i))) in
     let most = total_most (after start h).book 8 few in

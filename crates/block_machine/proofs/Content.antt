@@ -3,8 +3,8 @@ use Rattle.std.proofs.Common.{◌≡◌, ℕ, ◌+◌, ◌-◌, ◌<◌, ◌≤�
 use Rattle.std.proofs.lemmas.Bool.{cases_eq, cases_lt, or_left, and_parts, and_from, cond-true, cond-false, both_ways}
 use Rattle.ata_types.specs.declared.Port.{Port}
 use Rattle.block_machine.specs.State.{Block, DiskBytes, Accepted, Pending, Machine, newly_unanswered, sector_of, block_written}
-use Rattle.block_machine.specs.DueRequests.{are_conflicting, changes_sectors}
-use Rattle.block_machine.specs.Steps.{Step, Accept, Issue, Touch, End, Age, WaitAgain, Answer, Revoke, Release, Unplug, Replace, Store, Load, IsEnabled, after_step, MayStillMove, put_sector, disks_after_touch}
+use Rattle.block_machine.specs.DueRequests.{conflict_by_flush_or_overlap, changes_sectors}
+use Rattle.block_machine.specs.Steps.{Step, Accept, Issue, Touch, End, Age, WaitAgain, Answer, Revoke, Release, Unplug, PlugDisk, Store, Load, IsEnabled, after_step, MayStillMove, put_sector, disks_after_touch}
 use Rattle.block_machine.specs.Expected.{plug_count, bytes_when_plugged, IsTouch, HasTouched, ChangedSector, IsLastWrittenOrPluggedIn}
 use Rattle.block_machine.proofs.Sound.{Sound}
 use Rattle.block_machine.proofs.Keeps.{same_port}
@@ -32,36 +32,36 @@ content_quiet start h m step port k limit seen untouched number le last =
 
 content_replace : (start : Machine) (h : List Step) (m : Machine) (at : Port) (id size : ℕ) (disk : DiskBytes) (port : Port) (k : ℕ) → AllSeen m h
     → IsLastWrittenOrPluggedIn start port k (plug_count port h) m.next_id h (m.disk_bytes port k)
-    → IsLastWrittenOrPluggedIn start port k (plug_count port (Replace at id size disk ∷ h)) m.next_id (Replace at id size disk ∷ h) ((after_step m (Replace at id size disk)).disk_bytes port k)
+    → IsLastWrittenOrPluggedIn start port k (plug_count port (PlugDisk at id size disk ∷ h)) m.next_id (PlugDisk at id size disk ∷ h) ((after_step m (PlugDisk at id size disk)).disk_bytes port k)
 content_replace start h m at id size disk port k seen last = ⊎_elim same other (cases_eq at.0 port.0)
   where
-    same : at.0 ≡ port.0 → IsLastWrittenOrPluggedIn start port k (plug_count port (Replace at id size disk ∷ h)) m.next_id (Replace at id size disk ∷ h) ((after_step m (Replace at id size disk)).disk_bytes port k)
+    same : at.0 ≡ port.0 → IsLastWrittenOrPluggedIn start port k (plug_count port (PlugDisk at id size disk ∷ h)) m.next_id (PlugDisk at id size disk ∷ h) ((after_step m (PlugDisk at id size disk)).disk_bytes port k)
     same e =
         let t : (at.0 == port.0) ≡ true = eq-eqb at.0 port.0 e in
         let t' : (port.0 == at.0) ≡ true = eq-eqb port.0 at.0 (sym e) in
-        let number : plug_count port (Replace at id size disk ∷ h) ≡ suc (plug_count port h) = cond-true (at.0 == port.0) (suc (plug_count port h)) (plug_count port h) t in
-        let now : (after_step m (Replace at id size disk)).disk_bytes port ≡ disk = cond-true (port.0 == at.0) disk (m.disk_bytes port) t' in
-        let put : bytes_when_plugged start port (plug_count port (Replace at id size disk ∷ h)) (Replace at id size disk ∷ h) ≡ disk =
-        cond-true ((at.0 == port.0) && suc (plug_count port h) == plug_count port (Replace at id size disk ∷ h)) disk (bytes_when_plugged start port (plug_count port (Replace at id size disk ∷ h)) h)
-        (and_from _ _ t (eq-eqb (suc (plug_count port h)) (plug_count port (Replace at id size disk ∷ h)) (sym number))) in
+        let number : plug_count port (PlugDisk at id size disk ∷ h) ≡ suc (plug_count port h) = cond-true (at.0 == port.0) (suc (plug_count port h)) (plug_count port h) t in
+        let now : (after_step m (PlugDisk at id size disk)).disk_bytes port ≡ disk = cond-true (port.0 == at.0) disk (m.disk_bytes port) t' in
+        let put : bytes_when_plugged start port (plug_count port (PlugDisk at id size disk ∷ h)) (PlugDisk at id size disk ∷ h) ≡ disk =
+        cond-true ((at.0 == port.0) && suc (plug_count port h) == plug_count port (PlugDisk at id size disk ∷ h)) disk (bytes_when_plugged start port (plug_count port (PlugDisk at id size disk ∷ h)) h)
+        (and_from _ _ t (eq-eqb (suc (plug_count port h)) (plug_count port (PlugDisk at id size disk ∷ h)) (sym number))) in
         inr (
-          λ w o. ⊎_elim (λ (x : ⊥ × (plug_count w.port h ≡ plug_count port (Replace at id size disk ∷ h))). x.0)
-              (λ (x : HasTouched w k (plug_count port (Replace at id size disk ∷ h)) h).
-              let b = touched_number w k (plug_count port (Replace at id size disk ∷ h)) h x in
+          λ w o. ⊎_elim (λ (x : ⊥ × (plug_count w.port h ≡ plug_count port (PlugDisk at id size disk ∷ h))). x.0)
+              (λ (x : HasTouched w k (plug_count port (PlugDisk at id size disk ∷ h)) h).
+              let b = touched_number w k (plug_count port (PlugDisk at id size disk ∷ h)) h x in
               let p : plug_count w.port h ≡ plug_count port h = ap (λ (q : Port). plug_count q h) o.port_is in
               let f : ⊥ = omega (arith, b, p, number) in f)
               o.touched,
           ap (λ (d : DiskBytes). d k) (now ∙ sym put),
         )
 
-    other : (at.0 ≡ port.0 → ⊥) → IsLastWrittenOrPluggedIn start port k (plug_count port (Replace at id size disk ∷ h)) m.next_id (Replace at id size disk ∷ h) ((after_step m (Replace at id size disk)).disk_bytes port k)
+    other : (at.0 ≡ port.0 → ⊥) → IsLastWrittenOrPluggedIn start port k (plug_count port (PlugDisk at id size disk ∷ h)) m.next_id (PlugDisk at id size disk ∷ h) ((after_step m (PlugDisk at id size disk)).disk_bytes port k)
     other ne =
         let f : (at.0 == port.0) ≡ false = ne_eqb at.0 port.0 ne in
         let f' : (port.0 == at.0) ≡ false = ne_eqb port.0 at.0 (λ e. ne (sym e)) in
-        let number : plug_count port (Replace at id size disk ∷ h) ≡ plug_count port h = cond-false (at.0 == port.0) (suc (plug_count port h)) (plug_count port h) f in
-        let now : (after_step m (Replace at id size disk)).disk_bytes port ≡ m.disk_bytes port = cond-false (port.0 == at.0) disk (m.disk_bytes port) f' in
-        subst (λ (d : DiskBytes). IsLastWrittenOrPluggedIn start port k (plug_count port (Replace at id size disk ∷ h)) m.next_id (Replace at id size disk ∷ h) (d k)) (sym now)
-        (content_quiet start h m (Replace at id size disk) port k m.next_id seen (λ w t. t) number (le_refl _) last)
+        let number : plug_count port (PlugDisk at id size disk ∷ h) ≡ plug_count port h = cond-false (at.0 == port.0) (suc (plug_count port h)) (plug_count port h) f in
+        let now : (after_step m (PlugDisk at id size disk)).disk_bytes port ≡ m.disk_bytes port = cond-false (port.0 == at.0) disk (m.disk_bytes port) f' in
+        subst (λ (d : DiskBytes). IsLastWrittenOrPluggedIn start port k (plug_count port (PlugDisk at id size disk ∷ h)) m.next_id (PlugDisk at id size disk ∷ h) (d k)) (sym now)
+        (content_quiet start h m (PlugDisk at id size disk) port k m.next_id seen (λ w t. t) number (le_refl _) last)
 
 content_touch : (start : Machine) (h : List Step) (m : Machine) (e : Pending) (i : ℕ) (block : Block) (port : Port) (k : ℕ) → Sound m → AllSeen m h → MayStillMove m e → i < e.request.asked.count
     → IsLastWrittenOrPluggedIn start port k (plug_count port h) m.next_id h (m.disk_bytes port k)
@@ -84,7 +84,7 @@ content_touch start h m e i block port k s seen r lt last = by_op (changes_secto
         (λ (t : HasTouched w k (plug_count port h) h). ⊎_elim
         (λ (less : e.request.id.0 < w.id.0).
         let q = seen w k (plug_count port h) t in
-        let con : are_conflicting (newly_unanswered e.request) (newly_unanswered w) ≡ true = conflict_at e.request w k (here ∙ sym o.port_is) (or_left _ _ writes) (omega (arith, at)) (omega (arith, at, lt)) q.from q.to in
+        let con : conflict_by_flush_or_overlap (newly_unanswered e.request) (newly_unanswered w) ≡ true = conflict_at e.request w k (here ∙ sym o.port_is) (or_left _ _ writes) (omega (arith, at)) (omega (arith, at, lt)) q.from q.to in
         absurd (q.order e (runs_lives m e r) less con))
         (λ (le : w.id.0 ≤ e.request.id.0). le)
         (cases_lt e.request.id.0 w.id.0))
@@ -133,6 +133,6 @@ content_step start h m (Answer e outcome) may s seen c port k = content_quiet st
 content_step start h m (Revoke client number) may s seen c port k = content_quiet start h m (Revoke client number) port k m.next_id seen (λ w t. t) refl (le_refl _) (c port k)
 content_step start h m Release may s seen c port k = content_quiet start h m Release port k m.next_id seen (λ w t. t) refl (le_refl _) (c port k)
 content_step start h m (Unplug at) may s seen c port k = content_quiet start h m (Unplug at) port k m.next_id seen (λ w t. t) refl (le_refl _) (c port k)
-content_step start h m (Replace at id size disk) may s seen c port k = content_replace start h m at id size disk port k seen (c port k)
+content_step start h m (PlugDisk at id size disk) may s seen c port k = content_replace start h m at id size disk port k seen (c port k)
 content_step start h m (Store client frame offset bytes) may s seen c port k = content_quiet start h m (Store client frame offset bytes) port k m.next_id seen (λ w t. t) refl (le_refl _) (c port k)
 content_step start h m (Load client frame offset bytes) may s seen c port k = content_quiet start h m (Load client frame offset bytes) port k m.next_id seen (λ w t. t) refl (le_refl _) (c port k)

@@ -5,7 +5,7 @@ use Rattle.std.specs.List.{count_by, Contains}
 use Rattle.std.proofs.lemmas.Bool.{and_parts, false≢true, not-true, both_ways}
 use Rattle.block_machine.specs.declared.due.QueueMode.{QueueMode}
 use Rattle.block_machine.specs.declared.due.Unanswered.{Unanswered}
-use Rattle.block_machine.specs.DueRequests.{waits_for, is_unblocked, IsDue}
+use Rattle.block_machine.specs.DueRequests.{waits_for, is_waiting_and_unblocked, IsDue}
 use Rattle.block_machine.proofs.Members.{none_of}
 use Rattle.block_machine.proofs.Order.{In}
 
@@ -52,7 +52,7 @@ count_least p q (y ∷ ys) more =
     head_of false b f = omega arith
 
 -- nothing stands in the way of one that is clear
-pub unheld : (mode : QueueMode) (book : List Unanswered) (r : Unanswered) → is_unblocked mode book r ≡ true → (o : Unanswered) → Contains book o → waits_for mode r o ≡ false
+pub unheld : (mode : QueueMode) (book : List Unanswered) (r : Unanswered) → is_waiting_and_unblocked mode book r ≡ true → (o : Unanswered) → Contains book o → waits_for mode r o ≡ false
 unheld mode book r clear o h = none_of (waits_for mode r) book o (not-true _ (and_parts _ _ clear).1) h
 
 -- the issued one is due no more

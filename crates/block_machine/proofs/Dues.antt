@@ -6,7 +6,7 @@ use Rattle.ata_types.specs.declared.Port.{Port}
 use Rattle.ata_types.specs.declared.request.RequestId.{RequestId}
 use Rattle.block_machine.specs.declared.due.QueueMode.{QueueMode}
 use Rattle.block_machine.specs.declared.due.Unanswered.{Unanswered}
-use Rattle.block_machine.specs.DueRequests.{IsDue, IsInOrder, are_conflicting, waits_for, is_plain, is_earlier_on_port, is_unblocked, unblocked_ahead_count, issued_count, free_slots, mark_issued, with_issued}
+use Rattle.block_machine.specs.DueRequests.{IsDue, IsInOrder, conflict_by_flush_or_overlap, waits_for, is_plain, is_earlier_on_port, is_waiting_and_unblocked, unblocked_ahead_count, issued_count, free_slots, mark_issued, with_issued}
 use Rattle.block_machine.proofs.Members.{into_map, some_in}
 use Rattle.block_machine.proofs.Order.{In, Ordered, in_from, from_in, ordered_from}
 use Rattle.block_machine.proofs.Counting.{count_cons, count_map, count_least, unheld}
@@ -72,7 +72,7 @@ holds_issued : (mode : QueueMode) (x o : Unanswered) → (o.port.0 == x.port.0) 
 holds_issued mode x o port now plain = and_from _ _ port (go (is_plain mode x.op) refl plain)
   where
     go : (b : Bool) → is_plain mode x.op ≡ b → (is_plain mode x.op ≡ true) ⊎ (is_plain mode o.op ≡ true)
-        → cond b (o.issued || ltb o.id.0 x.id.0) ((is_plain mode o.op && o.issued) || (ltb o.id.0 x.id.0 && (is_plain mode o.op || are_conflicting o x))) ≡ true
+        → cond b (o.issued || ltb o.id.0 x.id.0) ((is_plain mode o.op && o.issued) || (ltb o.id.0 x.id.0 && (is_plain mode o.op || conflict_by_flush_or_overlap o x))) ≡ true
     go true p h = or_left _ _ now
     go false p (inl q) = absurd (both_ways _ p q)
     go false p (inr q) = or_left _ _ (and_from _ _ q now)
@@ -82,7 +82,7 @@ holds_queued : (mode : QueueMode) (x o : Unanswered) → is_plain mode x.op ≡ 
 holds_queued mode x o px po =
     ap (λ (b : Bool). (o.port.0 == x.port.0) && b)
     (cond-false (is_plain mode x.op) _ _ px
-    ∙ ap (λ (b : Bool). b || (ltb o.id.0 x.id.0 && (is_plain mode o.op || are_conflicting o x))) (and_left _ true po ∙ sym (and_left _ o.issued po))
+    ∙ ap (λ (b : Bool). b || (ltb o.id.0 x.id.0 && (is_plain mode o.op || conflict_by_flush_or_overlap o x))) (and_left _ true po ∙ sym (and_left _ o.issued po))
     ∙ sym (cond-false (is_plain mode x.op) _ _ px))
 
 holds_elsewhere : (mode : QueueMode) (x o : Unanswered) → (o.port.0 == x.port.0) ≡ false → waits_for mode x (record o { issued = true }) ≡ waits_for mode x o
@@ -144,14 +144,14 @@ module _ (mode : QueueMode) (book : List Unanswered) (e : Unanswered) (order : O
       by_port true port = by_plain port _ _ refl refl
       by_port false port = alike (holds_elsewhere mode y e port)
 
-  clear_same : (y : Unanswered) → In y book → (y.id.0 ≡ e.id.0 → ⊥) → is_unblocked mode (with_issued e.id book) y ≡ is_unblocked mode book y
+  clear_same : (y : Unanswered) → In y book → (y.id.0 ≡ e.id.0 → ⊥) → is_waiting_and_unblocked mode (with_issued e.id book) y ≡ is_waiting_and_unblocked mode book y
   clear_same y h ne = ap (λ (b : Bool). not y.issued && not b) (held_same y h ne)
 
   -- the count of those ahead of x falls by one if e was ahead of it
   ahead_less : (x : Unanswered) → unblocked_ahead_count mode (with_issued e.id book) x + cond (is_earlier_on_port e x) 1 0 ≡ unblocked_ahead_count mode book x
   ahead_less x =
-      let new : Unanswered → Bool = λ y. is_earlier_on_port y x && is_unblocked mode (with_issued e.id book) y in
-      let old : Unanswered → Bool = λ y. is_earlier_on_port y x && is_unblocked mode book y in
+      let new : Unanswered → Bool = λ y. is_earlier_on_port y x && is_waiting_and_unblocked mode (with_issued e.id book) y in
+      let old : Unanswered → Bool = λ y. is_earlier_on_port y x && is_waiting_and_unblocked mode book y in
       let changed : unblocked_ahead_count mode (with_issued e.id book) x + cond (old e) 1 0 ≡ unblocked_ahead_count mode book x + cond (new (mark_issued e.id e)) 1 0
       = count_changed new old (mark_issued e.id) book e order here
       (λ y h ne. ap new (stays y ne) ∙ ap (λ (b : Bool). is_earlier_on_port y x && b) (clear_same y h ne)) in
@@ -185,13 +185,13 @@ module _ (mode : QueueMode) (book : List Unanswered) (e : Unanswered) (order : O
   later_none x le = ap (λ (b : Bool). cond {A = ℕ} b 1 0) (and_right _ _ (false_from_ne_true _ (λ t. let lt = ltb-true e.id.0 x.id.0 t in let f : ⊥ = omega (arith, lt, le) in f)))
 
   -- an earlier one of the port that is clear has fewer ahead of it
-  fewer_ahead : (x : Unanswered) → In x book → is_unblocked mode book x ≡ true → x.port ≡ e.port → x.id.0 < e.id.0 → unblocked_ahead_count mode book x < unblocked_ahead_count mode book e
+  fewer_ahead : (x : Unanswered) → In x book → is_waiting_and_unblocked mode book x ≡ true → x.port ≡ e.port → x.id.0 < e.id.0 → unblocked_ahead_count mode book x < unblocked_ahead_count mode book e
   fewer_ahead x h clear port less = count_more
-      (λ y. is_earlier_on_port y x && is_unblocked mode book y)
-      (λ y. is_earlier_on_port y e && is_unblocked mode book y)
+      (λ y. is_earlier_on_port y x && is_waiting_and_unblocked mode book y)
+      (λ y. is_earlier_on_port y e && is_waiting_and_unblocked mode book y)
       book x
       (λ y k t.
-      let p = and_parts (is_earlier_on_port y x) (is_unblocked mode book y) t in
+      let p = and_parts (is_earlier_on_port y x) (is_waiting_and_unblocked mode book y) t in
       let q = and_parts (y.port.0 == x.port.0) (ltb y.id.0 x.id.0) p.0 in
       let lower = ltb-true y.id.0 x.id.0 q.1 in
       let port' : x.port.0 ≡ e.port.0 = ap (λ (r : Port). r.0) port in

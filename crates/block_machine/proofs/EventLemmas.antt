@@ -7,7 +7,7 @@ use Rattle.ata_types.specs.declared.request.Frame.{Frame}
 use Rattle.ata_types.specs.declared.request.RequestId.{RequestId}
 use Rattle.ata_types.specs.declared.request.Op.TheVariants.{Read}
 use Rattle.ata_types.specs.declared.request.Outcome.TheVariants.{Ok, DeviceError, Aborted, Unplugged, PortDead, Revoked}
-use Rattle.block_machine.specs.State.{Block, Memory, Pending, Machine, frame_at, is_reader}
+use Rattle.block_machine.specs.State.{Block, Memory, Pending, Machine, nth_frame, is_reader}
 use Rattle.block_machine.specs.Steps.{Step, Accept, Touch, WaitAgain, Answer, Release, Store, IsEnabled, after_step, is_kept_at_answer, unlend, is_lent_to, put_bytes, memory_after_touch, AllTouched}
 use Rattle.block_machine.specs.Expected.{after, IsLegal, IsInitial, AllStepsFaithful, HoldsExpected}
 use Rattle.block_machine.specs.Ports.{Ports, Evidence}
@@ -175,13 +175,13 @@ stays_touch : (m : Machine) → Sound m → (e : Pending) (i : ℕ) (block : Blo
 stays_touch m s e i block may f none b = by (is_reader e.request.asked.op) refl
   where
     by : (t : Bool) → is_reader e.request.asked.op ≡ t → memory_after_touch e.request i block m.memory f b ≡ m.memory f b
-    by false t = ap (λ (x : Memory). x f b) (cond-false (is_reader e.request.asked.op) (put_bytes (frame_at e.request.asked.frames.items (i / 8)) (512 * (i % 8)) 512 block m.memory) m.memory t)
+    by false t = ap (λ (x : Memory). x f b) (cond-false (is_reader e.request.asked.op) (put_bytes (nth_frame e.request.asked.frames.items (i / 8)) (512 * (i % 8)) 512 block m.memory) m.memory t)
     by true t =
         let l = runs_lives m e may.0 in
         let room = s.room e l t in
         let place : i / 8 < length e.request.asked.frames.items = omega (arith, room, may.1) in
-        ap (λ (x : Memory). x f b) (cond-true (is_reader e.request.asked.op) (put_bytes (frame_at e.request.asked.frames.items (i / 8)) (512 * (i % 8)) 512 block m.memory) m.memory t)
-        ∙ put_other (frame_at e.request.asked.frames.items (i / 8)) f (512 * (i % 8)) b 512 block m.memory
+        ap (λ (x : Memory). x f b) (cond-true (is_reader e.request.asked.op) (put_bytes (nth_frame e.request.asked.frames.items (i / 8)) (512 * (i % 8)) 512 block m.memory) m.memory t)
+        ∙ put_other (nth_frame e.request.asked.frames.items (i / 8)) f (512 * (i % 8)) b 512 block m.memory
         (λ same _ _. some_none (m.lent f) e.request.id (ap m.lent (sym same) ∙ s.lent e l (i / 8) place) none)
 
 stays_step : (memory : Memory) (m : Machine) (step : Step) → IsEnabled m step → Sound m → IsQuiet step → Stays memory (after_step m step) → Stays memory m
@@ -202,13 +202,13 @@ answer_holds start memory past e s l told w is_kept_at_answer op =
     let sound = (traced start past s l.0).sound in
     let holds = law_touched_read_holds_expected start past e s l.0 told l.1.0 w.0 op in
     let room = sound.room e (inl l.1.0) (ap is_reader op) in
-    let gone : (i : ℕ) → i < length e.request.asked.frames.items → unlend e.request.id m.lent (frame_at e.request.asked.frames.items i) ≡ None = λ i lt.
-    cond-true (is_lent_to e.request.id (m.lent (frame_at e.request.asked.frames.items i))) None (m.lent (frame_at e.request.asked.frames.items i))
+    let gone : (i : ℕ) → i < length e.request.asked.frames.items → unlend e.request.id m.lent (nth_frame e.request.asked.frames.items i) ≡ None = λ i lt.
+    cond-true (is_lent_to e.request.id (m.lent (nth_frame e.request.asked.frames.items i))) None (m.lent (nth_frame e.request.asked.frames.items i))
     (ap (is_lent_to e.request.id) (sound.lent e (inl l.1.0) i lt) ∙ eq-eqb e.request.id.0 e.request.id.0 refl) in
     record {
       sectors_are_expected = λ i lt. let q = holds.sectors_are_expected i lt in
-          (q.0, q.1, λ b lb. is_kept_at_answer (frame_at e.request.asked.frames.items (i / 8)) (gone (i / 8) (omega (arith, room, lt))) (512 * (i % 8) + b) ∙ q.2 b lb);
-      rest_is_as_accepted = λ i b beyond lt lb. is_kept_at_answer (frame_at e.request.asked.frames.items (i / 8)) (gone (i / 8) (omega (arith, lt))) (512 * (i % 8) + b) ∙ holds.rest_is_as_accepted i b beyond lt lb;
+          (q.0, q.1, λ b lb. is_kept_at_answer (nth_frame e.request.asked.frames.items (i / 8)) (gone (i / 8) (omega (arith, room, lt))) (512 * (i % 8) + b) ∙ q.2 b lb);
+      rest_is_as_accepted = λ i b beyond lt lb. is_kept_at_answer (nth_frame e.request.asked.frames.items (i / 8)) (gone (i / 8) (omega (arith, lt))) (512 * (i % 8) + b) ∙ holds.rest_is_as_accepted i b beyond lt lb;
     }
 
 -- a call's steps in which the read is answered Ok

@@ -2,6 +2,7 @@
 use Rattle.std.proofs.Common.{◌≡◌, ◌≢◌, ℕ, ◌+◌, ◌^◌, ◌<◌, ◌≤◌, length, slice_get, Option, Some, None, IsSome, is_some, sym, ap, ◌∙◌, subst, arith}
 use Rattle.std.proofs.lemmas.Bool.{false≢true}
 use Rattle.std.proofs.lemmas.Option.{slice_get_within}
+use Rattle.ata_types.specs.declared.limits.TheConstants.{MOST_UNANSWERED_OF_A_CLIENT}
 use Rattle.ata_types.specs.declared.PortState.TheVariants.{Ready}
 use Rattle.ata_types.specs.declared.request.Frame.{Frame}
 use Rattle.ata_types.specs.declared.request.RequestId.{RequestId}
@@ -30,7 +31,7 @@ pub record IsFitFor (row : GrantRow) (s : AdmissionContext) (r : Request) : Type
   pub ready : s.state row.port ≡ Ready
   pub on_disk : r.op ≢ Flush → r.first.0 + r.count ≤ s.sectors row.port
   pub no_trim : r.op ≢ Trim
-  pub few : s.unanswered_count r.client < 16
+  pub few : s.unanswered_count r.client < MOST_UNANSWERED_OF_A_CLIENT
   pub ids : s.next_id < 2 ^ 64
 
 pub fit_acceptable : (row : GrantRow) (s : AdmissionContext) (r : Request) → IsFitFor row s r → IsAcceptable s r

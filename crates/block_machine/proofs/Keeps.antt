@@ -14,10 +14,10 @@ use Rattle.ata_types.specs.declared.refusal.FrameFault.TheVariants.{FrameTwice, 
 use Rattle.ata_types.specs.declared.refusal.Rule.TheVariants.{FrameCount, Frames}
 use Rattle.block_machine.specs.declared.due.QueueMode.{QueueMode}
 use Rattle.block_machine.specs.declared.due.Unanswered.{Unanswered}
-use Rattle.block_machine.specs.State.{Accepted, Pending, Machine, frame_at, is_reader, unanswered, newly_unanswered}
+use Rattle.block_machine.specs.State.{Accepted, Pending, Machine, nth_frame, is_reader, unanswered, newly_unanswered}
 use Rattle.block_machine.specs.Rules.{frame_count_for}
-use Rattle.block_machine.specs.DueRequests.{IsDue, are_conflicting, waits_for, is_plain}
-use Rattle.block_machine.specs.Steps.{Step, Accept, Issue, Touch, End, Age, WaitAgain, Answer, Revoke, Release, Unplug, Replace, Store, Load, IsEnabled, MayAccept, NoneKept, after_step, update_pending, without_pending, HoldsFrames, MayStillMove, newly_issued, touch, mark_ended, requeued, aged_pending, newly_accepted, lend, unlend, unlend_all, is_lent_to, is_kept_at_answer}
+use Rattle.block_machine.specs.DueRequests.{IsDue, conflict_by_flush_or_overlap, waits_for, is_plain}
+use Rattle.block_machine.specs.Steps.{Step, Accept, Issue, Touch, End, Age, WaitAgain, Answer, Revoke, Release, Unplug, PlugDisk, Store, Load, IsEnabled, MayAccept, NoneKept, after_step, update_pending, without_pending, IsInBookOrKept, MayStillMove, newly_issued, touch, mark_ended, requeued, aged_pending, newly_accepted, lend, unlend, unlend_all, is_lent_to, is_kept_at_answer}
 use Rattle.block_machine.proofs.Members.{contains_none, contains_here, contains_there, contains_cases, map_in, into_map, at_cases, without_in, append_in, none_of}
 use Rattle.block_machine.proofs.Sound.{Sound, Carries, IsChanged, KeepsRequest, IsLentAll, IsDistinct, lived, order_carried, carried}
 
@@ -44,7 +44,7 @@ same_all : (es : List Pending) → IsChanged (λ e. e) es es
 same_all es e h = (e, h, refl)
 
 -- no earlier request that conflicts with a due one is unanswered
-pub due_order : (mode : QueueMode) (book : List Unanswered) (r a : Unanswered) → IsDue mode book r → Contains book a → a.id.0 < r.id.0 → are_conflicting a r ≡ true → ⊥
+pub due_order : (mode : QueueMode) (book : List Unanswered) (r a : Unanswered) → IsDue mode book r → Contains book a → a.id.0 < r.id.0 → conflict_by_flush_or_overlap a r ≡ true → ⊥
 due_order mode book r a due h lt con =
     let port : (a.port.0 == r.port.0) ≡ true = (and_parts _ _ con).0 in
     let none : list_any (waits_for mode r) book ≡ false = not-true _ (and_parts _ _ due.waits_and_nothing_blocks).1 in
@@ -54,7 +54,7 @@ due_order mode book r a due h lt con =
     both_ways _ held holds
   where
     go : (b : Bool) → ltb a.id.0 r.id.0 ≡ true
-        → cond b (a.issued || ltb a.id.0 r.id.0) ((is_plain mode a.op && a.issued) || (ltb a.id.0 r.id.0 && (is_plain mode a.op || are_conflicting a r))) ≡ true
+        → cond b (a.issued || ltb a.id.0 r.id.0) ((is_plain mode a.op && a.issued) || (ltb a.id.0 r.id.0 && (is_plain mode a.op || conflict_by_flush_or_overlap a r))) ≡ true
     go true less = or_right _ _ less
     go false less = or_right _ _ (and_from _ _ less (or_right _ _ con))
 
@@ -68,7 +68,7 @@ same_frame f g e = ap (λ n. record { 0 = n }) e
 pub same_id : (i j : RequestId) → i.0 ≡ j.0 → i ≡ j
 same_id i j e = ap (λ n. record { 0 = n }) e
 
-conflict_port : (a b : Accepted) → are_conflicting (newly_unanswered a) (newly_unanswered b) ≡ true → a.port ≡ b.port
+conflict_port : (a b : Accepted) → conflict_by_flush_or_overlap (newly_unanswered a) (newly_unanswered b) ≡ true → a.port ≡ b.port
 conflict_port a b con = same_port a.port b.port (eqb-true a.port.0 b.port.0 (and_parts _ _ con).0)
 
 issue_carries : (m : Machine) (mode : QueueMode) (e : Pending) → Carries (update_pending e.request.id newly_issued) (λ x. x) m (after_step m (Issue mode e))
@@ -84,23 +84,23 @@ issue_carries m mode e = record {
 keeps_issue : (m : Machine) (mode : QueueMode) (e : Pending) → Sound m → Contains m.book e → IsDue mode (map unanswered m.book) (unanswered e) → NoneKept m e.request.port → Sound (after_step m (Issue mode e))
 keeps_issue m mode e s here due none = carried (update_pending e.request.id newly_issued) (λ x. x) m (after_step m (Issue mode e)) (issue_carries m mode e) order s
   where
-    earlier : (a : Pending) → HoldsFrames m a → a.request.id.0 < e.request.id.0 → are_conflicting (newly_unanswered a.request) (newly_unanswered e.request) ≡ true → ⊥
+    earlier : (a : Pending) → IsInBookOrKept m a → a.request.id.0 < e.request.id.0 → conflict_by_flush_or_overlap (newly_unanswered a.request) (newly_unanswered e.request) ≡ true → ⊥
     earlier a (inl h) lt con = due_order mode (map unanswered m.book) (unanswered e) (unanswered a) due (into_map unanswered m.book a h) lt con
     earlier a (inr h) lt con = none a h (conflict_port a.request e.request con)
 
-    order : (x a : Pending) → MayStillMove (after_step m (Issue mode e)) x → HoldsFrames (after_step m (Issue mode e)) a → a.request.id.0 < x.request.id.0 → are_conflicting (newly_unanswered a.request) (newly_unanswered x.request) ≡ true → ⊥
+    order : (x a : Pending) → MayStillMove (after_step m (Issue mode e)) x → IsInBookOrKept (after_step m (Issue mode e)) a → a.request.id.0 < x.request.id.0 → conflict_by_flush_or_overlap (newly_unanswered a.request) (newly_unanswered x.request) ≡ true → ⊥
     order x a (inr h) l lt con =
         let q = lived (update_pending e.request.id newly_issued) (λ x. x) m (after_step m (Issue mode e)) (issue_carries m mode e) a l in
-        s.order x q.0 (inr h) q.1 (subst (λ (j : Accepted). j.id.0 < x.request.id.0) q.2 lt) (subst (λ (j : Accepted). are_conflicting (newly_unanswered j) (newly_unanswered x.request) ≡ true) q.2 con)
+        s.order x q.0 (inr h) q.1 (subst (λ (j : Accepted). j.id.0 < x.request.id.0) q.2 lt) (subst (λ (j : Accepted). conflict_by_flush_or_overlap (newly_unanswered j) (newly_unanswered x.request) ≡ true) q.2 con)
     order x a (inl h) l lt con =
         let q = lived (update_pending e.request.id newly_issued) (λ x. x) m (after_step m (Issue mode e)) (issue_carries m mode e) a l in
         let r = map_in (update_pending e.request.id newly_issued) m.book x h.0 in
         let jx : x.request ≡ r.0.request = ap (λ (y : Pending). y.request) r.2 ∙ at_keeps e.request.id newly_issued (λ y. refl) r.0 in
         let lt' : q.0.request.id.0 < r.0.request.id.0 = subst (λ (j : Accepted). q.0.request.id.0 < j.id.0) jx (subst (λ (j : Accepted). j.id.0 < x.request.id.0) q.2 lt) in
-        let con' : are_conflicting (newly_unanswered q.0.request) (newly_unanswered r.0.request) ≡ true = subst (λ (j : Accepted). are_conflicting (newly_unanswered q.0.request) (newly_unanswered j) ≡ true) jx (subst (λ (j : Accepted). are_conflicting (newly_unanswered j) (newly_unanswered x.request) ≡ true) q.2 con) in
+        let con' : conflict_by_flush_or_overlap (newly_unanswered q.0.request) (newly_unanswered r.0.request) ≡ true = subst (λ (j : Accepted). conflict_by_flush_or_overlap (newly_unanswered q.0.request) (newly_unanswered j) ≡ true) jx (subst (λ (j : Accepted). conflict_by_flush_or_overlap (newly_unanswered j) (newly_unanswered x.request) ≡ true) q.2 con) in
         ⊎_elim
         (λ p. let same : r.0 ≡ e = s.one r.0 e r.1 here p.0 in
-        earlier q.0 q.1 (subst (λ (y : Pending). q.0.request.id.0 < y.request.id.0) same lt') (subst (λ (y : Pending). are_conflicting (newly_unanswered q.0.request) (newly_unanswered y.request) ≡ true) same con'))
+        earlier q.0 q.1 (subst (λ (y : Pending). q.0.request.id.0 < y.request.id.0) same lt') (subst (λ (y : Pending). conflict_by_flush_or_overlap (newly_unanswered q.0.request) (newly_unanswered y.request) ≡ true) same con'))
         (λ p. s.order r.0 q.0 (inl (r.1, ap (λ (y : Pending). y.issued) (sym (r.2 ∙ p.1)) ∙ h.1)) q.1 lt' con')
         (at_cases e.request.id newly_issued r.0)
 
@@ -147,7 +147,7 @@ abbrev answered : Machine → Pending → Bool → Machine
 answered m e b = record m { book = without_pending e.request.id m.book; kept = cond b (e ∷ m.kept) m.kept; lent = cond b m.lent (unlend e.request.id m.lent) }
 
 -- who lives after an answer lived before it, and is not the answered one unless that is kept
-answered_lives : (m : Machine) (e : Pending) (b : Bool) → Contains m.book e → (x : Pending) → HoldsFrames (answered m e b) x → HoldsFrames m x
+answered_lives : (m : Machine) (e : Pending) (b : Bool) → Contains m.book e → (x : Pending) → IsInBookOrKept (answered m e b) x → IsInBookOrKept m x
 answered_lives m e b h x (inl i) = inl (without_in e.request.id m.book x i).0
 answered_lives m e true h x (inr i) = ⊎_elim (λ p. inl (subst (λ (y : Pending). Contains m.book y) (sym p) h)) (λ j. inr j) (contains_cases e m.kept x i)
 answered_lives m e false h x (inr i) = inr i
@@ -189,13 +189,13 @@ keeps_answer m e b s h w = record {
         (contains_cases e m.kept y j)
     apart false x y i q eq = s.apart x y (without_in e.request.id m.book x i).0 q eq
 
-    lent : (b : Bool) (x : Pending) → HoldsFrames (answered m e b) x → IsLentAll (answered m e b).lent x.request
+    lent : (b : Bool) (x : Pending) → IsInBookOrKept (answered m e b) x → IsLentAll (answered m e b).lent x.request
     lent true x l k lt = s.lent x (answered_lives m e true h x l) k lt
     lent false x (inl i) k lt =
         let r = without_in e.request.id m.book x i in
-        take_back_other e.request.id m.lent (frame_at x.request.asked.frames.items k) x.request.id (s.lent x (inl r.0) k lt) r.1
+        take_back_other e.request.id m.lent (nth_frame x.request.asked.frames.items k) x.request.id (s.lent x (inl r.0) k lt) r.1
     lent false x (inr i) k lt =
-        take_back_other e.request.id m.lent (frame_at x.request.asked.frames.items k) x.request.id (s.lent x (inr i) k lt) (λ q. s.apart e x h i (sym q))
+        take_back_other e.request.id m.lent (nth_frame x.request.asked.frames.items k) x.request.id (s.lent x (inr i) k lt) (λ q. s.apart e x h i (sym q))
 
 -- nobody in the list has this id
 none_has : (id : RequestId) (es : List Pending) (o : Option RequestId) → o ≡ Some id → ((x : Pending) → Contains es x → x.request.id.0 ≡ id.0 → ⊥) → list_any (λ e. is_lent_to e.request.id o) es ≡ false
@@ -216,7 +216,7 @@ keeps_release m s = record {
   order = λ x a r l. s.order x a (runs x r) (lives a l);
 }
   where
-    lives : (x : Pending) → HoldsFrames (after_step m Release) x → HoldsFrames m x
+    lives : (x : Pending) → IsInBookOrKept (after_step m Release) x → IsInBookOrKept m x
     lives x (inl i) = inl i
     lives x (inr i) = absurd (contains_none x i)
 
@@ -224,29 +224,29 @@ keeps_release m s = record {
     runs x (inl i) = inl i
     runs x (inr i) = absurd (contains_none x i)
 
-    lent : (x : Pending) → HoldsFrames (after_step m Release) x → IsLentAll (unlend_all m.kept m.lent) x.request
+    lent : (x : Pending) → IsInBookOrKept (after_step m Release) x → IsLentAll (unlend_all m.kept m.lent) x.request
     lent x (inl i) k lt =
-        let f = frame_at x.request.asked.frames.items k in
+        let f = nth_frame x.request.asked.frames.items k in
         let e : m.lent f ≡ Some x.request.id = s.lent x (inl i) k lt in
         cond-false (list_any (λ y. is_lent_to y.request.id (m.lent f)) m.kept) None (m.lent f) (none_has x.request.id m.kept (m.lent f) e (λ y j q. s.apart x y i j (sym q))) ∙ e
     lent x (inr i) k lt = absurd (contains_none x i)
 
 -- the place of a frame that the list has
-pub place_of : (f : Frame) (frames : List Frame) → list_any (λ g. g.0 == f.0) frames ≡ true → (j : ℕ) × (j < length frames) × (frame_at frames j ≡ f)
+pub place_of : (f : Frame) (frames : List Frame) → list_any (λ g. g.0 == f.0) frames ≡ true → (j : ℕ) × (j < length frames) × (nth_frame frames j ≡ f)
 place_of f [] h = absurd (false≢true h)
 place_of f (x ∷ xs) h = go (x.0 == f.0) refl (place_of f xs)
   where
-    go : (b : Bool) → (x.0 == f.0) ≡ b → (list_any (λ g. g.0 == f.0) xs ≡ true → (j : ℕ) × (j < length xs) × (frame_at xs j ≡ f)) → (j : ℕ) × (j < length (x ∷ xs)) × (frame_at (x ∷ xs) j ≡ f)
+    go : (b : Bool) → (x.0 == f.0) ≡ b → (list_any (λ g. g.0 == f.0) xs ≡ true → (j : ℕ) × (j < length xs) × (nth_frame xs j ≡ f)) → (j : ℕ) × (j < length (x ∷ xs)) × (nth_frame (x ∷ xs) j ≡ f)
     go true p rest = (0, omega arith, same_frame x f (eqb-true x.0 f.0 p))
     go false p rest = let r = rest (subst (λ (b : Bool). (b || list_any (λ g. g.0 == f.0) xs) ≡ true) p h) in (suc r.0, omega (arith, r.1), r.2)
 
-has_place : (frames : List Frame) (j : ℕ) → j < length frames → list_any (λ g. g.0 == (frame_at frames j).0) frames ≡ true
+has_place : (frames : List Frame) (j : ℕ) → j < length frames → list_any (λ g. g.0 == (nth_frame frames j).0) frames ≡ true
 has_place [] j lt = absurd (omega arith)
 has_place (f ∷ fs) zero lt = or_left _ _ (eq-eqb f.0 f.0 refl)
 has_place (f ∷ fs) (suc j) lt = or_right _ _ (has_place fs j (omega arith))
 
 -- a frame at a place below the length is there
-pub get_frame : (frames : List Frame) (i : ℕ) → i < length frames → slice_get frames i ≡ Some (frame_at frames i)
+pub get_frame : (frames : List Frame) (i : ℕ) → i < length frames → slice_get frames i ≡ Some (nth_frame frames i)
 get_frame frames i lt = slice_get-get_or frames i (record { 0 = 0 }) lt
 
 some_is_some : (o : Option RequestId) (x : RequestId) → o ≡ Some x → IsSome o
@@ -270,17 +270,17 @@ keeps_accept m request s new = record {
   order = λ e a r l lt con. order e a r (who a l) lt con;
 }
   where
-    who : (x : Pending) → HoldsFrames (after_step m (Accept request)) x → HoldsFrames m x ⊎ (x ≡ newly_accepted request)
+    who : (x : Pending) → IsInBookOrKept (after_step m (Accept request)) x → IsInBookOrKept m x ⊎ (x ≡ newly_accepted request)
     who x (inl i) = ⊎_elim (λ j. inl (inl j)) (λ p. inr p) (append_in m.book (newly_accepted request) x i)
     who x (inr i) = inl (inr i)
 
-    below : (x : Pending) → HoldsFrames m x → x.request.id.0 < suc m.next_id
+    below : (x : Pending) → IsInBookOrKept m x → x.request.id.0 < suc m.next_id
     below x i = let b = s.below x i in omega (arith, b)
 
     is_new : (x : Pending) → x ≡ newly_accepted request → x.request.id.0 ≡ m.next_id
     is_new x p = ap (λ (y : Pending). y.request.id.0) p ∙ new.id_is_next
 
-    clash : (a b : Pending) → HoldsFrames m a → b ≡ newly_accepted request → a.request.id.0 ≡ b.request.id.0 → ⊥
+    clash : (a b : Pending) → IsInBookOrKept m a → b ≡ newly_accepted request → a.request.id.0 ≡ b.request.id.0 → ⊥
     clash a b l p eq = let below = s.below a l in let id = is_new b p in omega (arith, below, id, eq)
 
     one : (a b : Pending) → Contains m.book a ⊎ (a ≡ newly_accepted request) → Contains m.book b ⊎ (b ≡ newly_accepted request) → a.request.id.0 ≡ b.request.id.0 → a ≡ b
@@ -295,31 +295,31 @@ keeps_accept m request s new = record {
 
     unlent : (x : Frame) → IsSome (m.lent x) → list_any (λ g. g.0 == x.0) request.asked.frames.items ≡ false
     unlent x h = false_from_ne_true _ (λ t. let r = place_of x request.asked.frames.items t in
-        new.breaks_no_rule (Frames (FrameLent r.0)) (frame_at request.asked.frames.items r.0, get_frame request.asked.frames.items r.0 r.1, subst (λ (y : Frame). IsSome (m.lent y)) (sym r.2) h))
+        new.breaks_no_rule (Frames (FrameLent r.0)) (nth_frame request.asked.frames.items r.0, get_frame request.asked.frames.items r.0 r.1, subst (λ (y : Frame). IsSome (m.lent y)) (sym r.2) h))
 
-    lent : (x : Pending) → HoldsFrames m x ⊎ (x ≡ newly_accepted request) → IsLentAll (lend request m.lent) x.request
+    lent : (x : Pending) → IsInBookOrKept m x ⊎ (x ≡ newly_accepted request) → IsLentAll (lend request m.lent) x.request
     lent x (inl l) k lt =
-        let f = frame_at x.request.asked.frames.items k in
+        let f = nth_frame x.request.asked.frames.items k in
         let e : m.lent f ≡ Some x.request.id = s.lent x l k lt in
         cond-false (list_any (λ g. g.0 == f.0) request.asked.frames.items) (Some request.id) (m.lent f) (unlent f (some_is_some (m.lent f) x.request.id e)) ∙ e
     lent x (inr p) k lt = subst (λ (y : Pending). IsLentAll (lend request m.lent) y.request) (sym p) own k lt
       where
         own : IsLentAll (lend request m.lent) request
-        own j below = cond-true (list_any (λ g. g.0 == (frame_at request.asked.frames.items j).0) request.asked.frames.items) (Some request.id) (m.lent (frame_at request.asked.frames.items j)) (has_place request.asked.frames.items j below)
+        own j below = cond-true (list_any (λ g. g.0 == (nth_frame request.asked.frames.items j).0) request.asked.frames.items) (Some request.id) (m.lent (nth_frame request.asked.frames.items j)) (has_place request.asked.frames.items j below)
 
     apart_frames : IsDistinct request.asked.frames.items
     apart_frames i j lt below eq = new.breaks_no_rule (Frames (FrameTwice i))
-        (frame_at request.asked.frames.items i, j, lt, get_frame request.asked.frames.items j (omega (arith, lt, below)) ∙ ap Some eq, get_frame request.asked.frames.items i below)
+        (nth_frame request.asked.frames.items i, j, lt, get_frame request.asked.frames.items j (omega (arith, lt, below)) ∙ ap Some eq, get_frame request.asked.frames.items i below)
 
     room : is_reader request.asked.op ≡ true → request.asked.count ≤ 8 * length request.asked.frames.items
     room r = ⊎_elim (λ e. enough request.asked.op request.asked.count (length request.asked.frames.items) e r) (λ ne. absurd (new.breaks_no_rule FrameCount ne)) (cases_eq (length request.asked.frames.items) (frame_count_for request.asked.op request.asked.count))
 
-    order : (e a : Pending) → MayStillMove (after_step m (Accept request)) e → HoldsFrames m a ⊎ (a ≡ newly_accepted request) → a.request.id.0 < e.request.id.0 → are_conflicting (newly_unanswered a.request) (newly_unanswered e.request) ≡ true → ⊥
+    order : (e a : Pending) → MayStillMove (after_step m (Accept request)) e → IsInBookOrKept m a ⊎ (a ≡ newly_accepted request) → a.request.id.0 < e.request.id.0 → conflict_by_flush_or_overlap (newly_unanswered a.request) (newly_unanswered e.request) ≡ true → ⊥
     order e a (inr i) (inl l) lt con = s.order e a (inr i) l lt con
     order e a (inr i) (inr p) lt con = let b = s.below e (inr i) in let n = is_new a p in omega (arith, b, n, lt)
     order e a (inl h) l lt con = inner (append_in m.book (newly_accepted request) e h.0) l
       where
-        inner : Contains m.book e ⊎ (e ≡ newly_accepted request) → HoldsFrames m a ⊎ (a ≡ newly_accepted request) → ⊥
+        inner : Contains m.book e ⊎ (e ≡ newly_accepted request) → IsInBookOrKept m a ⊎ (a ≡ newly_accepted request) → ⊥
         inner (inl i) (inl l) = s.order e a (inl (i, h.1)) l lt con
         inner (inl i) (inr p) = let b = s.below e (inl i) in let n = is_new a p in omega (arith, b, n, lt)
         inner (inr p) l = false≢true (ap (λ (y : Pending). y.issued) (sym p) ∙ h.1)
@@ -352,6 +352,6 @@ keeps m (Answer e outcome) may s = keeps_answer m e (is_kept_at_answer e outcome
 keeps m (Revoke client number) may s = keeps_bytes m (after_step m (Revoke client number)) refl refl refl (λ x. refl) s
 keeps m Release may s = keeps_release m s
 keeps m (Unplug port) may s = keeps_bytes m (after_step m (Unplug port)) refl refl refl (λ x. refl) s
-keeps m (Replace port id size disk) may s = keeps_bytes m (after_step m (Replace port id size disk)) refl refl refl (λ x. refl) s
+keeps m (PlugDisk port id size disk) may s = keeps_bytes m (after_step m (PlugDisk port id size disk)) refl refl refl (λ x. refl) s
 keeps m (Store client frame offset bytes) may s = keeps_bytes m (after_step m (Store client frame offset bytes)) refl refl refl (λ x. refl) s
 keeps m (Load client frame offset bytes) may s = s

@@ -2,6 +2,7 @@
 use Rattle.std.proofs.Common.{◌≡◌, ℕ, ◌<◌, ◌≤◌, Bool, true, false, cond, not, ◌&&◌, ◌==◌, List, [], ◌∷◌, ◌++◌, length, map, suc, Option, Some, None, inl, inr, ⊎_elim, refl, sym, ap, ◌∙◌, subst, arith, eqb-true, le_refl}
 use Rattle.std.proofs.lemmas.Bool.{cases_eq, cases_Bool, and_parts, and_from, cond-true, false≢true, not-true, both_ways, false_from_ne_true, or_left}
 use Rattle.std.specs.List.{Contains}
+use Rattle.ata_types.specs.declared.limits.TheConstants.{MOST_UNANSWERED_OF_A_CLIENT}
 use Rattle.ata_types.specs.declared.Port.{Port}
 use Rattle.ata_types.specs.declared.request.ClientId.{ClientId}
 use Rattle.ata_types.specs.declared.request.RequestId.{RequestId}
@@ -10,8 +11,8 @@ use Rattle.ata_types.specs.declared.refusal.Rule.TheVariants.{Frames}
 use Rattle.block_machine.specs.declared.due.QueueMode.{QueueMode}
 use Rattle.block_machine.specs.declared.due.Unanswered.{Unanswered}
 use Rattle.block_machine.specs.DueRequests.{IsDue, IsInOrder, is_plain, issued_count}
-use Rattle.block_machine.specs.State.{Accepted, Pending, Machine, frame_at, unanswered}
-use Rattle.block_machine.specs.Steps.{Step, Accept, Issue, Touch, End, Age, WaitAgain, Answer, Revoke, Release, Unplug, Replace, Store, Load, IsEnabled, HoldsFrames, after_step, update_pending, without_pending, newly_issued, touch, mark_ended, requeued, aged_pending, newly_accepted, is_kept_at_answer, unanswered_count}
+use Rattle.block_machine.specs.State.{Accepted, Pending, Machine, nth_frame, unanswered}
+use Rattle.block_machine.specs.Steps.{Step, Accept, Issue, Touch, End, Age, WaitAgain, Answer, Revoke, Release, Unplug, PlugDisk, Store, Load, IsEnabled, IsInBookOrKept, after_step, update_pending, without_pending, newly_issued, touch, mark_ended, requeued, aged_pending, newly_accepted, is_kept_at_answer, unanswered_count}
 use Rattle.block_machine.specs.Expected.{after, IsLegal, IsInitial}
 use Rattle.block_machine.specs.Confinement.{WasAccepted, KeepsLimitsAndHoldsOwnFrames}
 use Rattle.block_machine.proofs.Members.{contains_none, contains_here, contains_there, contains_cases, map_in, into_map, at_cases, without_in, append_in}
@@ -92,7 +93,7 @@ record IsCounted (e : Pending) : Type 0 where
   left : e.issued ≡ false → e.issue_count < 4
 
 abbrev AllCounted : Machine → Type 0
-AllCounted m = (e : Pending) → HoldsFrames m e → IsCounted e
+AllCounted m = (e : Pending) → IsInBookOrKept m e → IsCounted e
 
 -- a change of one request that keeps its count
 counted_at : (id : RequestId) (f : Pending → Pending) (es : List Pending) → ((o : Pending) → Contains es o → IsCounted o)
@@ -145,7 +146,7 @@ counted_step m (Revoke client number) may s c x l = c x l
 counted_step m Release may s c x (inl h) = c x (inl h)
 counted_step m Release may s c x (inr h) = absurd (contains_none x h)
 counted_step m (Unplug port) may s c x l = c x l
-counted_step m (Replace port id size disk) may s c x l = c x l
+counted_step m (PlugDisk port id size disk) may s c x l = c x l
 counted_step m (Store client frame offset bytes) may s c x l = c x l
 counted_step m (Load client frame offset bytes) may s c x l = c x l
 
@@ -166,7 +167,7 @@ fewer_without c id (x ∷ xs) = go (x.request.id.0 == id.0) (fewer_without c id 
     go true a = omega (arith, a, count_cons (λ e. e.request.asked.client.0 == c.0) x xs)
     go false a = omega (arith, a, count_cons (λ e. e.request.asked.client.0 == c.0) x xs, count_cons (λ e. e.request.asked.client.0 == c.0) x (without_pending id xs))
 
-few_step : (m : Machine) (step : Step) → IsEnabled m step → (c : ClientId) → unanswered_count m.book c ≤ 16 → unanswered_count (after_step m step).book c ≤ 16
+few_step : (m : Machine) (step : Step) → IsEnabled m step → (c : ClientId) → unanswered_count m.book c ≤ MOST_UNANSWERED_OF_A_CLIENT → unanswered_count (after_step m step).book c ≤ MOST_UNANSWERED_OF_A_CLIENT
 few_step m (Accept r) may c le =
     let more = count_append (λ (e : Pending). e.request.asked.client.0 == c.0) m.book (newly_accepted r ∷ []) in
     let last = count_cons (λ (e : Pending). e.request.asked.client.0 == c.0) (newly_accepted r) [] in
@@ -174,7 +175,7 @@ few_step m (Accept r) may c le =
     (λ (t : (r.asked.client.0 == c.0) ≡ true).
     let one : ◌≡◌ {A = ℕ} (cond (r.asked.client.0 == c.0) 1 0) 1 = ap (λ (b : Bool). cond {A = ℕ} b 1 0) t in
     let same : r.asked.client ≡ c = ap (λ n. record { 0 = n }) (eqb-true r.asked.client.0 c.0 t) in
-    let few : unanswered_count m.book c < 16 = subst (λ (x : ClientId). unanswered_count m.book x < 16) same may.client_has_room in
+    let few : unanswered_count m.book c < MOST_UNANSWERED_OF_A_CLIENT = subst (λ (x : ClientId). unanswered_count m.book x < MOST_UNANSWERED_OF_A_CLIENT) same may.client_has_room in
     omega (arith, more, last, one, few))
     (λ (f : (r.asked.client.0 == c.0) ≡ false).
     let none : ◌≡◌ {A = ℕ} (cond (r.asked.client.0 == c.0) 1 0) 0 = ap (λ (b : Bool). cond {A = ℕ} b 1 0) f in
@@ -188,8 +189,8 @@ few_step m (WaitAgain e) may c le = let a = same_count c (update_pending e.reque
 few_step m (Answer e outcome) may c le = let a = fewer_without c e.request.id m.book in omega (arith, a, le)
 few_step m _ may c le = le
 
-few : (start : Machine) (h : List Step) → IsInitial start → IsLegal start h → (c : ClientId) → unanswered_count (after start h).book c ≤ 16
-few start [] s legal c = subst (λ (es : List Pending). unanswered_count es c ≤ 16) (sym s.book_is_empty) (omega arith)
+few : (start : Machine) (h : List Step) → IsInitial start → IsLegal start h → (c : ClientId) → unanswered_count (after start h).book c ≤ MOST_UNANSWERED_OF_A_CLIENT
+few start [] s legal c = subst (λ (es : List Pending). unanswered_count es c ≤ MOST_UNANSWERED_OF_A_CLIENT) (sym s.book_is_empty) (omega arith)
 few start (step ∷ past) s legal c = few_step (after start past) step legal.1 c (few start past s legal.0 c)
 
 -- Owners.
@@ -208,11 +209,11 @@ owned (Some d) c h = ⊎_elim
     same_some : Some d ≡ Some c → d.0 ≡ c.0
     same_some p = let e : d ≡ c = cc in ap (λ (x : ClientId). x.0) e
 
-accepted_owned : (start : Machine) (h : List Step) (r : Accepted) → WasAccepted start h r → (i : ℕ) → i < length r.asked.frames.items → (after start h).owner (frame_at r.asked.frames.items i) ≡ Some r.asked.client
+accepted_owned : (start : Machine) (h : List Step) (r : Accepted) → WasAccepted start h r → (i : ℕ) → i < length r.asked.frames.items → (after start h).owner (nth_frame r.asked.frames.items i) ≡ Some r.asked.client
 accepted_owned start [] r w i lt = absurd w
-accepted_owned start (step ∷ past) r (inl c) i lt = owner_step (after start past) step (frame_at r.asked.frames.items i)
-    ∙ owned _ r.asked.client (λ ne. c.1.breaks_no_rule (Frames (FrameForeign i)) (frame_at r.asked.frames.items i, get_frame r.asked.frames.items i lt, ne))
-accepted_owned start (step ∷ past) r (inr w) i lt = owner_step (after start past) step (frame_at r.asked.frames.items i) ∙ accepted_owned start past r w i lt
+accepted_owned start (step ∷ past) r (inl c) i lt = owner_step (after start past) step (nth_frame r.asked.frames.items i)
+    ∙ owned _ r.asked.client (λ ne. c.1.breaks_no_rule (Frames (FrameForeign i)) (nth_frame r.asked.frames.items i, get_frame r.asked.frames.items i lt, ne))
+accepted_owned start (step ∷ past) r (inr w) i lt = owner_step (after start past) step (nth_frame r.asked.frames.items i) ∙ accepted_owned start past r w i lt
 
 -- all of these together
 pub law_limits_hold : (start : Machine) (h : List Step) → IsInitial start → IsLegal start h → KeepsLimitsAndHoldsOwnFrames (after start h)

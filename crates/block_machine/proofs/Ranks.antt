@@ -5,7 +5,7 @@ use Rattle.std.proofs.lemmas.Bool.{cases_lt, cond-true, cond-false, or_left, or_
 use Rattle.ata_types.specs.declared.Port.{Port}
 use Rattle.block_machine.specs.declared.due.QueueMode.{QueueMode}
 use Rattle.block_machine.specs.declared.due.Unanswered.{Unanswered}
-use Rattle.block_machine.specs.DueRequests.{IsInOrder, are_conflicting, waits_for, is_plain, is_earlier_on_port, is_unblocked, unblocked_ahead_count, free_slots, is_due, due_ahead_count}
+use Rattle.block_machine.specs.DueRequests.{IsInOrder, conflict_by_flush_or_overlap, waits_for, is_plain, is_earlier_on_port, is_waiting_and_unblocked, unblocked_ahead_count, free_slots, is_due, due_ahead_count}
 use Rattle.block_machine.proofs.Keeps.{same_port}
 use Rattle.block_machine.proofs.Order.{In, Ordered, in_from, from_in, ordered_from}
 use Rattle.block_machine.proofs.Counting.{count_cons, count_append, count_eq, count_none, count_least, unheld}
@@ -112,44 +112,44 @@ pub holds_if : (mode : QueueMode) (r o : Unanswered) → (o.port.0 == r.port.0) 
 holds_if mode r o port less plain = and_from _ _ port (go (is_plain mode r.op) refl plain)
   where
     go : (b : Bool) → is_plain mode r.op ≡ b → (is_plain mode r.op ≡ true) ⊎ (is_plain mode o.op ≡ true)
-        → cond b (o.issued || ltb o.id.0 r.id.0) ((is_plain mode o.op && o.issued) || (ltb o.id.0 r.id.0 && (is_plain mode o.op || are_conflicting o r))) ≡ true
+        → cond b (o.issued || ltb o.id.0 r.id.0) ((is_plain mode o.op && o.issued) || (ltb o.id.0 r.id.0 && (is_plain mode o.op || conflict_by_flush_or_overlap o r))) ≡ true
     go true p h = or_right _ _ less
     go false p (inl q) = absurd (both_ways _ p q)
     go false p (inr q) = or_right _ _ (and_from _ _ less (or_left _ _ q))
 
 -- those of a port that are clear
 abbrev clear_of : QueueMode → List Unanswered → Port → Unanswered → Bool
-clear_of mode book port y = (y.port.0 == port.0) && is_unblocked mode book y
+clear_of mode book port y = (y.port.0 == port.0) && is_waiting_and_unblocked mode book y
 
 ahead_rank : (mode : QueueMode) (book : List Unanswered) (r : Unanswered) → unblocked_ahead_count mode book r ≡ rank (clear_of mode book r.port) book r
-ahead_rank mode book r = count_eq _ _ book (λ y k. turn (y.port.0 == r.port.0) (ltb y.id.0 r.id.0) (is_unblocked mode book y))
+ahead_rank mode book r = count_eq _ _ book (λ y k. turn (y.port.0 == r.port.0) (ltb y.id.0 r.id.0) (is_waiting_and_unblocked mode book y))
 
 -- a plain one that is clear has none ahead
-plain_first : (mode : QueueMode) (book : List Unanswered) (r : Unanswered) → is_unblocked mode book r ≡ true → is_plain mode r.op ≡ true → unblocked_ahead_count mode book r ≡ 0
+plain_first : (mode : QueueMode) (book : List Unanswered) (r : Unanswered) → is_waiting_and_unblocked mode book r ≡ true → is_plain mode r.op ≡ true → unblocked_ahead_count mode book r ≡ 0
 plain_first mode book r clear plain = count_none _ book (λ y k. false_from_ne_true _ (λ t.
-    let p = and_parts (is_earlier_on_port y r) (is_unblocked mode book y) t in
+    let p = and_parts (is_earlier_on_port y r) (is_waiting_and_unblocked mode book y) t in
     let q = and_parts (y.port.0 == r.port.0) (ltb y.id.0 r.id.0) p.0 in
     both_ways _ (unheld mode book r clear y (from_in y book k)) (holds_if mode r y q.0 q.1 (inl plain))))
 
 -- where a slot is free, one is due where it is clear and few enough are ahead
 due_by_rank : (mode : QueueMode) (book : List Unanswered) (n : ℕ) (o : Unanswered) → free_slots mode book o.port ≡ suc n
-    → is_due mode book o ≡ (is_unblocked mode book o && ltb (unblocked_ahead_count mode book o) (suc n))
-due_by_rank mode book n o free = go (is_unblocked mode book o) (is_plain mode o.op) refl refl
+    → is_due mode book o ≡ (is_waiting_and_unblocked mode book o && ltb (unblocked_ahead_count mode book o) (suc n))
+due_by_rank mode book n o free = go (is_waiting_and_unblocked mode book o) (is_plain mode o.op) refl refl
   where
-    go : (c p : Bool) → is_unblocked mode book o ≡ c → is_plain mode o.op ≡ p
-        → is_due mode book o ≡ (is_unblocked mode book o && ltb (unblocked_ahead_count mode book o) (suc n))
+    go : (c p : Bool) → is_waiting_and_unblocked mode book o ≡ c → is_plain mode o.op ≡ p
+        → is_due mode book o ≡ (is_waiting_and_unblocked mode book o && ltb (unblocked_ahead_count mode book o) (suc n))
     go false p e f = and_left _ _ e ∙ sym (and_left _ _ e)
-    go true false e f = ap (λ (x : Bool). is_unblocked mode book o && x)
+    go true false e f = ap (λ (x : Bool). is_waiting_and_unblocked mode book o && x)
         (ap (λ (x : Bool). x || ltb (unblocked_ahead_count mode book o) (free_slots mode book o.port)) f ∙ ap (λ (m : ℕ). ltb (unblocked_ahead_count mode book o) m) free)
-    go true true e f = ap (λ (x : Bool). is_unblocked mode book o && x)
+    go true true e f = ap (λ (x : Bool). is_waiting_and_unblocked mode book o && x)
         (or_left _ _ f ∙ sym (ap (λ (m : ℕ). ltb m (suc n)) (plain_first mode book o e f) ∙ lt-ltb 0 (suc n) (omega arith)))
 
 module _ (mode : QueueMode) (book : List Unanswered) (r : Unanswered) (order : Ordered book) (here : In r book) where
   less_due : due_ahead_count mode book r ≤ unblocked_ahead_count mode book r
   less_due = count_least
       (λ o. is_earlier_on_port o r && is_due mode book o)
-      (λ o. is_earlier_on_port o r && is_unblocked mode book o) book
-      (λ y k t. let a = and_parts (is_earlier_on_port y r) (is_due mode book y) t in and_from _ _ a.0 (and_parts (is_unblocked mode book y) _ a.1).0)
+      (λ o. is_earlier_on_port o r && is_waiting_and_unblocked mode book o) book
+      (λ y k t. let a = and_parts (is_earlier_on_port y r) (is_due mode book y) t in and_from _ _ a.0 (and_parts (is_waiting_and_unblocked mode book y) _ a.1).0)
 
   module _ (n : ℕ) (free : free_slots mode book r.port ≡ suc n) where
     due_one : (o : Unanswered) (b : Bool) → (o.port.0 == r.port.0) ≡ b
@@ -161,8 +161,8 @@ module _ (mode : QueueMode) (book : List Unanswered) (r : Unanswered) (order : O
         let rank' : unblocked_ahead_count mode book o ≡ rank (clear_of mode book r.port) book o = ahead_rank mode book o ∙ ap (λ (p : Port). rank (clear_of mode book p) book o) port in
         turn (o.port.0 == r.port.0) (ltb o.id.0 r.id.0) (is_due mode book o)
         ∙ ap (λ (x : Bool). ltb o.id.0 r.id.0 && x)
-        (ap (λ (x : Bool). (o.port.0 == r.port.0) && x) (due_by_rank mode book n o free' ∙ ap (λ (m : ℕ). is_unblocked mode book o && ltb m (suc n)) rank')
-        ∙ assoc (o.port.0 == r.port.0) (is_unblocked mode book o) _)
+        (ap (λ (x : Bool). (o.port.0 == r.port.0) && x) (due_by_rank mode book n o free' ∙ ap (λ (m : ℕ). is_waiting_and_unblocked mode book o && ltb m (suc n)) rank')
+        ∙ assoc (o.port.0 == r.port.0) (is_waiting_and_unblocked mode book o) _)
       where
         assoc : (a b c : Bool) → (a && (b && c)) ≡ ((a && b) && c)
         assoc true b c = refl
@@ -189,9 +189,9 @@ module _ (mode : QueueMode) (book : List Unanswered) (r : Unanswered) (order : O
           (cases_lt (unblocked_ahead_count mode book r) (suc n))
 
 -- a slot is left for a request whether those ahead are counted as clear or as due
-pub law_due_and_unblocked_ahead_agree : (mode : QueueMode) (book : List Unanswered) (r : Unanswered) → IsInOrder book → Contains book r
+pub law_counts_ahead_agree_on_slot_left : (mode : QueueMode) (book : List Unanswered) (r : Unanswered) → IsInOrder book → Contains book r
     → (unblocked_ahead_count mode book r < free_slots mode book r.port) ↔ (due_ahead_count mode book r < free_slots mode book r.port)
-law_due_and_unblocked_ahead_agree mode book r order here = (
+law_counts_ahead_agree_on_slot_left mode book r order here = (
   (λ lt. let le = less_due mode book r (ordered_from book order) (in_from book r here) in omega (arith, le, lt)),
   slot_by_due mode book r (ordered_from book order) (in_from book r here),
 )

@@ -10,8 +10,8 @@ use Rattle.ata_types.specs.declared.request.Op.TheVariants.{Read, Write, Trim, F
 use Rattle.ata_types.specs.declared.refusal.MemFault.TheVariants as fault
 use Rattle.block_machine.specs.Refusals.{MayAccessFrame}
 use Rattle.block_machine.specs.DueRequests.{changes_sectors}
-use Rattle.block_machine.specs.State.{Block, Memory, Accepted, Pending, Machine, block_of, frame_at, sector_of, is_reader}
-use Rattle.block_machine.specs.Steps.{Step, Accept, Issue, Touch, End, Age, WaitAgain, Answer, Revoke, Release, Unplug, Replace, Store, Load, IsEnabled, after_step, update_pending, HoldsFrames, MayStillMove, newly_issued, touch, mark_ended, requeued, aged_pending, newly_accepted, put_bytes, memory_after_touch}
+use Rattle.block_machine.specs.State.{Block, Memory, Accepted, Pending, Machine, block_of, nth_frame, sector_of, is_reader}
+use Rattle.block_machine.specs.Steps.{Step, Accept, Issue, Touch, End, Age, WaitAgain, Answer, Revoke, Release, Unplug, PlugDisk, Store, Load, IsEnabled, after_step, update_pending, IsInBookOrKept, MayStillMove, newly_issued, touch, mark_ended, requeued, aged_pending, newly_accepted, put_bytes, memory_after_touch}
 use Rattle.block_machine.specs.Expected.{plug_count, IsTouch, touches_sector, disk_number_read, ChangedSector, IsLastWrittenOrPluggedIn, IsExpectedBlock, StepIsFaithful}
 use Rattle.block_machine.proofs.Members.{map_in, at_cases, without_in, append_in}
 use Rattle.block_machine.proofs.Sound.{Sound, KeepsRequest}
@@ -98,16 +98,16 @@ put_same f update_pending n b bytes memory lt =
     ∙ ap bytes (let e : update_pending + b - update_pending ≡ b = omega arith in e)
 
 -- places of different sectors, of one request or of two, don't meet
-place_apart : (m : Machine) → Sound m → (e o : Pending) → HoldsFrames m e → HoldsFrames m o → (i k b : ℕ) → i < 8 * length e.request.asked.frames.items → k < 8 * length o.request.asked.frames.items → b < 512
+place_apart : (m : Machine) → Sound m → (e o : Pending) → IsInBookOrKept m e → IsInBookOrKept m o → (i k b : ℕ) → i < 8 * length e.request.asked.frames.items → k < 8 * length o.request.asked.frames.items → b < 512
     → (e.request.id.0 ≡ o.request.id.0 → i ≡ k → ⊥)
-    → frame_at e.request.asked.frames.items (i / 8) ≡ frame_at o.request.asked.frames.items (k / 8) → 512 * (i % 8) ≤ 512 * (k % 8) + b → 512 * (k % 8) + b < 512 * (i % 8) + 512 → ⊥
+    → nth_frame e.request.asked.frames.items (i / 8) ≡ nth_frame o.request.asked.frames.items (k / 8) → 512 * (i % 8) ≤ 512 * (k % 8) + b → 512 * (k % 8) + b < 512 * (i % 8) + 512 → ⊥
 place_apart m s e o le lo i k b li lk lb differ frame low high =
     let ie : i / 8 < length e.request.asked.frames.items = omega arith in
     let ko : k / 8 < length o.request.asked.frames.items = omega arith in
     let id : e.request.id.0 ≡ o.request.id.0 = some_id (sym (s.lent e le (i / 8) ie) ∙ ap m.lent frame ∙ s.lent o lo (k / 8) ko) in
     let request : e.request ≡ o.request = lives_one m s e o le lo id in
     let frames : e.request.asked.frames.items ≡ o.request.asked.frames.items = ap (λ (j : Accepted). j.asked.frames.items) request in
-    let frame' : frame_at e.request.asked.frames.items (i / 8) ≡ frame_at e.request.asked.frames.items (k / 8) = frame ∙ ap (λ (xs : List Frame). frame_at xs (k / 8)) (sym frames) in
+    let frame' : nth_frame e.request.asked.frames.items (i / 8) ≡ nth_frame e.request.asked.frames.items (k / 8) = frame ∙ ap (λ (xs : List Frame). nth_frame xs (k / 8)) (sym frames) in
     let ke : k / 8 < length e.request.asked.frames.items = subst (λ (xs : List Frame). k / 8 < length xs) (sym frames) ko in
     ⊎_elim
     (λ (same : i / 8 ≡ k / 8). differ id (omega (arith, same, low, high, lb)))
@@ -120,28 +120,28 @@ place_apart m s e o le lo i k b li lk lb differ frame low high =
     some_id {a} {b} p = let e : a ≡ b = cc in ap (λ (i : RequestId). i.0) e
 
 -- a touch leaves the places of other sectors alone
-pub memory_touch : (m : Machine) → Sound m → (e o : Pending) → MayStillMove m e → HoldsFrames m o → (i : ℕ) (block : Block) (k b : ℕ) → i < e.request.asked.count → k < 8 * length o.request.asked.frames.items → b < 512
+pub memory_touch : (m : Machine) → Sound m → (e o : Pending) → MayStillMove m e → IsInBookOrKept m o → (i : ℕ) (block : Block) (k b : ℕ) → i < e.request.asked.count → k < 8 * length o.request.asked.frames.items → b < 512
     → (is_reader e.request.asked.op ≡ true → e.request.id.0 ≡ o.request.id.0 → i ≡ k → ⊥)
     → block_of (memory_after_touch e.request i block m.memory) o.request.asked.frames.items k b ≡ block_of m.memory o.request.asked.frames.items k b
 memory_touch m s e o r lo i block k b li lk lb differ = by_op (is_reader e.request.asked.op) refl
   where
     by_op : (t : Bool) → is_reader e.request.asked.op ≡ t → block_of (memory_after_touch e.request i block m.memory) o.request.asked.frames.items k b ≡ block_of m.memory o.request.asked.frames.items k b
     by_op false t = ap (λ (x : Memory). block_of x o.request.asked.frames.items k b)
-        (cond-false (is_reader e.request.asked.op) (put_bytes (frame_at e.request.asked.frames.items (i / 8)) (512 * (i % 8)) 512 block m.memory) m.memory t)
+        (cond-false (is_reader e.request.asked.op) (put_bytes (nth_frame e.request.asked.frames.items (i / 8)) (512 * (i % 8)) 512 block m.memory) m.memory t)
     by_op true t =
         let room = s.room e (runs_lives m e r) t in
         let li' : i < 8 * length e.request.asked.frames.items = omega (arith, room, li) in
         ap (λ (x : Memory). block_of x o.request.asked.frames.items k b)
-        (cond-true (is_reader e.request.asked.op) (put_bytes (frame_at e.request.asked.frames.items (i / 8)) (512 * (i % 8)) 512 block m.memory) m.memory t)
-        ∙ put_other (frame_at e.request.asked.frames.items (i / 8)) (frame_at o.request.asked.frames.items (k / 8)) (512 * (i % 8)) (512 * (k % 8) + b) 512 block m.memory
+        (cond-true (is_reader e.request.asked.op) (put_bytes (nth_frame e.request.asked.frames.items (i / 8)) (512 * (i % 8)) 512 block m.memory) m.memory t)
+        ∙ put_other (nth_frame e.request.asked.frames.items (i / 8)) (nth_frame o.request.asked.frames.items (k / 8)) (512 * (i % 8)) (512 * (k % 8) + b) 512 block m.memory
         (λ same low high. place_apart m s e o (runs_lives m e r) lo i k b li' lk lb (differ t) same low high)
 
 memory_own : (m : Machine) (e : Pending) (i : ℕ) (block : Block) (b : ℕ) → is_reader e.request.asked.op ≡ true → b < 512
     → block_of (memory_after_touch e.request i block m.memory) e.request.asked.frames.items i b ≡ block b
 memory_own m e i block b t lb =
     ap (λ (x : Memory). block_of x e.request.asked.frames.items i b)
-    (cond-true (is_reader e.request.asked.op) (put_bytes (frame_at e.request.asked.frames.items (i / 8)) (512 * (i % 8)) 512 block m.memory) m.memory t)
-    ∙ put_same (frame_at e.request.asked.frames.items (i / 8)) (512 * (i % 8)) 512 b block m.memory lb
+    (cond-true (is_reader e.request.asked.op) (put_bytes (nth_frame e.request.asked.frames.items (i / 8)) (512 * (i % 8)) 512 block m.memory) m.memory t)
+    ∙ put_same (nth_frame e.request.asked.frames.items (i / 8)) (512 * (i % 8)) 512 b block m.memory lb
 
 -- a frame that a client may use is lent to none
 pub open_unlent : (m : Machine) (client : ClientId) (frame : Frame) (offset count : ℕ) → MayAccessFrame m.owner m.lent client frame offset count → m.lent frame ≡ None
@@ -152,10 +152,10 @@ open_unlent m client frame offset count free = none_from (m.lent frame) (free fa
     none_from (Some id) h = absurd (h refl)
 
 -- a store leaves lent frames alone
-pub memory_store : (m : Machine) → Sound m → (o : Pending) → HoldsFrames m o → (client : ClientId) (frame : Frame) (offset : ℕ) (bytes : List ℕ) → MayAccessFrame m.owner m.lent client frame offset (length bytes) → (k b : ℕ) → k < 8 * length o.request.asked.frames.items
+pub memory_store : (m : Machine) → Sound m → (o : Pending) → IsInBookOrKept m o → (client : ClientId) (frame : Frame) (offset : ℕ) (bytes : List ℕ) → MayAccessFrame m.owner m.lent client frame offset (length bytes) → (k b : ℕ) → k < 8 * length o.request.asked.frames.items
     → block_of (put_bytes frame offset (length bytes) (slice_index bytes) m.memory) o.request.asked.frames.items k b ≡ block_of m.memory o.request.asked.frames.items k b
 memory_store m s o lo client frame offset bytes free k b lk =
-    put_other frame (frame_at o.request.asked.frames.items (k / 8)) offset (512 * (k % 8) + b) (length bytes) (slice_index bytes) m.memory
+    put_other frame (nth_frame o.request.asked.frames.items (k / 8)) offset (512 * (k % 8) + b) (length bytes) (slice_index bytes) m.memory
     (λ same _ _. none_some (sym (open_unlent m client frame offset (length bytes) free) ∙ ap m.lent same ∙ s.lent o lo (k / 8) (omega arith)))
   where
     none_some : {a : RequestId} → None ≡ Some a → ⊥
@@ -316,8 +316,8 @@ good_step start h m Release may told s seen holds g = quiet_good start h m (afte
     (traced_same m (after_step m Release) refl) (λ o ho i b li lb. refl) (λ id k. refl) (λ w k t. t) g
 good_step start h m (Unplug port) may told s seen holds g = quiet_good start h m (after_step m (Unplug port)) (Unplug port) s
     (traced_same m (after_step m (Unplug port)) refl) (λ o ho i b li lb. refl) (λ id k. refl) (λ w k t. t) g
-good_step start h m (Replace port id size disk) may told s seen holds g = quiet_good start h m (after_step m (Replace port id size disk)) (Replace port id size disk) s
-    (traced_same m (after_step m (Replace port id size disk)) refl) (λ o ho i b li lb. refl) (λ id k. refl) (λ w k t. t) g
+good_step start h m (PlugDisk port id size disk) may told s seen holds g = quiet_good start h m (after_step m (PlugDisk port id size disk)) (PlugDisk port id size disk) s
+    (traced_same m (after_step m (PlugDisk port id size disk)) refl) (λ o ho i b li lb. refl) (λ id k. refl) (λ w k t. t) g
 good_step start h m (Store client frame offset bytes) may told s seen holds g = quiet_good start h m (after_step m (Store client frame offset bytes)) (Store client frame offset bytes) s
     (traced_same m (after_step m (Store client frame offset bytes)) refl) (λ o ho i b li lb. memory_store m s o (inl ho) client frame offset bytes may i b li) (λ id k. refl) (λ w k t. t) g
 good_step start h m (Load client frame offset bytes) may told s seen holds g = quiet_good start h m (after_step m (Load client frame offset bytes)) (Load client frame offset bytes) s

@@ -4,7 +4,7 @@ use Rattle.std.specs.List.{Contains}
 use Rattle.ata_types.specs.declared.request.Op.{Op}
 use Rattle.ata_types.specs.declared.request.Op.TheVariants.{Read}
 use Rattle.block_machine.specs.State.{Pending, Machine, is_reader}
-use Rattle.block_machine.specs.Steps.{Step, IsEnabled, AllTouched, HoldsFrames}
+use Rattle.block_machine.specs.Steps.{Step, IsEnabled, AllTouched, IsInBookOrKept}
 use Rattle.block_machine.specs.Expected.{after, IsLegal, IsInitial, HoldsExpected, IsTouch, HasTouched, AllStepsFaithful}
 use Rattle.block_machine.proofs.Members.{contains_none}
 use Rattle.block_machine.proofs.Sound.{Sound}
@@ -21,7 +21,7 @@ pub record Traced (start : Machine) (h : List Step) : Type 0 where
   pub holds : Holds start h (after start h)
   pub held : AllHeld (after start h)
 
-pub nobody : (m : Machine) → IsInitial m → (e : Pending) → HoldsFrames m e → ⊥
+pub nobody : (m : Machine) → IsInitial m → (e : Pending) → IsInBookOrKept m e → ⊥
 nobody m s e (inl i) = contains_none e (subst (λ (es : List Pending). Contains es e) s.book_is_empty i)
 nobody m s e (inr i) = contains_none e (subst (λ (es : List Pending). Contains es e) s.none_is_kept i)
 

@@ -3,6 +3,7 @@ use Rattle.std.proofs.Common.{◌≡◌, ◌≢◌, ℕ, ◌+◌, ◌^◌, ◌<�
 use Rattle.std.proofs.lemmas.List.Kept.{AllPairs-cons}
 use Rattle.std.specs.List.{Contains, AllPairs}
 use Rattle.std.specs.Prelude.{nat_le, nat_lt, slice_index_or}
+use Rattle.ata_types.specs.declared.limits.TheConstants.{MOST_UNANSWERED_OF_A_CLIENT}
 use Rattle.ata_types.specs.declared.Port.{Port}
 use Rattle.ata_types.specs.declared.PortState.TheVariants.{Ready}
 use Rattle.ata_types.specs.declared.request.ClientId.{ClientId}
@@ -141,7 +142,7 @@ pub record IsFit (n : ℕ) (s : AdmissionContext) (r : Request) : Type 0 where
   pub ready : s.state (on n) ≡ Ready
   pub on_disk : r.op ≢ Flush → r.first.0 + r.count ≤ s.sectors (on n)
   pub no_trim : r.op ≢ Trim
-  pub few : s.unanswered_count client < 16
+  pub few : s.unanswered_count client < MOST_UNANSWERED_OF_A_CLIENT
   pub ids : s.next_id < 2 ^ 64
 
 pub acceptable : (n : ℕ) (s : AdmissionContext) (r : Request) → IsFit n s r → IsAcceptable s r
@@ -158,6 +159,6 @@ acceptable n s r fit = fit_acceptable (row n) s r (record {
   ready = fit.ready;
   on_disk = fit.on_disk;
   no_trim = fit.no_trim;
-  few = subst (λ (c : ClientId). s.unanswered_count c < 16) (sym fit.client_is) fit.few;
+  few = subst (λ (c : ClientId). s.unanswered_count c < MOST_UNANSWERED_OF_A_CLIENT) (sym fit.client_is) fit.few;
   ids = fit.ids;
 })

@@ -2,10 +2,10 @@
 -- what its places hold.
 use Rattle.std.proofs.Common.{◌≡◌, ℕ, ◌/◌, ◌<◌, List, length, Some, sym, subst}
 use Rattle.ata_types.specs.declared.request.Op.TheVariants.{Flush}
-use Rattle.block_machine.specs.State.{Pending, Machine, frame_at}
+use Rattle.block_machine.specs.State.{Pending, Machine, nth_frame}
 use Rattle.block_machine.specs.Steps.{Step, MayStillMove}
 use Rattle.block_machine.specs.Expected.{after, IsLegal, IsInitial}
-use Rattle.block_machine.specs.Confinement.{MovesBytes, FramesAreAsAcceptedButReadSectors}
+use Rattle.block_machine.specs.Confinement.{MovesBytes, FramesAreAsAcceptedOutsideReadRange}
 use Rattle.block_machine.specs.Histories.{IsReachable}
 use Rattle.block_machine.proofs.Sound.{Sound}
 use Rattle.block_machine.proofs.Trace.{runs_lives}
@@ -15,8 +15,8 @@ use Rattle.block_machine.proofs.Accepts.{living_accepted, was_new, has_frame, fl
 pub record Standing (m : Machine) : Type 0 where
   pub sound : Sound m
   pub framed : (e : Pending) → MayStillMove m e → MovesBytes e.request.asked.op → (i : ℕ) → i < e.request.asked.count → i / 8 < length e.request.asked.frames.items
-  pub lent : (e : Pending) → MayStillMove m e → (i : ℕ) → i < length e.request.asked.frames.items → m.lent (frame_at e.request.asked.frames.items i) ≡ Some e.request.id
-  pub held : (e : Pending) → MayStillMove m e → FramesAreAsAcceptedButReadSectors m e.request
+  pub lent : (e : Pending) → MayStillMove m e → (i : ℕ) → i < length e.request.asked.frames.items → m.lent (nth_frame e.request.asked.frames.items i) ≡ Some e.request.id
+  pub held : (e : Pending) → MayStillMove m e → FramesAreAsAcceptedOutsideReadRange m e.request
   pub flush : (e : Pending) → MayStillMove m e → e.request.asked.op ≡ Flush → e.request.asked.count ≡ 0
 
 standing_at : (start : Machine) (h : List Step) → IsInitial start → IsLegal start h → Standing (after start h)

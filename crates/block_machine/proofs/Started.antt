@@ -3,7 +3,7 @@ use Rattle.std.proofs.Common.{◌≡◌, true, [], ◌∷◌, List, inl, inr, �
 use Rattle.std.proofs.lemmas.Bool.{false≢true}
 use Rattle.std.specs.List.{Contains}
 use Rattle.block_machine.specs.State.{Pending, Machine}
-use Rattle.block_machine.specs.Steps.{Step, Accept, Issue, Touch, End, Age, WaitAgain, Answer, Revoke, Release, Unplug, Replace, Store, Load, IsEnabled, MayStillMove, after_step, newly_issued, touch, mark_ended, requeued, aged_pending, newly_accepted}
+use Rattle.block_machine.specs.Steps.{Step, Accept, Issue, Touch, End, Age, WaitAgain, Answer, Revoke, Release, Unplug, PlugDisk, Store, Load, IsEnabled, MayStillMove, after_step, newly_issued, touch, mark_ended, requeued, aged_pending, newly_accepted}
 use Rattle.block_machine.specs.Expected.{after, IsLegal, IsInitial}
 use Rattle.block_machine.specs.Histories.{IsReachable}
 use Rattle.block_machine.proofs.Keeps.{older_ended, older_issued}
@@ -58,7 +58,7 @@ started_step m (Answer p o) may s all e h = all e (without_in p.request.id m.boo
 started_step m (Revoke client number) may s all e h = all e h
 started_step m Release may s all e h = all e h
 started_step m (Unplug p) may s all e h = all e h
-started_step m (Replace p id size disk) may s all e h = all e h
+started_step m (PlugDisk p id size disk) may s all e h = all e h
 started_step m (Store c f o b) may s all e h = all e h
 started_step m (Load c f o b) may s all e h = all e h
 

@@ -4,8 +4,8 @@ use Rattle.std.proofs.lemmas.Bool.{or_right, and_from, and_right, cond-false}
 use Rattle.std.specs.List.{Contains}
 use Rattle.ata_types.specs.declared.Port.{Port}
 use Rattle.block_machine.specs.State.{Block, DiskBytes, Accepted, Pending, Machine, newly_unanswered, sector_of}
-use Rattle.block_machine.specs.DueRequests.{are_conflicting, changes_sectors}
-use Rattle.block_machine.specs.Steps.{Step, Accept, Issue, Touch, End, Age, WaitAgain, Answer, Revoke, Release, Unplug, Replace, Store, Load, IsEnabled, MayAccept, after_step, update_pending, HoldsFrames, MayStillMove, newly_issued, touch, mark_ended, requeued, aged_pending, newly_accepted}
+use Rattle.block_machine.specs.DueRequests.{conflict_by_flush_or_overlap, changes_sectors}
+use Rattle.block_machine.specs.Steps.{Step, Accept, Issue, Touch, End, Age, WaitAgain, Answer, Revoke, Release, Unplug, PlugDisk, Store, Load, IsEnabled, MayAccept, after_step, update_pending, IsInBookOrKept, MayStillMove, newly_issued, touch, mark_ended, requeued, aged_pending, newly_accepted}
 use Rattle.block_machine.specs.Expected.{IsAccept, plugs_disk, plugged_disk, plug_count, bytes_when_plugged, IsTouch, touches_sector, HasTouched, disk_number_read, ChangedSector, IsLastWrittenOrPluggedIn}
 use Rattle.block_machine.proofs.Members.{contains_none, contains_cases, map_in, without_in, append_in}
 use Rattle.block_machine.proofs.Sound.{Sound, KeepsRequest}
@@ -18,7 +18,7 @@ moved f es k a h = let r = map_in f es a h in (r.0, r.1, ap (λ (x : Pending). x
 
 -- a request that lived before with the same request
 abbrev pub Before : Machine → Pending → Type 0
-Before m a = (o : Pending) × HoldsFrames m o × (a.request ≡ o.request)
+Before m a = (o : Pending) × IsInBookOrKept m o × (a.request ≡ o.request)
 
 in_book : (m : Machine) (a : Pending) → (o : Pending) × Contains m.book o × (a.request ≡ o.request) → Before m a
 in_book m a r = (r.0, inl r.1, r.2)
@@ -26,10 +26,10 @@ in_book m a r = (r.0, inl r.1, r.2)
 in_kept : (m : Machine) (a : Pending) → (o : Pending) × Contains m.kept o × (a.request ≡ o.request) → Before m a
 in_kept m a r = (r.0, inr r.1, r.2)
 
-same_before : (m : Machine) (a : Pending) → HoldsFrames m a → Before m a
+same_before : (m : Machine) (a : Pending) → IsInBookOrKept m a → Before m a
 same_before m a l = (a, l, refl)
 
-kept_then : (m : Machine) (e a : Pending) (b : Bool) → Contains m.book e → Contains (cond b (e ∷ m.kept) m.kept) a → HoldsFrames m a
+kept_then : (m : Machine) (e a : Pending) (b : Bool) → Contains m.book e → Contains (cond b (e ∷ m.kept) m.kept) a → IsInBookOrKept m a
 kept_then m e a true h i = ⊎_elim (λ p. inl (subst (λ (y : Pending). Contains m.book y) (sym p) h)) (λ j. inr j) (contains_cases e m.kept a i)
 kept_then m e a false h i = inr i
 
@@ -37,7 +37,7 @@ kept_then m e a false h i = inr i
 abbrev pub Comes : Machine → Step → Accepted → Type 0
 Comes m step r = IsAccept step r × MayAccept m r
 
-pub lives_before : (m : Machine) (step : Step) → IsEnabled m step → (a : Pending) → HoldsFrames (after_step m step) a → Before m a ⊎ Comes m step a.request
+pub lives_before : (m : Machine) (step : Step) → IsEnabled m step → (a : Pending) → IsInBookOrKept (after_step m step) a → Before m a ⊎ Comes m step a.request
 lives_before m (Accept request) may a (inl h) = ⊎_elim (λ i. inl (same_before m a (inl i))) (λ p. inr (ap (λ (y : Pending). y.request) (sym p), subst (λ (y : Pending). MayAccept m y.request) (sym p) may)) (append_in m.book (newly_accepted request) a h)
 lives_before m (Accept request) may a (inr h) = inl (same_before m a (inr h))
 lives_before m (Issue mode e) may a (inl h) = inl (in_book m a (moved (update_pending e.request.id newly_issued) m.book (at_keeps e.request.id newly_issued (λ x. refl)) a h))
@@ -56,7 +56,7 @@ lives_before m (Revoke client number) may a h = inl (same_before m a h)
 lives_before m Release may a (inl h) = inl (same_before m a (inl h))
 lives_before m Release may a (inr h) = absurd (contains_none a h)
 lives_before m (Unplug port) may a h = inl (same_before m a h)
-lives_before m (Replace port id size disk) may a h = inl (same_before m a h)
+lives_before m (PlugDisk port id size disk) may a h = inl (same_before m a h)
 lives_before m (Store client frame offset bytes) may a h = inl (same_before m a h)
 lives_before m (Load client frame offset bytes) may a h = inl (same_before m a h)
 
@@ -65,22 +65,22 @@ next_grows m (Accept request) = omega arith
 next_grows m _ = le_refl _
 
 -- one living request has each id
-pub living_one : (m : Machine) → Sound m → (a b : Pending) → HoldsFrames m a → HoldsFrames m b → a.request.id.0 ≡ b.request.id.0 → a ≡ b
+pub living_one : (m : Machine) → Sound m → (a b : Pending) → IsInBookOrKept m a → IsInBookOrKept m b → a.request.id.0 ≡ b.request.id.0 → a ≡ b
 living_one m s a b (inl i) (inl j) eq = s.one a b i j eq
 living_one m s a b (inl i) (inr j) eq = absurd (s.apart a b i j eq)
 living_one m s a b (inr i) (inl j) eq = absurd (s.apart b a j i (sym eq))
 living_one m s a b (inr i) (inr j) eq = s.kept_one a b i j eq
 
-pub lives_one : (m : Machine) → Sound m → (a b : Pending) → HoldsFrames m a → HoldsFrames m b → a.request.id.0 ≡ b.request.id.0 → a.request ≡ b.request
+pub lives_one : (m : Machine) → Sound m → (a b : Pending) → IsInBookOrKept m a → IsInBookOrKept m b → a.request.id.0 ≡ b.request.id.0 → a.request ≡ b.request
 lives_one m s a b i j eq = ap (λ (x : Pending). x.request) (living_one m s a b i j eq)
 
-pub runs_lives : (m : Machine) (e : Pending) → MayStillMove m e → HoldsFrames m e
+pub runs_lives : (m : Machine) (e : Pending) → MayStillMove m e → IsInBookOrKept m e
 runs_lives m e (inl h) = inl h.0
 runs_lives m e (inr h) = inr h
 
 -- two requests of a port with a sector in common, one of which writes, conflict
 pub conflict_at : (a b : Accepted) (k : ℕ) → a.port ≡ b.port → (changes_sectors a.asked.op || changes_sectors b.asked.op) ≡ true
-    → a.asked.first.0 ≤ k → k < a.asked.first.0 + a.asked.count → b.asked.first.0 ≤ k → k < b.asked.first.0 + b.asked.count → are_conflicting (newly_unanswered a) (newly_unanswered b) ≡ true
+    → a.asked.first.0 ≤ k → k < a.asked.first.0 + a.asked.count → b.asked.first.0 ≤ k → k < b.asked.first.0 + b.asked.count → conflict_by_flush_or_overlap (newly_unanswered a) (newly_unanswered b) ≡ true
 conflict_at a b k port w al ah bl bh =
     and_from _ _ (eq-eqb a.port.0 b.port.0 (ap (λ (p : Port). p.0) port)) (or_right _ _ (and_from _ _ w
     (and_from _ _ (and_from _ _ (lt-ltb a.asked.first.0 (b.asked.first.0 + b.asked.count) (omega arith)) (lt-ltb b.asked.first.0 (a.asked.first.0 + a.asked.count) (omega arith)))
@@ -91,8 +91,8 @@ pub record Seen (m : Machine) (w : Accepted) (k : ℕ) : Type 0 where
   pub below : w.id.0 < m.next_id
   pub from : w.asked.first.0 ≤ k
   pub to : k < w.asked.first.0 + w.asked.count
-  pub one : (a : Pending) → HoldsFrames m a → a.request.id.0 ≡ w.id.0 → a.request ≡ w
-  pub order : (a : Pending) → HoldsFrames m a → a.request.id.0 < w.id.0 → are_conflicting (newly_unanswered a.request) (newly_unanswered w) ≡ true → ⊥
+  pub one : (a : Pending) → IsInBookOrKept m a → a.request.id.0 ≡ w.id.0 → a.request ≡ w
+  pub order : (a : Pending) → IsInBookOrKept m a → a.request.id.0 < w.id.0 → conflict_by_flush_or_overlap (newly_unanswered a.request) (newly_unanswered w) ≡ true → ⊥
 
 pub seen_step : (m : Machine) (step : Step) → IsEnabled m step → (w : Accepted) (k : ℕ) → Seen m w k → Seen (after_step m step) w k
 seen_step m step may w k s = record {
@@ -104,7 +104,7 @@ seen_step m step may w k s = record {
       (λ (p : Comes m step a.request). let b = s.below in let q = p.1.id_is_next in absurd (omega (arith, b, q, eq)))
       (lives_before m step may a l);
   order = λ a l lt con. ⊎_elim
-      (λ r. s.order r.0 r.1 (subst (λ (j : Accepted). j.id.0 < w.id.0) r.2 lt) (subst (λ (j : Accepted). are_conflicting (newly_unanswered j) (newly_unanswered w) ≡ true) r.2 con))
+      (λ r. s.order r.0 r.1 (subst (λ (j : Accepted). j.id.0 < w.id.0) r.2 lt) (subst (λ (j : Accepted). conflict_by_flush_or_overlap (newly_unanswered j) (newly_unanswered w) ≡ true) r.2 con))
       (λ (p : Comes m step a.request). let b = s.below in let q = p.1.id_is_next in omega (arith, b, q, lt))
       (lives_before m step may a l);
 }

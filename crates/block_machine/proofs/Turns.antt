@@ -8,7 +8,7 @@ use Rattle.ata_types.specs.declared.Port.{Port}
 use Rattle.ata_types.specs.declared.request.RequestId.{RequestId}
 use Rattle.block_machine.specs.declared.due.QueueMode.{QueueMode}
 use Rattle.block_machine.specs.declared.due.Unanswered.{Unanswered}
-use Rattle.block_machine.specs.DueRequests.{IsDue, IsInOrder, waits_for, is_plain, is_earlier_on_port, is_unblocked, unblocked_ahead_count, issued_count, free_slots, is_due, mark_issued, with_issued, mark_waiting, with_waiting, without_request, requests_of_port, due_of, AreAllDueInOrder}
+use Rattle.block_machine.specs.DueRequests.{IsDue, IsInOrder, waits_for, is_plain, is_earlier_on_port, is_waiting_and_unblocked, unblocked_ahead_count, issued_count, free_slots, is_due, mark_issued, with_issued, mark_waiting, with_waiting, without_request, requests_of_port, due_of, AreAllDueInOrder}
 use Rattle.block_machine.proofs.Members.{into_map}
 use Rattle.block_machine.proofs.Order.{In, Ordered, in_from, from_in, ordered_from}
 use Rattle.block_machine.proofs.Counting.{count_cons}
@@ -233,12 +233,12 @@ module _ (mode : QueueMode) (port : Port) (book : List Unanswered) where
   abbrev own : Unanswered → Bool
   own x = x.port.0 == port.0
 
-  clear_own : (r : Unanswered) → r.port ≡ port → is_unblocked mode book r ≡ is_unblocked mode (requests_of_port port book) r
+  clear_own : (r : Unanswered) → r.port ≡ port → is_waiting_and_unblocked mode book r ≡ is_waiting_and_unblocked mode (requests_of_port port book) r
   clear_own r its = ap (λ (b : Bool). not r.issued && not b)
       (any_own own (waits_for mode r) (λ x other. and_left _ _ (ap (λ (p : Port). x.port.0 == p.0) its ∙ other)) book)
 
   ahead_own : (r : Unanswered) → r.port ≡ port → unblocked_ahead_count mode book r ≡ unblocked_ahead_count mode (requests_of_port port book) r
-  ahead_own r its = count_own own (λ o. is_earlier_on_port o r && is_unblocked mode book o) (λ o. is_earlier_on_port o r && is_unblocked mode (requests_of_port port book) o)
+  ahead_own r its = count_own own (λ o. is_earlier_on_port o r && is_waiting_and_unblocked mode book o) (λ o. is_earlier_on_port o r && is_waiting_and_unblocked mode (requests_of_port port book) o)
       (λ x other. and_left _ _ (and_left _ _ (ap (λ (p : Port). x.port.0 == p.0) its ∙ other)))
       (λ x mine. ap (λ (b : Bool). is_earlier_on_port x r && b) (clear_own x (same_port x.port port (eqb-true x.port.0 port.0 mine))))
       book
@@ -251,8 +251,8 @@ module _ (mode : QueueMode) (port : Port) (book : List Unanswered) where
       let free : free_slots mode book r.port ≡ free_slots mode (requests_of_port port book) r.port =
       ap (λ (p : Port). free_slots mode book p) its ∙ (ap (λ (n : ℕ). mode.usable_slots - n) issued_own ∙ ap (λ (p : Port). free_slots mode (requests_of_port port book) p) (sym its)) in
       ap (λ (b : Bool). b && (is_plain mode r.op || nat_lt (unblocked_ahead_count mode book r) (free_slots mode book r.port))) (clear_own r its)
-      ∙ (ap (λ (n : ℕ). is_unblocked mode (requests_of_port port book) r && (is_plain mode r.op || nat_lt n (free_slots mode book r.port))) (ahead_own r its)
-      ∙ ap (λ (n : ℕ). is_unblocked mode (requests_of_port port book) r && (is_plain mode r.op || nat_lt (unblocked_ahead_count mode (requests_of_port port book) r) n)) free)
+      ∙ (ap (λ (n : ℕ). is_waiting_and_unblocked mode (requests_of_port port book) r && (is_plain mode r.op || nat_lt n (free_slots mode book r.port))) (ahead_own r its)
+      ∙ ap (λ (n : ℕ). is_waiting_and_unblocked mode (requests_of_port port book) r && (is_plain mode r.op || nat_lt (unblocked_ahead_count mode (requests_of_port port book) r) n)) free)
 
   due_of_own : due_of mode port book ≡ filter (is_due mode (requests_of_port port book)) (requests_of_port port book)
   due_of_own = filter_both own (is_due mode book) (is_due mode (requests_of_port port book)) (λ x mine. due_is_own x (same_port x.port port (eqb-true x.port.0 port.0 mine))) book

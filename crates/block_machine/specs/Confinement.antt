@@ -7,13 +7,13 @@ use Rattle.ata_types.specs.declared.request.Op.{Op}
 use Rattle.ata_types.specs.declared.request.Op.TheVariants.{Read, Write, Flush}
 use Rattle.ata_types.specs.declared.grant.GrantRow.{GrantRow}
 use Rattle.ata_types.specs.SectorGrants.{AllowsOp, CoversSectors}
-use Rattle.ata_types.specs.declared.limits.TheConstants.{MOST_UNANSWERED}
+use Rattle.ata_types.specs.declared.limits.TheConstants.{MOST_UNANSWERED_OF_ALL_CLIENTS, MOST_UNANSWERED_OF_A_CLIENT}
 use Rattle.ata_types.specs.declared.refusal.Rule.{Rule}
 use Rattle.ata_types.specs.declared.refusal.Rule.TheVariants.{Frames}
 use Rattle.block_machine.specs.Rules.{IsNamed, Breaks}
 use Rattle.block_machine.specs.DueRequests.{changes_sectors}
-use Rattle.block_machine.specs.State.{Accepted, Pending, Machine, block_of, frame_at, sector_of, is_reader}
-use Rattle.block_machine.specs.Steps.{Step, Touch, Replace, Store, MayAccept, HoldsFrames, unanswered_count}
+use Rattle.block_machine.specs.State.{Accepted, Pending, Machine, block_of, nth_frame, sector_of, is_reader}
+use Rattle.block_machine.specs.Steps.{Step, Touch, PlugDisk, Store, MayAccept, IsInBookOrKept, unanswered_count}
 use Rattle.block_machine.specs.Expected.{after, IsAccept}
 
 -- a row of the client grants the request: its port, its operation, and, but for a flush, its sectors
@@ -41,7 +41,8 @@ IsNotOnFrames _ = Unit {0}
 -- A request that is issued breaks none of these rules, by the rows as they are then; and its frames are lent to it.
 pub record KeepsNonFrameRulesAndHoldsFrames (m : Machine) (r : Accepted) : Type 0 where
   pub breaks_none_not_on_frames : (rule : Rule) → IsNotOnFrames rule → Breaks m.rows m.owner m.lent r.asked rule → ⊥
-  pub frames_are_lent : (i : ℕ) → i < length r.asked.frames.items → m.lent (frame_at r.asked.frames.items i) ≡ Some r.id
+  pub frames_are_lent : (i : ℕ) → i < length r.asked.frames.items → m.lent (nth_frame r.asked.frames.items i)
+      ≡ Some r.id
 
 -- the operation moves bytes between disk and frames
 abbrev pub MovesBytes : Op → Type 0
@@ -55,16 +56,16 @@ pub record IsConfined (start : Machine) (history : List Step) (r : Accepted) (i 
   pub was_accepted : WasAccepted start history r
   pub number_is_in_range : i < r.asked.count
   pub has_frame : MovesBytes r.asked.op → i / 8 < length r.asked.frames.items
-  pub frame_is_lent : MovesBytes r.asked.op → (after start history).lent (frame_at r.asked.frames.items (i / 8))
+  pub frame_is_lent : MovesBytes r.asked.op → (after start history).lent (nth_frame r.asked.frames.items (i / 8))
       ≡ Some r.id
 
 -- the frame is one of the request's
 abbrev pub HasFrame : Accepted → Frame → Type 0
-HasFrame r frame = (i : ℕ) × (i < length r.asked.frames.items) × (frame_at r.asked.frames.items i ≡ frame)
+HasFrame r frame = (i : ℕ) × (i < length r.asked.frames.items) × (nth_frame r.asked.frames.items i ≡ frame)
 
 -- The frames hold what they held at acceptance, but for the sectors of a read: so a write's hold its bytes.
-abbrev pub FramesAreAsAcceptedButReadSectors : Machine → Accepted → Type 0
-FramesAreAsAcceptedButReadSectors m r = (i b : ℕ) → (is_reader r.asked.op ≡ true → r.asked.count ≤ i)
+abbrev pub FramesAreAsAcceptedOutsideReadRange : Machine → Accepted → Type 0
+FramesAreAsAcceptedOutsideReadRange m r = (i b : ℕ) → (is_reader r.asked.op ≡ true → r.asked.count ≤ i)
     → i < 8 * length r.asked.frames.items
     → b < 512 → block_of m.memory r.asked.frames.items i b ≡ r.blocks_at_acceptance i b
 
@@ -72,20 +73,21 @@ FramesAreAsAcceptedButReadSectors m r = (i b : ℕ) → (is_reader r.asked.op �
 -- most four times, and once at least where it is issued; its frames are its client's, and lent to it: so no frame is
 -- lent to two.
 pub record KeepsLimitsAndHoldsOwnFrames (m : Machine) : Type 0 where
-  pub clients_are_within_limit : (client : ClientId) → unanswered_count m.book client ≤ 16
-  pub book_is_bounded : length m.book ≤ MOST_UNANSWERED
-  pub issued_four_times_at_most : (e : Pending) → HoldsFrames m e → e.issue_count ≤ 4
-  pub issued_have_an_issue : (e : Pending) → HoldsFrames m e → e.issued ≡ true → 1 ≤ e.issue_count
-  pub frames_are_lent : (e : Pending) → HoldsFrames m e → (i : ℕ) → i < length e.request.asked.frames.items
-      → m.lent (frame_at e.request.asked.frames.items i) ≡ Some e.request.id
-  pub frames_are_owned : (e : Pending) → HoldsFrames m e → (i : ℕ) → i < length e.request.asked.frames.items
-      → m.owner (frame_at e.request.asked.frames.items i) ≡ Some e.request.asked.client
+  pub clients_are_within_limit : (client : ClientId) → unanswered_count m.book client ≤ MOST_UNANSWERED_OF_A_CLIENT
+  pub book_is_bounded : length m.book ≤ MOST_UNANSWERED_OF_ALL_CLIENTS
+  pub issued_four_times_at_most : (e : Pending) → IsInBookOrKept m e → e.issue_count ≤ 4
+  pub issued_have_an_issue : (e : Pending) → IsInBookOrKept m e → e.issued ≡ true → 1 ≤ e.issue_count
+  pub frames_are_lent : (e : Pending) → IsInBookOrKept m e → (i : ℕ) → i < length e.request.asked.frames.items
+      → m.lent (nth_frame e.request.asked.frames.items i) ≡ Some e.request.id
+  pub frames_are_owned : (e : Pending) → IsInBookOrKept m e → (i : ℕ) → i < length e.request.asked.frames.items
+      → m.owner (nth_frame e.request.asked.frames.items i) ≡ Some e.request.asked.client
 
 -- What may change a byte of a client's frame: a touch of a read that the frame is lent to, of the sector whose place
 -- the byte is in; or a store of these bytes by the frame's owner, while it is lent to none.
 abbrev pub MayChangeByte : Machine → Step → Frame → ℕ → Type 0
 MayChangeByte m (Touch e i block) frame b = (e.request.asked.op ≡ Read)
-    × (frame_at e.request.asked.frames.items (i / 8) ≡ frame) × (m.lent frame ≡ Some e.request.id) × (512 * (i % 8) ≤ b)
+    × (nth_frame e.request.asked.frames.items (i / 8) ≡ frame) × (m.lent frame ≡ Some e.request.id)
+    × (512 * (i % 8) ≤ b)
     × (b < 512 * (i % 8) + 512)
 MayChangeByte m (Store client f offset bytes) frame b = (f ≡ frame) × (m.owner frame ≡ Some client)
     × (m.lent frame ≡ None) × (offset ≤ b) × (b < offset + length bytes)
@@ -96,5 +98,5 @@ MayChangeByte m _ frame b = ⊥
 abbrev pub MayChangeSector : Step → Port → ℕ → Type 0
 MayChangeSector (Touch e i block) port k = (changes_sectors e.request.asked.op ≡ true) × (e.request.port ≡ port)
     × (sector_of e.request i ≡ k)
-MayChangeSector (Replace p id size disk) port k = p ≡ port
+MayChangeSector (PlugDisk p id size disk) port k = p ≡ port
 MayChangeSector _ port k = ⊥

@@ -28,8 +28,8 @@ are_overlapping a b = (nat_lt a.first.0 (range_end b) && nat_lt b.first.0 (range
     (nat_lt 0 a.count && nat_lt 0 b.count)
 
 -- two requests of one port conflict if one is a flush, or if one of them writes or trims and their ranges overlap
-abbrev pub are_conflicting : Unanswered → Unanswered → Bool
-are_conflicting a b = a.port.0 == b.port.0
+abbrev pub conflict_by_flush_or_overlap : Unanswered → Unanswered → Bool
+conflict_by_flush_or_overlap a b = a.port.0 == b.port.0
     && ((is_flush a.op || is_flush b.op) || ((changes_sectors a.op || changes_sectors b.op) && are_overlapping a.range
     b.range))
 
@@ -49,15 +49,16 @@ abbrev pub waits_for : QueueMode → Unanswered → Unanswered → Bool
 waits_for mode r other = other.port.0 == r.port.0 && (if is_plain mode r.op
     then other.issued || nat_lt other.id.0 r.id.0
     else (is_plain mode other.op && other.issued)
-    || (nat_lt other.id.0 r.id.0 && (is_plain mode other.op || are_conflicting other r)))
+    || (nat_lt other.id.0 r.id.0 && (is_plain mode other.op || conflict_by_flush_or_overlap other r)))
 
 -- it waits, and nothing stands in its way
-abbrev pub is_unblocked : QueueMode → List Unanswered → Unanswered → Bool
-is_unblocked mode book r = not r.issued && not (list_any (waits_for mode r) book)
+abbrev pub is_waiting_and_unblocked : QueueMode → List Unanswered → Unanswered → Bool
+is_waiting_and_unblocked mode book r = not r.issued && not (list_any (waits_for mode r) book)
 
 -- how many earlier ones of its port are clear to go
 abbrev pub unblocked_ahead_count : QueueMode → List Unanswered → Unanswered → ℕ
-unblocked_ahead_count mode book r = count_by (λ other. is_earlier_on_port other r && is_unblocked mode book other) book
+unblocked_ahead_count mode book r =
+    count_by (λ other. is_earlier_on_port other r && is_waiting_and_unblocked mode book other) book
 
 -- how many requests of the port are issued: each has a slot
 abbrev pub issued_count : List Unanswered → Port → ℕ
@@ -71,15 +72,15 @@ free_slots mode book port = mode.usable_slots - issued_count book port
 -- (A plain one goes alone, so its slot is free.)
 pub record IsDue (mode : QueueMode) (book : List Unanswered) (r : Unanswered) : Type 0 where
   pub is_in_book : Contains book r
-  pub waits_and_nothing_blocks : is_unblocked mode book r ≡ true
+  pub waits_and_nothing_blocks : is_waiting_and_unblocked mode book r ≡ true
   pub slot_is_left : is_plain mode r.op ≡ false → unblocked_ahead_count mode book r < free_slots mode book r.port
 
 -- `IsDue` of a request of the book, as a test
 abbrev pub is_due : QueueMode → List Unanswered → Unanswered → Bool
-is_due mode book r = is_unblocked mode book r &&
+is_due mode book r = is_waiting_and_unblocked mode book r &&
     (is_plain mode r.op || nat_lt (unblocked_ahead_count mode book r) (free_slots mode book r.port))
 
--- how many earlier ones of its port are due: `law_due_and_unblocked_ahead_agree` says that a slot is left after these
+-- how many earlier ones of its port are due: `law_counts_ahead_agree_on_slot_left` says that a slot is left after these
 -- too
 abbrev pub due_ahead_count : QueueMode → List Unanswered → Unanswered → ℕ
 due_ahead_count mode book r = count_by (λ other. is_earlier_on_port other r && is_due mode book other) book

@@ -20,7 +20,7 @@ use Rattle.block_machine.specs.Refusals.{AdmissionContext, IsAcceptable, IsFirst
 use Rattle.block_machine.specs.DueRequests.{NoneDue}
 use Rattle.block_machine.specs.Ports.{Ports, PortsWellFormed, SamePort, SamePorts, SameSerialAndSize, Evidence, IsStoppedOrStuck, MayBecome, IsServiced, IsAfterStuckReset}
 use Rattle.block_machine.specs.State.{Accepted, Pending, Machine, unanswered}
-use Rattle.block_machine.specs.Steps.{Step, Accept, Issue, Touch, End, Age, WaitAgain, Answer, Revoke, Release, Unplug, Replace, Store, Load, IsEnabled, AllTouched, unanswered_count}
+use Rattle.block_machine.specs.Steps.{Step, Accept, Issue, Touch, End, Age, WaitAgain, Answer, Revoke, Release, Unplug, PlugDisk, Store, Load, IsEnabled, AllTouched, unanswered_count}
 use Rattle.block_machine.specs.Expected.{after, IsInitial, HoldsExpected}
 
 -- machine and ports between two calls
@@ -74,16 +74,16 @@ abbrev pub IsByDevice : Step → Type 0
 IsByDevice (Touch e i block) = Unit {0}
 IsByDevice (End e) = Unit {0}
 IsByDevice (Unplug port) = Unit {0}
-IsByDevice (Replace port id size disk) = Unit {0}
+IsByDevice (PlugDisk port id size disk) = Unit {0}
 IsByDevice _ = ⊥
 
--- what a restart, or a reset, tells of a request that isn't done
-abbrev pub IsOfUndoneRequest : Outcome → Type 0
-IsOfUndoneRequest outcome.Aborted = Unit {0}
-IsOfUndoneRequest outcome.Unplugged = Unit {0}
-IsOfUndoneRequest outcome.PortDead = Unit {0}
-IsOfUndoneRequest outcome.Revoked = Unit {0}
-IsOfUndoneRequest _ = ⊥
+-- an outcome in which the device told neither an end nor a fault: what a restart, or a reset, tells of a request
+abbrev pub IsOutcomeWithoutDeviceVerdict : Outcome → Type 0
+IsOutcomeWithoutDeviceVerdict outcome.Aborted = Unit {0}
+IsOutcomeWithoutDeviceVerdict outcome.Unplugged = Unit {0}
+IsOutcomeWithoutDeviceVerdict outcome.PortDead = Unit {0}
+IsOutcomeWithoutDeviceVerdict outcome.Revoked = Unit {0}
+IsOutcomeWithoutDeviceVerdict _ = ⊥
 
 -- The step is one that the server makes in a call that asks this. Requests are issued, or wait again, on ports that are
 -- ready at its end, and are issued in the mode that the port has then. A tick tells no fault, a reset tells neither
@@ -99,11 +99,11 @@ IsByServer Service ports (Answer e o) = Unit {0}
 IsByServer Tick ports (Age ready) = Unit {0}
 IsByServer Tick ports (Issue mode e) = (ports.state e.request.port ≡ Ready) × (ports.mode e.request.port ≡ mode)
 IsByServer Tick ports (WaitAgain e) = ports.state e.request.port ≡ Ready
-IsByServer Tick ports (Answer e o) = IsOfUndoneRequest o ⊎ (o ≡ outcome.Ok)
+IsByServer Tick ports (Answer e o) = IsOutcomeWithoutDeviceVerdict o ⊎ (o ≡ outcome.Ok)
 IsByServer Reset ports Release = Unit {0}
 IsByServer Reset ports (Issue mode e) = (ports.state e.request.port ≡ Ready) × (ports.mode e.request.port ≡ mode)
 IsByServer Reset ports (WaitAgain e) = ports.state e.request.port ≡ Ready
-IsByServer Reset ports (Answer e o) = IsOfUndoneRequest o
+IsByServer Reset ports (Answer e o) = IsOutcomeWithoutDeviceVerdict o
 IsByServer (RevokeOf client number) ports (Revoke c n) = (c ≡ client) × (n ≡ number)
 IsByServer (RevokeOf client number) ports (Answer e o) = o ≡ outcome.Revoked
 IsByServer (RevokeOf client number) ports (Issue mode e) = (ports.state e.request.port ≡ Ready)
@@ -166,11 +166,11 @@ issues_id id (Issue mode e) = e.request.id.0 == id.0
 issues_id id _ = false
 
 -- the step is one of the server's with the request of this id: it issues it, lets it wait again, or answers it
-abbrev pub handles_id : RequestId → Step → Bool
-handles_id id (Issue mode e) = e.request.id.0 == id.0
-handles_id id (WaitAgain e) = e.request.id.0 == id.0
-handles_id id (Answer e o) = e.request.id.0 == id.0
-handles_id id _ = false
+abbrev pub issues_requeues_or_answers_id : RequestId → Step → Bool
+issues_requeues_or_answers_id id (Issue mode e) = e.request.id.0 == id.0
+issues_requeues_or_answers_id id (WaitAgain e) = e.request.id.0 == id.0
+issues_requeues_or_answers_id id (Answer e o) = e.request.id.0 == id.0
+issues_requeues_or_answers_id id _ = false
 
 -- one of these steps issues the request of this id
 abbrev pub IsIssuedIn : RequestId → List Step → Type 0
@@ -181,7 +181,8 @@ IsIssuedIn id steps = list_any (issues_id id) steps ≡ true
 abbrev pub IssueIsLastOfRequest : List Step → Type 0
 IssueIsLastOfRequest [] = Unit {0}
 IssueIsLastOfRequest (step ∷ before) =
-    IssueIsLastOfRequest before × ((id : RequestId) → handles_id id step ≡ true → IsIssuedIn id before → ⊥)
+    IssueIsLastOfRequest before × ((id : RequestId) → issues_requeues_or_answers_id id step ≡ true
+    → IsIssuedIn id before → ⊥)
 
 -- an unanswered request of that id was issued
 pub record IsIssuedInBook (m : Machine) (id : RequestId) : Type 0 where
@@ -190,10 +191,10 @@ pub record IsIssuedInBook (m : Machine) (id : RequestId) : Type 0 where
   pub id_is : pending.request.id ≡ id
   pub issued : pending.issued ≡ true
 
--- the port stopped in the call, and is ready after it with the disk that it had: a request of it that isn't done goes
--- again
-abbrev pub IsReadyAgainWithSameDisk : AbstractState → Evidence → Ports → Port → Type 0
-IsReadyAgainWithSameDisk old evidence ports port = (ports.state port ≡ Ready) × Contains evidence.stopped port
+-- the port stopped in the call, and is ready after it with serial and size as before: a request of it that isn't done
+-- goes again
+abbrev pub IsReadyAfterStopSerialAndSizeKept : AbstractState → Evidence → Ports → Port → Type 0
+IsReadyAfterStopSerialAndSizeKept old evidence ports port = (ports.state port ≡ Ready) × Contains evidence.stopped port
     × SameSerialAndSize old.ports ports port
 
 -- What stands behind each outcome. An Ok, a fault and an abort are of a request that was issued when the call began;
@@ -202,8 +203,8 @@ IsReadyAgainWithSameDisk old evidence ports port = (ports.state port ≡ Ready) 
 -- Revoked is told of a request that isn't issued, or where it would go again. An issued request's frames are given back
 -- only where it ended or its port stopped: else they may still be written. And PortDead leaves the port dead. (So it
 -- was when the call began, or it got stuck in the call: that follows from what the calls make of ports, by law
--- `law_dead_ports_were_stuck`. That a request is told Revoked only once its grant was revoked, `GrantAllowsOutcome`
--- says.)
+-- `law_ports_die_only_when_stuck`. That a request is told Revoked only once its grant was revoked,
+-- `RevokedLacksGrantAbortedHasGrant` says.)
 abbrev pub IsLawfulAnswer : AbstractState → Evidence → Ports → Pending → Outcome → Type 0
 IsLawfulAnswer old evidence ports e outcome.Ok = IsIssuedInBook old.machine e.request.id × (e.issued ≡ true)
     × AllTouched e
@@ -212,11 +213,12 @@ IsLawfulAnswer old evidence ports e (outcome.DeviceError status error) = IsIssue
     × (e.issued ≡ true) × Contains evidence.faults (record { id = e.request.id; status = status; error = error })
     × Contains evidence.stopped e.request.port
 IsLawfulAnswer old evidence ports e outcome.Aborted = IsIssuedInBook old.machine e.request.id × (e.issue_count ≡ 4)
-    × IsReadyAgainWithSameDisk old evidence ports e.request.port
+    × IsReadyAfterStopSerialAndSizeKept old evidence ports e.request.port
 IsLawfulAnswer old evidence ports e outcome.Unplugged = Contains evidence.lost e.request.port
     × Contains evidence.stopped e.request.port
 IsLawfulAnswer old evidence ports e outcome.PortDead = ports.state e.request.port ≡ Dead
-IsLawfulAnswer old evidence ports e outcome.Revoked = (e.issued ≡ false) ⊎ IsReadyAgainWithSameDisk old evidence ports
+IsLawfulAnswer old evidence ports e outcome.Revoked = (e.issued ≡ false)
+    ⊎ IsReadyAfterStopSerialAndSizeKept old evidence ports
     e.request.port
 
 -- Each answer of the call is lawful, with these ports at its end. And a request waits again only where its port
@@ -229,9 +231,9 @@ AnswersAndWaitsLawful old evidence ports (WaitAgain e ∷ rest) = AnswersAndWait
     × Contains evidence.stopped e.request.port
 AnswersAndWaitsLawful old evidence ports (step ∷ rest) = AnswersAndWaitsLawful old evidence ports rest
 
--- the answers of a call, as they are told: by port, and then by id
-abbrev pub IsToldBefore : Pending × Outcome → Pending × Outcome → Type 0
-IsToldBefore a b = (a.0.request.port.0 < b.0.request.port.0)
+-- of two answers the first has the lower port, or the same port and the lower id: in this order a call tells them
+abbrev pub IsLowerByPortThenId : Pending × Outcome → Pending × Outcome → Type 0
+IsLowerByPortThenId a b = (a.0.request.port.0 < b.0.request.port.0)
     ⊎ ((a.0.request.port ≡ b.0.request.port) × (a.0.request.id.0 < b.0.request.id.0))
 
 -- an answer, as the client is told it
@@ -242,7 +244,7 @@ reply_of answer = record { id = answer.0.request.id; client = answer.0.request.a
 pub record RepliesMatch (steps : List Step) (replies : List Reply) : Type 0 where
   pub answers : List (Pending × Outcome)
   pub is_permutation : IsPermutation answers (answers_of steps)
-  pub ordered : AllPairs IsToldBefore answers
+  pub ordered : AllPairs IsLowerByPortThenId answers
   pub replies_are_of_answers : replies ≡ map reply_of answers
 
 -- what a request meets at a moment
@@ -281,34 +283,36 @@ pub record TimesOutAtTick (old : AbstractState) (port : Port) : Type 0 where
   pub issued : pending.issued ≡ true
   pub old_enough : 2 ≤ pending.age
 
--- no unanswered request of the port keeps an issue that it had before these steps
-abbrev pub NoneStaysIssued : List Step → Machine → Port → Type 0
-NoneStaysIssued steps m port = (e : Pending) → Contains m.book e → e.request.port ≡ port → e.issued ≡ true
+-- each unanswered request of the port that is issued after these steps was issued by them
+abbrev pub IssuedOnPortAreIssuedInSteps : List Step → Machine → Port → Type 0
+IssuedOnPortAreIssuedInSteps steps new port = (e : Pending) → Contains new.book e → e.request.port ≡ port → e.issued
+    ≡ true
     → IsIssuedIn e.request.id steps
 
 -- the step takes the port's disk out, or puts one in
 abbrev pub changes_disk : Port → Step → Bool
 changes_disk port (Unplug p) = p.0 == port.0
-changes_disk port (Replace p id size disk) = p.0 == port.0
+changes_disk port (PlugDisk p id size disk) = p.0 == port.0
 changes_disk port _ = false
 
 -- Each request of the port that had ended when the call began is answered Ok. (`done` is that request: the machine
 -- would let a sector of it be touched once more until then, though no device does.)
-abbrev pub AnswersEnded : Machine → List Step → Port → Type 0
-AnswersEnded old steps port = (e : Pending) → Contains old.book e → e.request.port ≡ port → e.ended ≡ true
+abbrev pub AnswersOkWhatHadEnded : Machine → List Step → Port → Type 0
+AnswersOkWhatHadEnded old steps port = (e : Pending) → Contains old.book e → e.request.port ≡ port → e.ended ≡ true
     → (done : Pending) × (done.request ≡ e.request) × Contains steps (Answer done outcome.Ok)
 
 -- Where a request is answered Unplugged, no request of its port is left unanswered, and none is answered PortDead.
-pub record UnpluggedEmptiesPort (steps : List Step) (new : Machine) : Type 0 where
+pub record UnpluggedOutcomeEmptiesPort (steps : List Step) (new : Machine) : Type 0 where
   pub none_is_left : (e other : Pending) → Contains steps (Answer e outcome.Unplugged) → Contains new.book other
       → other.request.port ≢ e.request.port
   pub none_is_told_dead : (e other : Pending) → Contains steps (Answer e outcome.Unplugged)
       → Contains steps (Answer other outcome.PortDead) → other.request.port ≢ e.request.port
 
 -- Where a request is told Unplugged, its port is neither dead nor ready with serial and size as before: a tick, or a
--- reset, lets requests go again where it finds the same disk.
-abbrev pub UnpluggedPortIsNotDeadNorReadyWithSameDisk : List Step → Ports → Ports → Type 0
-UnpluggedPortIsNotDeadNorReadyWithSameDisk steps old new = (e : Pending) → Contains steps (Answer e outcome.Unplugged)
+-- reset, lets requests go again where it finds these.
+abbrev pub UnpluggedOutcomeExcludesDeadAndSameSerialAndSize : List Step → Ports → Ports → Type 0
+UnpluggedOutcomeExcludesDeadAndSameSerialAndSize steps old new = (e : Pending)
+    → Contains steps (Answer e outcome.Unplugged)
     → (new.state e.request.port ≢ Dead) × (new.state e.request.port ≡ Ready → SameSerialAndSize old new e.request.port
     → ⊥)
 
@@ -332,8 +336,9 @@ pub record AgesReadyPortsFirstAndOnce (ports : Ports) (steps : List Step) : Type
   pub age_is_first : steps ≡ later ++ Age ready_ports ∷ []
   pub no_other_age : count_by is_age later ≡ 0
 
--- A tick restarts each port that is hung, and no other: what had ended there is answered Ok, no request then keeps its
--- issue, and it shows a disk only where one was in. Other ports stay what they are, and nothing is answered there.
+-- A tick restarts each port that is hung, and no other: what had ended there is answered Ok, what is then issued was
+-- issued in the call, and it shows a disk only where one was in. Other ports stay what they are, and nothing is
+-- answered there.
 pub record RestartsTimedOut (old : AbstractState) (evidence : Evidence) (steps : List Step)
     (new : AbstractState) : Type 0 where
   pub each_port_is_same_or_restarts : (port : Port)
@@ -342,10 +347,11 @@ pub record RestartsTimedOut (old : AbstractState) (evidence : Evidence) (steps :
   pub only_timed_out_wait_again : (e : Pending) → Contains steps (WaitAgain e) → TimesOutAtTick old e.request.port
   pub only_timed_out_are_answered : (e : Pending) (o : Outcome) → Contains steps (Answer e o)
       → TimesOutAtTick old e.request.port
-  pub answers_ended : (port : Port) → TimesOutAtTick old port → AnswersEnded old.machine steps port
-  pub none_stays_issued : (port : Port) → TimesOutAtTick old port → NoneStaysIssued steps new.machine port
+  pub answers_ok_what_had_ended : (port : Port) → TimesOutAtTick old port → AnswersOkWhatHadEnded old.machine steps port
+  pub issued_are_issued_in_steps : (port : Port) → TimesOutAtTick old port
+      → IssuedOnPortAreIssuedInSteps steps new.machine port
   pub timed_out_iff_stopped_or_stuck : (port : Port) → TimesOutAtTick old port ↔ IsStoppedOrStuck evidence port
-  pub unplugged_lost_disk : UnpluggedPortIsNotDeadNorReadyWithSameDisk steps old.ports new.ports
+  pub unplugged_lost_disk : UnpluggedOutcomeExcludesDeadAndSameSerialAndSize steps old.ports new.ports
   pub shown_disk_was_in_or_came : (port : Port) → TimesOutAtTick old port → ShownDiskWasInOrCame old steps new port
 
 -- The kept requests' frames are given back once, before the server does anything else.
@@ -370,10 +376,11 @@ pub record AnswersService (old : AbstractState) (evidence : Evidence) (steps : L
     (new : AbstractState) : Type 0 where
   pub replies_match : RepliesMatch steps replies
   pub dead_ports_tell_only_port_dead : DeadPortsTellOnlyPortDead old steps
-  pub unplugged_empties_port : UnpluggedEmptiesPort steps new.machine
+  pub unplugged_outcome_empties_port : UnpluggedOutcomeEmptiesPort steps new.machine
   pub none_is_due_where_ready : NoneDueWhereReady new
   pub empty_unless_ready : (port : Port) → EmptyUnlessReady new port
-  pub answers_ended : (port : Port) → old.ports.state port ≡ Ready → AnswersEnded old.machine steps port
+  pub answers_ok_what_had_ended : (port : Port) → old.ports.state port ≡ Ready
+      → AnswersOkWhatHadEnded old.machine steps port
   pub port_is_serviced : (port : Port) → IsServiced old.ports evidence new.ports port
   pub shown_disk_was_in_or_came : (port : Port) → SamePort old.ports new.ports port
       ⊎ ShownDiskWasInOrCame old steps new port
@@ -384,22 +391,23 @@ pub record AnswersTick (old : AbstractState) (evidence : Evidence) (steps : List
   pub replies_match : RepliesMatch steps replies
   pub ages_once : AgesReadyPortsFirstAndOnce old.ports steps
   pub restarts_timed_out : RestartsTimedOut old evidence steps new
-  pub unplugged_empties_port : UnpluggedEmptiesPort steps new.machine
+  pub unplugged_outcome_empties_port : UnpluggedOutcomeEmptiesPort steps new.machine
   pub none_is_due_where_ready : NoneDueWhereReady new
   pub was_ready_empty_unless_ready : (port : Port) → old.ports.state port ≡ Ready → EmptyUnlessReady new port
 
--- What a reset that ends says and does. Kept frames are given back first. Of each port no request keeps its issue, none
--- is unanswered where it isn't ready then, one that is served has stopped, and one that shows a disk had it, or got it.
+-- What a reset that ends says and does. Kept frames are given back first. Of each port what is issued then was issued
+-- in the call, none is unanswered where it isn't ready then, one that is served has stopped, and one that shows a disk
+-- had it, or got it.
 pub record AnswersReset (old : AbstractState) (evidence : Evidence) (steps : List Step) (replies : List Reply)
     (new : AbstractState) : Type 0 where
   pub replies_match : RepliesMatch steps replies
   pub releases_once : ReleasesOnceBeforeServerSteps steps
-  pub unplugged_empties_port : UnpluggedEmptiesPort steps new.machine
-  pub unplugged_lost_disk : UnpluggedPortIsNotDeadNorReadyWithSameDisk steps old.ports new.ports
+  pub unplugged_outcome_empties_port : UnpluggedOutcomeEmptiesPort steps new.machine
+  pub unplugged_lost_disk : UnpluggedOutcomeExcludesDeadAndSameSerialAndSize steps old.ports new.ports
   pub none_is_due_where_ready : NoneDueWhereReady new
   pub empty_unless_ready : (port : Port) → EmptyUnlessReady new port
   pub port_may_become : (port : Port) → MayBecome old.ports evidence new.ports port
-  pub none_stays_issued : (port : Port) → NoneStaysIssued steps new.machine port
+  pub issued_are_issued_in_steps : (port : Port) → IssuedOnPortAreIssuedInSteps steps new.machine port
   pub served_are_stopped : (port : Port) → old.ports.served port ≡ true → Contains evidence.stopped port
   pub shown_disk_was_in_or_came : (port : Port) → ShownDiskWasInOrCame old steps new port
 
@@ -486,16 +494,17 @@ IsRun first (event ∷ past) = IsRun first past × Happens (abstract_after_all f
 -- ---- what a run gives
 
 -- what a call makes of it that the adapter didn't end a reset: this is so until a service, or a reset that ends
-abbrev pub IsStuckAfterCall : {D : Type 0} → AbstractCall D → AbstractCallResult → Type 0 → Type 0
-IsStuckAfterCall Reset (WasReset None) was = Unit {0}
-IsStuckAfterCall Reset said was = ⊥
-IsStuckAfterCall Service said was = ⊥
-IsStuckAfterCall ask said was = was
+abbrev pub LastServiceOrResetIsStuckResetAfter : {D : Type 0} → AbstractCall D → AbstractCallResult → Type 0 → Type 0
+LastServiceOrResetIsStuckResetAfter Reset (WasReset None) was = Unit {0}
+LastServiceOrResetIsStuckResetAfter Reset said was = ⊥
+LastServiceOrResetIsStuckResetAfter Service said was = ⊥
+LastServiceOrResetIsStuckResetAfter ask said was = was
 
 -- a reset of the run was stuck, and no service and no reset that ends came since
-abbrev pub IsStillStuck : {D : Type 0} → List (CallRecord D) → Type 0
-IsStillStuck [] = ⊥
-IsStillStuck (event ∷ past) = IsStuckAfterCall event.call event.result (IsStillStuck past)
+abbrev pub LastServiceOrResetIsStuckReset : {D : Type 0} → List (CallRecord D) → Type 0
+LastServiceOrResetIsStuckReset [] = ⊥
+LastServiceOrResetIsStuckReset (event ∷ past) =
+    LastServiceOrResetIsStuckResetAfter event.call event.result (LastServiceOrResetIsStuckReset past)
 
 -- the steps of a run
 abbrev pub steps_of : {D : Type 0} → List (CallRecord D) → List Step

@@ -11,7 +11,7 @@ use Rattle.ata_types.specs.declared.memory.TheConstants.{DRIVER_FRAMES, MOST_FRA
 use Rattle.block_machine.specs.Rules.{DifferInName}
 use Rattle.block_machine.specs.DueRequests.{changes_sectors}
 use Rattle.block_machine.specs.State.{Block, DiskBytes, Memory, Accepted, Machine, block_of, sector_of, block_written}
-use Rattle.block_machine.specs.Steps.{Step, Accept, Issue, Touch, End, Replace, IsEnabled, HoldsOrHeldSinceFlush, after_step}
+use Rattle.block_machine.specs.Steps.{Step, Accept, Issue, Touch, End, PlugDisk, IsEnabled, HoldsOrHeldSinceFlush, after_step}
 
 -- the machine after a history of steps
 abbrev pub after : Machine → List Step → Machine
@@ -48,12 +48,12 @@ pub record IsInitial (m : Machine) : Type 0 where
 
 -- the step puts a disk in at this port
 abbrev pub plugs_disk : Port → Step → Bool
-plugs_disk port (Replace p id size disk) = p.0 == port.0
+plugs_disk port (PlugDisk p id size disk) = p.0 == port.0
 plugs_disk port _ = false
 
 -- what the disk holds that the step puts in
 abbrev pub plugged_disk : Step → DiskBytes
-plugged_disk (Replace p id size disk) = disk
+plugged_disk (PlugDisk p id size disk) = disk
 plugged_disk _ = λ k b. 0
 
 -- How many disks were put in at the port. Disk number n of the port is the one that was put in n-th; the one that was
@@ -153,7 +153,7 @@ pub record HoldsExpected (start : Machine) (history : List Step) (memory : Memor
 abbrev pub StepIsFaithful : Machine → Step → Type 0
 StepIsFaithful old (Touch e i block) = e.request.asked.op ≡ Read
     → (b : ℕ) → b < 512 → block b ≡ old.disk_bytes e.request.port (sector_of e.request i) b
-StepIsFaithful old (Replace port id size disk) = id ≡ old.disk_ids port → (k : ℕ) → k < size
+StepIsFaithful old (PlugDisk port id size disk) = id ≡ old.disk_ids port → (k : ℕ) → k < size
     → HoldsOrHeldSinceFlush old port k (disk k)
 StepIsFaithful old _ = Unit {0}
 

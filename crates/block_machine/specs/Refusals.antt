@@ -1,5 +1,6 @@
 -- Why a request, or a client's access to a frame, is refused, and which cause is told (this project's own).
 use Rattle.std.specs.Prelude.{◌≡◌, ◌≢◌, ℕ, ◌+◌, ◌^◌, ◌<◌, ◌≤◌, Bool, IsTrue, List, Option, Some, IsSome}
+use Rattle.ata_types.specs.declared.limits.TheConstants.{MOST_UNANSWERED_OF_A_CLIENT}
 use Rattle.ata_types.specs.declared.Port.{Port}
 use Rattle.ata_types.specs.declared.PortState.{PortState}
 use Rattle.ata_types.specs.declared.PortState.TheVariants.{Ready}
@@ -41,7 +42,7 @@ RefusalApplies s r refused.OutsideDisk = (r.op ≢ Flush)
     × ((row : GrantRow) × IsNamed s.rows r row × (s.sectors row.port < r.first.0 + r.count))
 RefusalApplies s r refused.TrimUnsupported = (r.op ≡ Trim)
     × ((row : GrantRow) × IsNamed s.rows r row × (IsTrue (s.zeroes_after_trim row.port) → ⊥))
-RefusalApplies s r refused.ClientFull = 16 ≤ s.unanswered_count r.client
+RefusalApplies s r refused.ClientFull = MOST_UNANSWERED_OF_A_CLIENT ≤ s.unanswered_count r.client
 RefusalApplies s r refused.IdsSpent = 2 ^ 64 ≤ s.next_id
 
 -- no cause applies

@@ -116,10 +116,12 @@ IsFirstByRank {C} rank_of Applies cause = Applies cause × ((c : C) → RanksBef
 abbrev pub HasNoFault : (Frame → Option ClientId) → (Frame → Option RequestId) → ClientId → List Frame → Type 0
 HasNoFault owner lent client frames = (fault : FrameFault) → HasFault owner lent client frames fault → ⊥
 
--- the fault is one of these frames, and none before it is
-abbrev pub IsFirstFault : (Frame → Option ClientId) → (Frame → Option RequestId) → ClientId → List Frame → FrameFault
+-- the frames have this fault, none of an earlier kind, and none of its kind at an earlier place
+abbrev pub IsFirstFaultByKindThenPlace : (Frame → Option ClientId) → (Frame → Option RequestId) → ClientId → List Frame
+    → FrameFault
     → Type 0
-IsFirstFault owner lent client frames fault = IsFirstByRank (λ fault. refusal_rank (refused.Rule (Frames fault)))
+IsFirstFaultByKindThenPlace owner lent client frames fault =
+    IsFirstByRank (λ fault. refusal_rank (refused.Rule (Frames fault)))
     (HasFault owner lent client frames) fault
 
 -- the request breaks no rule

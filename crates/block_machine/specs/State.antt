@@ -24,12 +24,12 @@ abbrev pub Memory : Type 0
 Memory = Frame → ℕ → ℕ
 
 -- the i-th of a request's frames
-abbrev pub frame_at : List Frame → ℕ → Frame
-frame_at frames i = slice_index_or frames i (record { 0 = 0 })
+abbrev pub nth_frame : List Frame → ℕ → Frame
+nth_frame frames i = slice_index_or frames i (record { 0 = 0 })
 
 -- sector number i of these frames: eight sectors to a frame, in order
 abbrev pub block_of : Memory → List Frame → ℕ → Block
-block_of memory frames i b = memory (frame_at frames (i / 8)) (512 * (i % 8) + b)
+block_of memory frames i b = memory (nth_frame frames (i / 8)) (512 * (i % 8) + b)
 
 -- A request as it was accepted.
 pub record Accepted : Type 0 where

@@ -1,6 +1,7 @@
 -- The steps of the block machine: when each may come, and what it changes (this project's own).
 use Rattle.std.specs.Prelude.{◌≡◌, ◌≢◌, ◌⊎◌, ℕ, suc, ◌+◌, ◌-◌, ◌*◌, ◌/◌, ◌%◌, ◌^◌, ◌<◌, Bool, true, false, not, ◌&&◌, ◌||◌, ◌==◌, nat_lt, nat_le, if◌then◌else◌, List, [], ◌∷◌, ◌++◌, length, map, filter, count_by, Contains, Option, Some, None, slice_index}
 use Rattle.std.specs.List.{list_any}
+use Rattle.ata_types.specs.declared.limits.TheConstants.{MOST_UNANSWERED_OF_A_CLIENT}
 use Rattle.ata_types.specs.declared.Port.{Port}
 use Rattle.ata_types.specs.declared.request.ClientId.{ClientId}
 use Rattle.ata_types.specs.declared.request.Frame.{Frame}
@@ -14,7 +15,7 @@ use Rattle.block_machine.specs.declared.due.QueueMode.{QueueMode}
 use Rattle.block_machine.specs.Rules.{IsNamed, Breaks, HasRow, without_row}
 use Rattle.block_machine.specs.Refusals.{MayAccessFrame}
 use Rattle.block_machine.specs.DueRequests.{IsDue, is_flush, changes_sectors}
-use Rattle.block_machine.specs.State.{Block, DiskBytes, Memory, Accepted, Pending, Machine, block_of, frame_at, sector_of, unanswered, is_reader, block_written}
+use Rattle.block_machine.specs.State.{Block, DiskBytes, Memory, Accepted, Pending, Machine, block_of, nth_frame, sector_of, unanswered, is_reader, block_written}
 
 -- A step. A pending request in it is the one that the step finds.
 pub data Step : Type 0 where
@@ -37,7 +38,7 @@ pub data Step : Type 0 where
   Release : Step
   -- a disk is taken out; a disk is put in: which one, its sectors' number, and their bytes
   Unplug : Port → Step
-  Replace : Port → ℕ → ℕ → DiskBytes → Step
+  PlugDisk : Port → ℕ → ℕ → DiskBytes → Step
   -- a client stores bytes into its frame from an offset on, or is told them
   Store : ClientId → Frame → ℕ → List ℕ → Step
   Load : ClientId → Frame → ℕ → List ℕ → Step
@@ -122,7 +123,7 @@ with_overwritten_block r i disks aside p k =
 -- and in memory: for a read, the bytes that were moved
 abbrev pub memory_after_touch : Accepted → ℕ → Block → Memory → Memory
 memory_after_touch r i block memory =
-    if is_reader r.asked.op then put_bytes (frame_at r.asked.frames.items (i / 8)) (512 * (i % 8)) 512 block memory
+    if is_reader r.asked.op then put_bytes (nth_frame r.asked.frames.items (i / 8)) (512 * (i % 8)) 512 block memory
     else memory
 
 -- a request that was issued and is answered PortDead is kept: the device may still move its sectors
@@ -158,7 +159,7 @@ after_step m (Answer e outcome) = record m {
 after_step m (Revoke client number) = record m { rows = without_row client number m.rows }
 after_step m Release = record m { kept = []; lent = unlend_all m.kept m.lent }
 after_step m (Unplug port) = record m { present = λ p. if p.0 == port.0 then false else m.present p }
-after_step m (Replace port id size disk) = record m {
+after_step m (PlugDisk port id size disk) = record m {
   present = λ p. if p.0 == port.0 then true else m.present p;
   disk_ids = λ p. if p.0 == port.0 then id else m.disk_ids p;
   sizes = λ p. if p.0 == port.0 then size else m.sizes p;
@@ -174,9 +175,9 @@ after_step m (Load client frame offset bytes) = m
 abbrev pub MayStillMove : Machine → Pending → Type 0
 MayStillMove m e = (Contains m.book e × (e.issued ≡ true)) ⊎ Contains m.kept e
 
--- unanswered, or kept: its frames are lent to it
-abbrev pub HoldsFrames : Machine → Pending → Type 0
-HoldsFrames m e = Contains m.book e ⊎ Contains m.kept e
+-- unanswered, or kept (such a one has its frames lent)
+abbrev pub IsInBookOrKept : Machine → Pending → Type 0
+IsInBookOrKept m e = Contains m.book e ⊎ Contains m.kept e
 
 -- each sector of the request was touched since its last issue
 abbrev pub AllTouched : Pending → Type 0
@@ -193,7 +194,7 @@ pub record MayAccept (m : Machine) (r : Accepted) : Type 0 where
   pub an_id_is_left : m.next_id < 2 ^ 64
   pub breaks_no_rule : (rule : Rule) → Breaks m.rows m.owner m.lent r.asked rule → ⊥
   pub port_is_of_its_row : (row : GrantRow) → IsNamed m.rows r.asked row → r.port ≡ row.port
-  pub client_has_room : unanswered_count m.book r.asked.client < 16
+  pub client_has_room : unanswered_count m.book r.asked.client < MOST_UNANSWERED_OF_A_CLIENT
   pub blocks_are_in_memory : r.blocks_at_acceptance ≡ block_of m.memory r.asked.frames.items
 
 -- no kept request is left on the port: one may still touch sectors out of turn
@@ -206,10 +207,10 @@ HasGrant m e = HasRow e.request.asked.client e.request.asked.grant m.rows
 
 -- What the grant must be for an outcome: a request is told Revoked only once its grant was revoked, and is aborted only
 -- where it wasn't.
-abbrev pub GrantAllowsOutcome : Machine → Pending → Outcome → Type 0
-GrantAllowsOutcome m e Revoked = HasGrant m e → ⊥
-GrantAllowsOutcome m e Aborted = HasGrant m e
-GrantAllowsOutcome m e _ = Unit {0}
+abbrev pub RevokedLacksGrantAbortedHasGrant : Machine → Pending → Outcome → Type 0
+RevokedLacksGrantAbortedHasGrant m e Revoked = HasGrant m e → ⊥
+RevokedLacksGrantAbortedHasGrant m e Aborted = HasGrant m e
+RevokedLacksGrantAbortedHasGrant m e _ = Unit {0}
 
 -- the bytes that are moved for a write are its own; a read's may be any, and a trim's and a flush's mean nothing
 abbrev pub WriteMovesItsOwnBytes : Accepted → ℕ → Block → Type 0
@@ -238,11 +239,11 @@ IsEnabled m (Touch e i block) = MayStillMove m e × (i < e.request.asked.count) 
 IsEnabled m (End e) = MayStillMove m e × AllTouched e × (m.present e.request.port ≡ true)
 IsEnabled m (Age ready) = Unit {0}
 IsEnabled m (WaitAgain e) = Contains m.book e × (e.issued ≡ true) × (e.issue_count < 4) × HasGrant m e
-IsEnabled m (Answer e outcome) = Contains m.book e × GrantAllowsOutcome m e outcome
+IsEnabled m (Answer e outcome) = Contains m.book e × RevokedLacksGrantAbortedHasGrant m e outcome
 IsEnabled m (Revoke client number) = HasRow client number m.rows
 IsEnabled m Release = Unit {0}
 IsEnabled m (Unplug port) = m.present port ≡ true
-IsEnabled m (Replace port id size disk) = (m.present port ≡ false) × (id ≡ m.disk_ids port → size ≡ m.sizes port)
+IsEnabled m (PlugDisk port id size disk) = (m.present port ≡ false) × (id ≡ m.disk_ids port → size ≡ m.sizes port)
 IsEnabled m (Store client frame offset bytes) = MayAccessFrame m.owner m.lent client frame offset (length bytes)
 IsEnabled m (Load client frame offset bytes) = MayAccessFrame m.owner m.lent client frame offset (length bytes)
     × ((b : ℕ) → b < length bytes → slice_index bytes b ≡ m.memory frame (offset + b))

@@ -4,7 +4,7 @@
 ghost use Rattle.std.specs.Prelude.{◌≡◌, ◌≢◌, ◌↔◌, ◌<◌, ℕ, Bool, IsTrue, true, false, List, [], ◌∷◌, ◌++◌, ◌≤◌, ◌&&◌, nat_lt, Option, Some, All, length, map, count_by, Contains};
 ghost use Rattle.ata_types.specs.{declared.Port.{Port}, declared.PortState.TheVariants.{Ready}, declared.request.ClientId.{ClientId}, declared.request.Frame.{Frame}, declared.request.Request.{Request}, declared.request.RequestId.{RequestId}, declared.grant.GrantRow.{GrantRow}, declared.request.Outcome.{Outcome}, declared.request.Op.TheVariants.{Read}};
 ghost use Rattle.block_machine.specs.{declared.due.QueueMode.{QueueMode}, declared.due.Unanswered.{Unanswered}, DueRequests.{IsDue, IsInOrder, is_plain, issued_count, is_due, unblocked_ahead_count, due_ahead_count, free_slots, with_issued, with_waiting, without_request, requests_of_port, due_of, AreAllDueInOrder}, Ports.{Ports, PortsWellFormed}, Refusals.{AdmissionContext, IsAcceptable, MayAccessFrame}, Rules.{HasGrantName}};
-ghost use Rattle.block_machine.specs.{State.{Block, Accepted, Pending, Machine, unanswered}, Steps.{Step, Touch, End, Issue, WaitAgain, Answer, Age, after_step, IsEnabled, MayAccept, HoldsFrames, AllTouched}, Expected.{IsInitial, IsLegal, AllStepsFaithful, HoldsExpected, after}, Confinement.{IsGranted, IsConfined, FramesAreAsAcceptedButReadSectors, HasFrame, KeepsNonFrameRulesAndHoldsFrames, WasAccepted, KeepsLimitsAndHoldsOwnFrames}};
+ghost use Rattle.block_machine.specs.{State.{Block, Accepted, Pending, Machine, unanswered}, Steps.{Step, Touch, End, Issue, WaitAgain, Answer, Age, after_step, IsEnabled, MayAccept, IsInBookOrKept, AllTouched}, Expected.{IsInitial, IsLegal, AllStepsFaithful, HoldsExpected, after}, Confinement.{IsGranted, IsConfined, FramesAreAsAcceptedOutsideReadRange, HasFrame, KeepsNonFrameRulesAndHoldsFrames, WasAccepted, KeepsLimitsAndHoldsOwnFrames}};
 ghost use Rattle.block_machine.specs.{Events.{AbstractState, CallRecord, AllEnabled, IsRun, EveryReadHoldsExpected, abstract_after_all, steps_of}, Histories.{IsReachable}};
 
 /// Over every run of calls whose reads moved their disks' bytes: each read that is answered Ok has, at the end of the
@@ -82,8 +82,8 @@ pub fn law_ended_is_issued()
 {}
 
 /// A frame that is lent to a request which is unanswered or kept is one of its own.
-pub fn law_lent_frame_is_its_own()
-    ensures { (m : Machine) (frame : Frame) (e : Pending) → IsReachable m → HoldsFrames m e
+pub fn law_lent_frame_is_of_its_request()
+    ensures { (m : Machine) (frame : Frame) (e : Pending) → IsReachable m → IsInBookOrKept m e
         → m.lent frame ≡ Some e.request.id → HasFrame e.request frame }
 {}
 
@@ -109,10 +109,10 @@ pub fn law_accepted_is_granted()
 {}
 
 /// Each request that is unanswered or kept was accepted.
-pub fn law_frame_holder_was_accepted()
+pub fn law_request_in_book_or_kept_was_accepted()
     ensures { (start : Machine) (history : List Step) (e : Pending) → IsInitial start
         → IsLegal start history
-        → HoldsFrames (after start history) e → WasAccepted start history e.request }
+        → IsInBookOrKept (after start history) e → WasAccepted start history e.request }
 {}
 
 /// A frame that is lent is lent to an accepted request, and is one of its own.
@@ -131,10 +131,10 @@ pub fn law_one_id_is_one_request()
 
 /// The frames of a request that is unanswered or kept hold what they held when it was accepted, but for the sectors of
 /// a read: so the device moves a write's own bytes.
-pub fn law_frames_keep_bytes_but_read_sectors()
+pub fn law_frames_keep_bytes_outside_read_range()
     ensures { (start : Machine) (history : List Step) (e : Pending) → IsInitial start
         → IsLegal start history
-        → HoldsFrames (after start history) e → FramesAreAsAcceptedButReadSectors (after start history) e.request }
+        → IsInBookOrKept (after start history) e → FramesAreAsAcceptedOutsideReadRange (after start history) e.request }
 {}
 
 /// In a machine that is reached a client and a number name one row at most.
@@ -143,8 +143,8 @@ pub fn law_a_name_is_of_one_row()
         → HasGrantName client number a → Contains m.rows b → HasGrantName client number b → a ≡ b }
 {}
 
-/// The frames of an acceptable request are its client's, and so is an open frame.
-pub fn law_frames_are_their_clients()
+/// The frames of an acceptable request are its client's, and so is one that a client may access.
+pub fn law_acceptable_and_accessible_frames_are_owned()
     ensures acceptable { (s : AdmissionContext) (r : Request) → IsAcceptable s r
         → All (λ frame. s.owner frame ≡ Some r.client) r.frames.items }
     ensures accessible { (owner : Frame → Option ClientId) (lent : Frame → Option RequestId) (client : ClientId)
@@ -192,7 +192,7 @@ pub fn law_issued_is_not_due()
 {}
 
 /// A slot is left for a request whether the earlier ones of its port are counted as clear to go or as due.
-pub fn law_due_and_unblocked_ahead_agree()
+pub fn law_counts_ahead_agree_on_slot_left()
     ensures { (mode : QueueMode) (book : List Unanswered) (r : Unanswered) → IsInOrder book
         → Contains book r
         → (unblocked_ahead_count mode book r < free_slots mode book r.port) ↔
@@ -236,7 +236,7 @@ pub fn law_due_in_turn()
 
 /// A port that takes plain commands alone has one due request at most, and none while one is issued. It is the first of
 /// those that wait.
-pub fn law_plain_ports_take_one()
+pub fn law_plain_ports_have_at_most_one_due()
     ensures one_at_most { (mode : QueueMode) (port : Port) (book : List Unanswered) → IsInOrder book → mode.queued
         ≡ false
         → length (due_of mode port book) ≤ 1 }
@@ -270,8 +270,8 @@ pub fn law_other_ports_requests_stay()
         → r.port ≢ port → requests_of_port port (without_request r.id book) ≡ requests_of_port port book }
 {}
 
-/// What the machine's steps on requests leave of what says which are due.
-pub fn law_effect_of_steps_on_unanswered()
+/// What each step on an accepted request leaves of the list that says which are due.
+pub fn law_effect_of_steps_after_acceptance_on_unanswered()
     ensures issue { (m : Machine) (mode : QueueMode) (e : Pending)
         → map unanswered (after_step m (Issue mode e)).book ≡ with_issued e.request.id (map unanswered m.book) }
     ensures wait_again { (m : Machine) (e : Pending)

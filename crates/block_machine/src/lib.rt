@@ -12,4 +12,6 @@ mod due;
 pub mod laws;
 
 pub use counts::{frame_count, is_allowed_count};
-pub use due::{QueueMode, Unanswered, are_conflicting, changes_sectors, is_plain, waits_for};
+pub use due::{
+    QueueMode, Unanswered, changes_sectors, conflict_by_flush_or_overlap, is_plain, waits_for,
+};

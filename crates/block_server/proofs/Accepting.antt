@@ -3,6 +3,7 @@ use Rattle.std.proofs.Common.{◌≡◌, ◌+◌, ◌^◌, ◌<◌, ◌++◌, �
 use Rattle.std.specs.Prelude.{slice_index_or}
 use Rattle.std.proofs.lemmas.Bool.{cases_lt}
 use Rattle.std.proofs.lemmas.List.Elements.{All-contains}
+use Rattle.ata_types.specs.declared.limits.TheConstants.{MOST_UNANSWERED_OF_A_CLIENT}
 use Rattle.ata_types.specs.declared.Port.{Port}
 use Rattle.ata_types.specs.declared.grant.GrantRow.{GrantRow}
 use Rattle.ata_types.specs.declared.refusal.Refusal.TheVariants.{ClientFull, Rule, IdsSpent}
@@ -36,8 +37,8 @@ module _ (s : ServerState) (r : Request) (acc : IsAcceptable (admission_context 
   faultless fault = none (Rattle.ata_types.specs.declared.refusal.Rule.TheVariants.Frames fault)
 
   module _ (k : InCallInvariant s) (port : Port) (is : IsRequestForPort s.grants r port) where
-    pub has_place : entry_count_of_client s.book r.client.0 < 16
-    has_place = elim (cases_lt (entry_count_of_client s.book r.client.0) 16) [ inl low ↦ low | inr high ↦ absurd (acc ClientFull high) ]
+    pub has_place : entry_count_of_client s.book r.client.0 < MOST_UNANSWERED_OF_A_CLIENT
+    has_place = elim (cases_lt (entry_count_of_client s.book r.client.0) MOST_UNANSWERED_OF_A_CLIENT) [ inl low ↦ low | inr high ↦ absurd (acc ClientFull high) ]
 
     pub low : port.0 < 4
     low = let its = (All-contains IsValidRow s.grants is.0 k.rows_are_valid is.1.0).port_is_at_most_3 in let same = ap (λ (p : Port). p.0) is.2 in omega (arith, its, same)

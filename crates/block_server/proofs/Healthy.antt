@@ -23,8 +23,8 @@ use Rattle.block_machine.specs.Histories.{JointEvent, JointState, events_of, joi
 use Rattle.block_machine.specs.Ports.{PortsWellFormed, Evidence, Ports}
 use Rattle.block_machine.specs.State.{Pending}
 use Rattle.block_machine.specs.Steps.{AllTouched, Answer, Step}
-use Rattle.durability.specs.Durable.{EveryPlugFindsFlushed}
-use Rattle.driver_history.specs.EvidenceHandling.{HandlesEvidenceAt}
+use Rattle.durability.specs.Durable.{EveryReplugFindsFlushedOrLater}
+use Rattle.driver_history.specs.EvidenceHandling.{HandlesIfServiceElseOnlyTickOrResetStops}
 use Rattle.driver_history.specs.Claims.{AnswerJustified, GoesWellFor, IsFaultFreeOutcome, IsHealthyFor}
 use Rattle.driver_history.specs.Evidence.{StaysHealthy}
 use Rattle.driver_history.specs.Histories.{IsDriverHistory}
@@ -41,7 +41,7 @@ use Rattle.server_history.specs.Histories.{ExtendsHistory, LeadsToServer}
 use Rattle.server_history.specs.ServerState.{is_served, ports_of, state_of}
 use Rattle.block_server.specs.ClientPromise.{ConfinesMovesAndClears, HoldsOfEachAdded, BetweenCallsInvariant, MatchesTape, PortStateIsJustified, IsSeenAt, FlushesSurviveReplugIfDisksTell}
 use Rattle.block_server.specs.InitialServer.{IsInitialServer}
-use Rattle.block_server.specs.Promise.{GoesWellForClients, IsFaultFreeAnswer, Simulates, ServesPorts}
+use Rattle.block_server.specs.Promise.{GoesWellForPortAndClients, IsFaultFreeAnswer, Simulates, ServesPorts}
 use Rattle.block_server.specs.AbstractCalls.{abstract_call_of, machine_result_of}
 use Rattle.block_server.specs.ServerView.{ServerView, server_of, observed_state_of}
 use Rattle.arrayvec.specs.ArrayVec.{ArrayVec}
@@ -69,7 +69,7 @@ pub record HistoryLaws : Type 0 where
   pub reads : (wanted : List Wanted) (first : JointState Device) (past : List (JointEvent Device DeviceStep)) → IsDriverHistory wanted first past
       → first.device.telling ≡ true → EveryReadHoldsExpected first.abstract (events_of past)
   pub lasts : (wanted : List Wanted) (first : JointState Device) (past : List (JointEvent Device DeviceStep)) → IsDriverHistory wanted first past
-      → first.device.telling ≡ true → EveryPlugFindsFlushed first.abstract.machine (steps_of (events_of past))
+      → first.device.telling ≡ true → EveryReplugFindsFlushedOrLater first.abstract.machine (steps_of (events_of past))
 
 -- What is known of ports that were found ready as an adapter was taken over.
 abbrev pub ReadyRunWell : Type 0
@@ -190,7 +190,7 @@ told_well ask said old evidence steps new e told answered here calm rests = let 
 
 module _ (laws : HistoryLaws) where
   served_well : (wanted : List Wanted) (first : JointState Device) (past : List (JointEvent Device DeviceStep)) (h : JointEvent Device DeviceStep) (port : Port)
-      → IsDriverHistory wanted first (h ∷ past) → IsHealthyFor (joint_state_after first past) h port → GoesWellForClients port (joint_state_after first past) h
+      → IsDriverHistory wanted first (h ∷ past) → IsHealthyFor (joint_state_after first past) h port → GoesWellForPortAndClients port (joint_state_after first past) h
   served_well wanted first past h port history healthy =
       let goes = laws.well wanted first past h port history healthy in
       let old = joint_state_after first past in
@@ -201,8 +201,8 @@ module _ (laws : HistoryLaws) where
           answers_are_fault_free = λ e told here own. told_well h.event.call h.event.result old.abstract h.event.evidence h.event.steps (abstract_after old.abstract h.event) e told history.1.result_matches_steps here
               (goes.is_spared.outcomes_are_fault_free e told here own)
               (λ ok. subst (AnswerJustified old h history.2.accesses e) ok (laws.rest wanted first past h history e told here));
-          answers_ended = λ asks.
-              (subst (λ (ask : AbstractCall DeviceStep). HandlesEvidenceAt port ask old.abstract h.event.evidence h.event.steps (abstract_after old.abstract h.event)) asks heeds healthy.ready).answers_ended;
+          answers_ok_what_had_ended = λ asks.
+              (subst (λ (ask : AbstractCall DeviceStep). HandlesIfServiceElseOnlyTickOrResetStops port ask old.abstract h.event.evidence h.event.steps (abstract_after old.abstract h.event)) asks heeds healthy.ready).answers_ok_what_had_ended;
           issues_all_due = goes.issues_all_due;
         },
       )
@@ -251,7 +251,7 @@ module _ (laws : HistoryLaws) where
       -- a call on which nothing goes wrong on a port that runs well
       goes_well : state_of (probe_result_of old.probe_results port.0) ≡ Ready → StaysHealthy port.0 (device old.adapter) (device new.adapter)
           → (h.event.call ≢ Reset) × (h.event.call ≡ Tick → TimesOutAtTick (joint_state_after first past).abstract port → ⊥)
-          → GoesWellForClients port (joint_state_after first past) h × (state_of (probe_result_of new.probe_results port.0) ≡ Ready) × RunsWell ((device new.adapter).port port.0)
+          → GoesWellForPortAndClients port (joint_state_after first past) h × (state_of (probe_result_of new.probe_results port.0) ≡ Ready) × RunsWell ((device new.adapter).port port.0)
       goes_well ready stays spared =
           let stays_in : StaysHealthy port.0 (joint_state_after first past).device h.device =
           subst (λ (d : Device). StaysHealthy port.0 d h.device) (sym leads.state_is_at_history_end.device_is)
@@ -337,7 +337,7 @@ module _ (laws : HistoryLaws) where
                 let spares = each_parted (Spares first port) past one two spared in
                 let here = a.drives_device.healthy_ports_go_well port ready (record { port_runs_well = stays.port_runs_well; undisturbed = u.before }) spares.0 in
                 let there = b.drives_device.healthy_ports_go_well port here.1 (record { port_runs_well = here.2; undisturbed = u.after }) spares.1 in
-                (each_joined (λ before h. GoesWellForClients port (joint_state_after first before) h) past one two here.0 there.0, there.1, there.2);
+                (each_joined (λ before h. GoesWellForPortAndClients port (joint_state_after first before) h) past one two here.0 there.0, there.1, there.2);
           };
         }
 

@@ -8,7 +8,7 @@ use Rattle.ata_types.specs.declared.request.Frame.{Frame}
 use Rattle.dma_frames.specs.Loan.{Lending}
 use Rattle.dma_frames.specs.FrameTables.{OwnersAndLoans, lent_to}
 use Rattle.server_history.specs.KeptLoans.{IsKeptIn, LoansEndInTurn, MayGiveBack, GivesBackLoans}
-use Rattle.request_queue.specs.BookEntries.{GivesBack, BookEntry, HasItsFrames}
+use Rattle.request_queue.specs.BookEntries.{GivesBack, BookEntry, FramesAreLentToIt}
 use Rattle.server_history.specs.ServerState.{DifferInRequest, IsLentOut, ServerState, quarantined_at}
 
 -- ---- port by port
@@ -118,13 +118,13 @@ pub record KeptLaws (s : ServerState) : Type 0 where
   pub answered : (port : ℕ) (loan : Lending) (e : BookEntry) → Contains (quarantined_at s.kept_loans port) loan → Contains s.book e → e.request.id ≢ loan.request
 
 -- what is kept may be given back once what is lent to the book's requests was
-pub may_go_back : (s : ServerState) (new : OwnersAndLoans) → KeptLaws s → All (HasItsFrames s.table) s.book → GivesBack s.table new s.book → MayGiveBack new s.kept_loans
+pub may_go_back : (s : ServerState) (new : OwnersAndLoans) → KeptLaws s → All (FramesAreLentToIt s.table) s.book → GivesBack s.table new s.book → MayGiveBack new s.kept_loans
 may_go_back s new laws stands given = record {
   loans_are_lent_out = λ port k d small i f inside.
       let b : Lending = get_or (quarantined_at s.kept_loans port) k d in
       let here : Contains (quarantined_at s.kept_loans port) b = (k, small, get_or_default (quarantined_at s.kept_loans port) k b d small) in
       given.other_loans_are_unchanged (get_or b.frames i f) (λ e there own.
-      let both : Some e.request.id ≡ Some b.request = sym (All-contains (λ (g : Frame). lent_to s.table g ≡ Some e.request.id) e.frames (get_or b.frames i f) (All-contains (HasItsFrames s.table) s.book e stands there) own)
+      let both : Some e.request.id ≡ Some b.request = sym (All-contains (λ (g : Frame). lent_to s.table g ≡ Some e.request.id) e.frames (get_or b.frames i f) (All-contains (FramesAreLentToIt s.table) s.book e stands there) own)
       ∙ laws.lent port k d small i f inside in
       laws.answered port b e here there cc)
       ∙ laws.lent port k d small i f inside;

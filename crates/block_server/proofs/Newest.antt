@@ -10,7 +10,7 @@ use Rattle.std.specs.Prelude.{nat_lt}
 use Rattle.ata_types.specs.declared.Port.{Port}
 use Rattle.block_machine.specs.declared.due.QueueMode.{QueueMode}
 use Rattle.block_machine.specs.declared.due.Unanswered.{Unanswered}
-use Rattle.block_machine.specs.DueRequests.{IsDue, NoneDue, unblocked_ahead_count, are_conflicting, due_of, free_slots, waits_for, is_unblocked, is_due, is_earlier_on_port, is_plain, issued_count}
+use Rattle.block_machine.specs.DueRequests.{IsDue, NoneDue, unblocked_ahead_count, conflict_by_flush_or_overlap, due_of, free_slots, waits_for, is_waiting_and_unblocked, is_due, is_earlier_on_port, is_plain, issued_count}
 use Rattle.request_queue.specs.BookEntries.{BookEntry, as_unanswered, unanswered_of}
 
 -- ---- tests
@@ -88,17 +88,17 @@ module _ (mode : QueueMode) (book : List Unanswered) (r : Unanswered) (waits : r
 
   -- it stands in the way of no earlier one
   free : (x : Unanswered) → Earlier x → waits_for mode x r ≡ false
-  free x late = held_no r.issued (nat_lt r.id.0 x.id.0) (r.port.0 == x.port.0) (is_plain mode x.op) (is_plain mode r.op) (is_plain mode r.op || are_conflicting r x) waits late
+  free x late = held_no r.issued (nat_lt r.id.0 x.id.0) (r.port.0 == x.port.0) (is_plain mode x.op) (is_plain mode r.op) (is_plain mode r.op || conflict_by_flush_or_overlap r x) waits late
 
-  clear_same : (x : Unanswered) → Earlier x → is_unblocked mode longer x ≡ is_unblocked mode book x
+  clear_same : (x : Unanswered) → Earlier x → is_waiting_and_unblocked mode longer x ≡ is_waiting_and_unblocked mode book x
   clear_same x late =
       ap (λ (b : Bool). not x.issued && not b) (list_any-append (waits_for mode x) book (r ∷ []) ∙ or_none (list_any (waits_for mode x) book) (waits_for mode x r) (free x late))
 
   ahead_same : EachOf Earlier book → (x : Unanswered) → Earlier x → unblocked_ahead_count mode longer x ≡ unblocked_ahead_count mode book x
   ahead_same all x late =
-      count_last (λ other. is_earlier_on_port other x && is_unblocked mode longer other) book r
-      (none_and (is_earlier_on_port r x) (is_unblocked mode longer r) (and_none (r.port.0 == x.port.0) (nat_lt r.id.0 x.id.0) late))
-      ∙ count_same (λ other. is_earlier_on_port other x && is_unblocked mode longer other) (λ other. is_earlier_on_port other x && is_unblocked mode book other) book
+      count_last (λ other. is_earlier_on_port other x && is_waiting_and_unblocked mode longer other) book r
+      (none_and (is_earlier_on_port r x) (is_waiting_and_unblocked mode longer r) (and_none (r.port.0 == x.port.0) (nat_lt r.id.0 x.id.0) late))
+      ∙ count_same (λ other. is_earlier_on_port other x && is_waiting_and_unblocked mode longer other) (λ other. is_earlier_on_port other x && is_waiting_and_unblocked mode book other) book
       (All_each book (λ other its. ap (λ (b : Bool). is_earlier_on_port other x && b) (clear_same other its)) all)
 
   free_same : (port : Port) → free_slots mode longer port ≡ free_slots mode book port
@@ -110,8 +110,8 @@ module _ (mode : QueueMode) (book : List Unanswered) (r : Unanswered) (waits : r
   due_same : EachOf Earlier book → (x : Unanswered) → Earlier x → is_due mode longer x ≡ is_due mode book x
   due_same all x late =
       ap (λ (b : Bool). b && (is_plain mode x.op || nat_lt (unblocked_ahead_count mode longer x) (free_slots mode longer x.port))) (clear_same x late)
-      ∙ ap (λ (n : ℕ). is_unblocked mode book x && (is_plain mode x.op || nat_lt n (free_slots mode longer x.port))) (ahead_same all x late)
-      ∙ ap (λ (n : ℕ). is_unblocked mode book x && (is_plain mode x.op || nat_lt (unblocked_ahead_count mode book x) n)) (free_same x.port)
+      ∙ ap (λ (n : ℕ). is_waiting_and_unblocked mode book x && (is_plain mode x.op || nat_lt n (free_slots mode longer x.port))) (ahead_same all x late)
+      ∙ ap (λ (n : ℕ). is_waiting_and_unblocked mode book x && (is_plain mode x.op || nat_lt (unblocked_ahead_count mode book x) n)) (free_same x.port)
 
   pub due_alone : (port : Port) → EachOf Earlier book → due_of mode port book ≡ [] → length (due_of mode port longer) ≤ 1
   due_alone port all none =

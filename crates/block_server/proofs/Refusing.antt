@@ -2,6 +2,7 @@
 use Rattle.std.proofs.Common.{ℕ, ◌≡◌, ◌≢◌, ◌+◌, ◌^◌, ◌<◌, ◌≤◌, Option, Some, Bool, true, false, refl, sym, ◌∙◌, ap, subst, arith}
 use Rattle.std.specs.Prelude.{IsTrue}
 use Rattle.std.proofs.lemmas.Bool.{true≢false}
+use Rattle.ata_types.specs.declared.limits.TheConstants.{MOST_UNANSWERED_OF_A_CLIENT}
 use Rattle.ata_types.specs.declared.PortState.{PortState}
 use Rattle.ata_types.specs.declared.PortState.TheVariants.{Ready}
 use Rattle.ata_types.specs.declared.grant.GrantRow.{GrantRow}
@@ -77,7 +78,7 @@ module _ (s : ServerState) (r : Request) (none : BreaksNone s.grants (owner_of s
         never_trim : RefusalApplies (admission_context s) r TrimUnsupported → ⊥
         never_trim applies = applies.1.2 (subst (λ (x : GrantRow). IsTrue ((ports_of s).zeroes_after_trim x.port)) (sym (the_same applies.1.0 applies.1.1)) (trims applies.0))
 
-        pub client_full : 16 ≤ entry_count_of_client s.book r.client.0 → IsFirstRefusal (admission_context s) r ClientFull
+        pub client_full : MOST_UNANSWERED_OF_A_CLIENT ≤ entry_count_of_client s.book r.client.0 → IsFirstRefusal (admission_context s) r ClientFull
         client_full full = ruling.client_full_first (admission_context s) r full (record {
           rules = none;
           ready = λ _. always_ready;
@@ -87,7 +88,7 @@ module _ (s : ServerState) (r : Request) (none : BreaksNone s.grants (owner_of s
           ids = λ h. below 13 12 (omega arith) h;
         })
 
-        module _ (room : entry_count_of_client s.book r.client.0 < 16) where
+        module _ (room : entry_count_of_client s.book r.client.0 < MOST_UNANSWERED_OF_A_CLIENT) where
           pub ids_spent : 2 ^ 64 ≤ s.last_id + 1 → IsFirstRefusal (admission_context s) r IdsSpent
           ids_spent spent = ruling.ids_spent_first (admission_context s) r spent (record {
             rules = none;

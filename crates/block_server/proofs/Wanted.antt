@@ -19,9 +19,9 @@ use Rattle.commands.specs.Batches.{PlacedTask}
 use Rattle.server_history.specs.IssuingAndAnswering.{IssuesTogetherIfAny, PutsInSlots}
 use Rattle.server_history.specs.ServerState.{ServerState}
 use Rattle.server_history.specs.Turns.{ServicesPort, EachPortTakesTurn, TakesTickTurn, ProbesUnready, a_tick_older}
-use Rattle.block_server.specs.Calls.{ServicesOrResolvesByStuck, Services, Submits, TicksUnlessStuck, TicksServer}
+use Rattle.block_server.specs.Calls.{ServicesEachPortOrResolvesIfStuck, Services, Submits, TicksUnlessStuck, TicksServer}
 use Rattle.block_server.specs.Resetting.{ResetsOrGetsStuck}
-use Rattle.block_server.specs.Revoking.{Revokes, RevokesAndIssues}
+use Rattle.block_server.specs.Revoking.{Revokes, RevokesAndIssuesDueOfItsPort}
 use Rattle.block_server.specs.ServerView.{ServerView, server_of}
 use Rattle.ata_types.specs.declared.call.NoSuchGrant.{NoSuchGrant}
 
@@ -68,7 +68,7 @@ ticks_port book port replies old new t = ⊎_elim (λ error_handled. error_handl
 same_port : (port : Port) (old new : ServerState) → new ≡ old → SameWanted old new
 same_port port old new same = ap (λ (s : ServerState). s.wanted) same
 
-services_by : (stuck : Bool) (ports : List ProbeResult) (replies : List Reply) (old new : ServerState) → ServicesOrResolvesByStuck stuck ports replies old new → SameWanted old new
+services_by : (stuck : Bool) (ports : List ProbeResult) (replies : List Reply) (old new : ServerState) → ServicesEachPortOrResolvesIfStuck stuck ports replies old new → SameWanted old new
 services_by false ports replies old new s =
     turns ServicesPort ProbesUnready (λ port its one other served. served.is_port_turn.leaves_others.wanted) (λ port one other tried. tried.is_port_turn.leaves_others.wanted) 0 ports replies old new s
 services_by true ports replies old new s = settles 0 ports replies old new s
@@ -98,7 +98,7 @@ module _ {A : Type 0} (device : A → Device) (old new : ServerView A) where
   pub revoke_wants : (client : ClientId) (number : ℕ) (replies : List Reply) (result : Result (Unit {0}) NoSuchGrant) → Revokes device old new client number replies result → new.wanted ≡ old.wanted
   revoke_wants client number replies (Ok done) revokes = by old.stuck refl
     where
-      r : RevokesAndIssues device client number replies old new
+      r : RevokesAndIssuesDueOfItsPort device client number replies old new
       r = revokes.0
 
       by : (stuck : Bool) → old.stuck ≡ stuck → new.wanted ≡ old.wanted

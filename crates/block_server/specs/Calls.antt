@@ -57,13 +57,14 @@ Submits device old new r (Err refusal) = IsFirstRefusal (admission_context (serv
 
 -- Each ready port was served, and each other one that is served was probed, in rising number. Since a reset that got
 -- stuck, all requests were told what their ports are: dead.
-abbrev pub ServicesOrResolvesByStuck : Bool → List ProbeResult → List Reply → ServerState → ServerState → Type 0
-ServicesOrResolvesByStuck false ports replies old new = ServicesEachPort 0 ports replies old new
-ServicesOrResolvesByStuck true ports replies old new = ResolvesEachPort 0 ports replies old new
+abbrev pub ServicesEachPortOrResolvesIfStuck : Bool → List ProbeResult → List Reply → ServerState → ServerState → Type 0
+ServicesEachPortOrResolvesIfStuck false ports replies old new = ServicesEachPort 0 ports replies old new
+ServicesEachPortOrResolvesIfStuck true ports replies old new = ResolvesEachPort 0 ports replies old new
 
 -- So a service does; it doesn't end a reset.
 abbrev pub Services : {A : Type 0} → (A → Device) → ServerView A → ServerView A → List Reply → Type 0
-Services device old new replies = ServicesOrResolvesByStuck old.stuck old.probe_results replies (server_of device old)
+Services device old new replies =
+    ServicesEachPortOrResolvesIfStuck old.stuck old.probe_results replies (server_of device old)
     (server_of device new)
     × (new.stuck ≡ old.stuck)
 

@@ -15,7 +15,7 @@ use Rattle.refinement.specs.Relation.{IsDiskOf, SameClientFrames, SameSectors}
 use Rattle.refinement.specs.Tape.{PutsInDisks, TellsDeviceSteps}
 use Rattle.block_machine.specs.Events.{AbstractCall, AbstractCallResult, EveryReadHoldsExpected, EmptyUnlessReady, IsRun, steps_of}
 use Rattle.block_machine.specs.Histories.{JointEvent, JointState, events_of, joint_state_after}
-use Rattle.durability.specs.Durable.{EveryPlugFindsFlushed}
+use Rattle.durability.specs.Durable.{EveryReplugFindsFlushedOrLater}
 use Rattle.driver_history.specs.PortInvariants.{ShowsDiskInfo}
 use Rattle.driver_history.specs.ConfinedMoves.{ConfinesCallMovesAndClears}
 use Rattle.host_boot.specs.TakeOver.{IsServed, wanted_of}
@@ -125,4 +125,4 @@ ConfinesMovesAndClears first past added = HoldsOfEachAdded
 pub record FlushesSurviveReplugIfDisksTell (first : JointState Device) (calls : List
     (JointEvent Device DeviceStep)) : Type 0 where
   pub plugs_find_flushed_if_disks_tell : first.device.telling ≡ true
-      → EveryPlugFindsFlushed first.abstract.machine (steps_of (events_of calls))
+      → EveryReplugFindsFlushedOrLater first.abstract.machine (steps_of (events_of calls))

@@ -54,7 +54,7 @@ pub record IsInitialServer {A : Type 0} (device : A → Device) (config : Config
   pub settled_invariant : SettledInvariant (server_of device s)
   pub starts_history : StartsHistory (server_of device s)
 
--- why no server is made
-abbrev pub IsWhyNoServerIsMade : Config → ServerError → Type 0
-IsWhyNoServerIsMade config (BadConfig kind) = IsLeastFault config kind
-IsWhyNoServerIsMade config NoMemory = LacksEveryFault config
+-- the error is the configuration's least fault; or it has none, and the error is NoMemory
+abbrev pub IsLeastFaultOrSoundAndNoMemory : Config → ServerError → Type 0
+IsLeastFaultOrSoundAndNoMemory config (BadConfig kind) = IsLeastFault config kind
+IsLeastFaultOrSoundAndNoMemory config NoMemory = LacksEveryFault config

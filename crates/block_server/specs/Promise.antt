@@ -13,7 +13,7 @@ use Rattle.adapter.specs.Device.{Device}
 use Rattle.adapter.specs.declared.access.DeviceStep.{DeviceStep}
 use Rattle.refinement.specs.PortFacts.{RunsWell}
 use Rattle.refinement.specs.Slots.{ServesRequest}
-use Rattle.block_machine.specs.Events.{CallRecord, AbstractCall, AbstractState, Reset, RevokeOf, Service, Tick, AnswersEnded, TimesOutAtTick, IsIssuedInBook, abstract_after}
+use Rattle.block_machine.specs.Events.{CallRecord, AbstractCall, AbstractState, Reset, RevokeOf, Service, Tick, AnswersOkWhatHadEnded, TimesOutAtTick, IsIssuedInBook, abstract_after}
 use Rattle.block_machine.specs.Histories.{JointEvent, JointState, joint_state_after}
 use Rattle.block_machine.specs.Ports.{SamePort}
 use Rattle.block_machine.specs.State.{Machine, Pending}
@@ -39,19 +39,19 @@ IsFaultFreeAnswer ask old e told = (told ≡ outcome.Ok) × IsIssuedInBook old e
 
 -- What a call is to the clients of a port that is ready and stays healthy, with no register in it. The port is what it
 -- was, with the same disk. What is answered there is told as where nothing goes wrong (`IsFaultFreeAnswer`); a service
--- answers each request that had ended when it began. And of the port's unanswered requests a submit, a service and a
+-- answers Ok each request that had ended when it began. And of the port's unanswered requests a submit, a service and a
 -- revocation issue exactly those that are due once all else is done.
 pub record MeetsPortPromise (port : Port) (old : AbstractState) (call : CallRecord DeviceStep) : Type 0 where
   pub port_is_same : SamePort old.ports call.ports port
   pub answers_are_fault_free : (e : Pending) (told : Outcome) → Contains call.steps (Answer e told)
       → e.request.port ≡ port
       → IsFaultFreeAnswer call.call old.machine e told
-  pub answers_ended : call.call ≡ Service → AnswersEnded old.machine call.steps port
+  pub answers_ok_what_had_ended : call.call ≡ Service → AnswersOkWhatHadEnded old.machine call.steps port
   pub issues_all_due : IssuesAllDue call.call call.steps (abstract_after old call).machine call.ports port
 
 -- The call goes well for the port, with its engine running all the time and after it, and serves the port's clients.
-abbrev pub GoesWellForClients : Port → JointState Device → JointEvent Device DeviceStep → Type 0
-GoesWellForClients port old h = GoesWellFor old h port × MeetsPortPromise port old.abstract h.event
+abbrev pub GoesWellForPortAndClients : Port → JointState Device → JointEvent Device DeviceStep → Type 0
+GoesWellForPortAndClients port old h = GoesWellFor old h port × MeetsPortPromise port old.abstract h.event
 
 -- In a call after these ones, a service answers each request of a port that is ready when it begins of which the bits
 -- of PxCI and PxSACT were clear then; and each port is served well that the call is healthy for.
@@ -65,7 +65,7 @@ pub record ServesPorts (first : JointState Device) (past : List (JointEvent Devi
       → ((joint_state_after first past).device.port port.0).sact slot ≡ false
       → (done : Pending) × (done.request.id ≡ id) × Contains h.event.steps (Answer done outcome.Ok)
   pub goes_well_if_healthy : (port : Port) → IsHealthyFor (joint_state_after first past) h port
-      → GoesWellForClients port (joint_state_after first past) h
+      → GoesWellForPortAndClients port (joint_state_after first past) h
 
 -- What is promised of the device. With these calls the history leads to the server after them: so
 -- `CallCorresponds` of driver_history has of each of them which accesses were made, what stands behind the evidence,
@@ -83,7 +83,7 @@ pub record DrivesDevice {A : Type 0} (device : A → Device) (first : JointState
       → HoldsOfEachAdded (λ before h. (h.event.call ≢ Reset)
       × (h.event.call ≡ Tick → TimesOutAtTick (joint_state_after first before).abstract port → ⊥))
       past added
-      → HoldsOfEachAdded (λ before h. GoesWellForClients port (joint_state_after first before) h) past added
+      → HoldsOfEachAdded (λ before h. GoesWellForPortAndClients port (joint_state_after first before) h) past added
       × (state_of (probe_result_of new.probe_results port.0) ≡ Ready) × RunsWell ((device new.adapter).port port.0)
 
 -- After a history that leads to the server before them, the calls of a list, which said this, add theirs: with what is

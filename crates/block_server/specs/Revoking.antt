@@ -21,7 +21,8 @@ revoke_result (Err none) replies = WasRevoked None
 
 -- The grant was revoked. Then, while the adapter is on, what is due on its port was issued; since a reset that got
 -- stuck nothing is. Where nothing was to be issued, no access was made.
-pub record RevokesAndIssues {A : Type 0} (device : A → Device) (client : ClientId) (number : ℕ) (replies : List Reply)
+pub record RevokesAndIssuesDueOfItsPort {A : Type 0} (device : A → Device) (client : ClientId) (number : ℕ)
+    (replies : List Reply)
     (old new : ServerView A) : Type 0 where
   pub server_after_revocation : ServerState
   pub revokes : RevokesGrant client number replies (server_of device old) server_after_revocation
@@ -37,7 +38,8 @@ pub record RevokesAndIssues {A : Type 0} (device : A → Device) (client : Clien
 -- number, there is no reply, and nothing changed: neither server nor adapter.
 abbrev pub Revokes : {A : Type 0} → (A → Device) → ServerView A → ServerView A → ClientId → ℕ → List Reply
     → Result (Unit {0}) NoSuchGrant → Type 0
-Revokes device old new client number replies (Ok done) = RevokesAndIssues device client number replies old new
+Revokes device old new client number replies (Ok done) =
+    RevokesAndIssuesDueOfItsPort device client number replies old new
     × (new.stuck ≡ old.stuck)
 Revokes device old new client number replies (Err none) = (HasRow client number old.grants → ⊥) × (replies ≡ [])
     × (new ≡ old)

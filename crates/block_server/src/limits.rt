@@ -3,9 +3,6 @@ ghost use Rattle.std.specs.Prelude.{◌≢◌, ◌<◌, ◌+◌, ◌↔◌, IsTr
 
 use ata_types::{Op, Request};
 
-/// Unanswered requests of one client at most.
-pub(crate) const MOST_CLIENT_UNANSWERED: usize = 16;
-
 /// Whether sectors of a request leave a disk of so many. A flush has none.
 pub(crate) fn exceeds_disk(r: &Request, sectors: u64) -> bool
     ensures { IsTrue result ↔ ((r.now.op ≢ Op.Flush) × (sectors < r.now.first.0 + r.now.count)) }

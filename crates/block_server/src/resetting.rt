@@ -7,7 +7,7 @@ ghost use Rattle.block_server.specs.{FourPorts.{EachBecomes, IsAsHostProbed, by_
 ghost use Rattle.server_history.specs.{KeptLoans.{IsKeptIn, MayGiveBack, GivesBackLoans}, Resets.{IssuesOnEachReadyPort, MayResolve, ResolvesEachPort}, ServerState.{InCallInvariant, ServerState, plain_mode}, StuckServer.{found_after_stuck_reset}};
 
 use adapter::Adapter;
-use ata_types::{MOST_UNANSWERED, PORTS, Port, Replies};
+use ata_types::{MOST_UNANSWERED_OF_ALL_CLIENTS, PORTS, Port, Replies};
 use dma_frames::FrameTable;
 use host_boot::Host;
 use port_driver::{ServedPort, Shared, probed_mode};
@@ -40,15 +40,15 @@ pub(crate) fn note_stuck_reset(ports: &mut [ServedPort; PORTS])
     }
 }
 
-/// Notes what each port was found to be once the adapter was taken over, and how it takes commands then.
-pub(crate) fn note_probe_result(ports: &mut [ServedPort; PORTS], host: &Host)
+/// Replaces what each port was found to be by what the take-over found, and how it takes commands; frees all its slots.
+pub(crate) fn replace_probe_results_and_free_slots(ports: &mut [ServedPort; PORTS], host: &Host)
     requires { length host.now.ports ≡ 4 }
     ensures { EachBecomes (IsAsHostProbed host.now) ports.old ports.new }
 {
     for number in 0..PORTS {
         let found = host.ports[number];
         let mode = probed_mode(host.slot_count, host.supports_ncq, &found);
-        ports[number].note_probe_result(found, mode);
+        ports[number].replace_probe_result_and_free_slots(found, mode);
     }
 }
 
@@ -60,7 +60,7 @@ pub(crate) fn resolve_ports(
     replies: &mut Replies,
 )
     requires may_resolve { (s : ServerState) × MayResolve (with_ports s s.device shared.old ports.old) }
-    requires room { length replies.old.items + length shared.old.book ≤ MOST_UNANSWERED }
+    requires room { length replies.old.items + length shared.old.book ≤ MOST_UNANSWERED_OF_ALL_CLIENTS }
     ensures resolves_ports { (s : ServerState) → MayResolve (with_ports s s.device shared.old ports.old)
         → (its : List Reply) × (replies.new.items ≡ replies.old.items ++ its)
         × ResolvesEachPort 0 (by_port (λ p. p.probe_result) ports.old) its

@@ -9,14 +9,15 @@ use crate::by_port::{
     destroy_quarantines, empty_quarantines, into_quarantines, overdue_ports, ready_ports,
     unserved_ports, wanted_disks,
 };
-use crate::limits::{MOST_CLIENT_UNANSWERED, exceeds_disk};
+use crate::limits::exceeds_disk;
 use crate::resetting::{
-    give_all_back, issue_due_on_ports, note_probe_result, note_stuck_reset, resolve_ports,
+    give_all_back, issue_due_on_ports, note_stuck_reset, replace_probe_results_and_free_slots,
+    resolve_ports,
 };
 use adapter::{Adapter, DeviceStep, Stepped};
 use ata_types::{
-    AdapterStuck, MOST_UNANSWERED, Op, PORTS, Port, PortState, Range, Refusal, Replies, Request,
-    RequestId,
+    AdapterStuck, MOST_UNANSWERED_OF_A_CLIENT, MOST_UNANSWERED_OF_ALL_CLIENTS, Op, PORTS, Port,
+    PortState, Range, Refusal, Replies, Request, RequestId,
 };
 use block_machine::laws::law_due_list_is_exact;
 use configuration::{Config, Plan};
@@ -32,10 +33,10 @@ use server_history::laws::{
     law_new_server_starts_history, law_refusals_extend_history, law_requests_preserve_invariant,
     law_services_extend_history, law_ticks_extend_history,
 };
-use server_history::resets::{law_reset_leads_to_settled, law_resets_extend_history};
+use server_history::resets::{law_ended_resets_extend_history, law_reset_leads_to_settled};
 use server_history::stuck_server::{
-    law_in_call_gives_server_invariant, law_quarantined_loans_are_lent,
-    law_stuck_calls_extend_history, law_stuck_servers_admit_none,
+    law_calls_that_end_stuck_extend_history, law_in_call_gives_server_invariant,
+    law_quarantined_loans_are_lent, law_stuck_servers_admit_none,
 };
 use std::alloc::Global;
 use std::marker::Model;
@@ -67,7 +68,7 @@ impl<A: Adapter> Model for Server<A> {
 
 impl<A: Adapter> Server<A> {
     ghost use Rattle.block_machine.specs.{Events.{Reset, Service, Replied, Submit, Submitted, State, PortStateShown, Tick, WasReset}, Refusals.{IsAcceptable, IsFirstRefusal}};
-    ghost use Rattle.block_server.specs.{Calls.{AcceptsRequest, IsRequestForPort, Submits, Services, TicksServer}, InitialServer.{IsReadyFor, IsInitialServer, IsWhyNoServerIsMade}, ServerView.{server_of}, Resetting.{ResetsOrGetsStuck, reset_result}, Costs.{MOST_NEW_ACCESSES, MOST_RESET_ACCESSES, MOST_SERVICE_ACCESSES, MOST_SUBMIT_ACCESSES, MOST_TICK_ACCESSES}};
+    ghost use Rattle.block_server.specs.{Calls.{AcceptsRequest, IsRequestForPort, Submits, Services, TicksServer}, InitialServer.{IsReadyFor, IsInitialServer, IsLeastFaultOrSoundAndNoMemory}, ServerView.{server_of}, Resetting.{ResetsOrGetsStuck, reset_result}, Costs.{MOST_NEW_ACCESSES, MOST_RESET_ACCESSES, MOST_SERVICE_ACCESSES, MOST_SUBMIT_ACCESSES, MOST_TICK_ACCESSES}};
     ghost use Rattle.configuration.specs.Rules.{LacksEveryFault};
     ghost use Rattle.host_boot.specs.TakeOver.{probe_result_of};
     ghost use Rattle.server_history.specs.{Histories.{ExtendsHistory}, ServerState.{last_disk_of, remembered_at, admission_context, state_of, last_sectors_of, zeroes_after_trim_of}};
@@ -84,7 +85,7 @@ impl<A: Adapter> Server<A> {
         requires ready { IsReadyFor config.now (A.device adapter) }
         ensures made { IfOk result (IsInitialServer A.device config.now adapter) }
         ensures config_is_sound { OnOk result (LacksEveryFault config.now) }
-        ensures refused { IfErr result (λ e. IsWhyNoServerIsMade config.now e.0 × (e.1 ≡ adapter)) }
+        ensures refused { IfErr result (λ e. IsLeastFaultOrSoundAndNoMemory config.now e.0 × (e.1 ≡ adapter)) }
         ensures cost { IfOk result (λ server. MakesAtMost MOST_NEW_ACCESSES
             (A.access_count adapter) (A.access_count server.adapter)) }
     {
@@ -108,7 +109,7 @@ impl<A: Adapter> Server<A> {
         };
         let mut ports = unserved_ports(plan.wanted(), kept);
         let host = take_over(&mut adapter, plan.wanted());
-        note_probe_result(&mut ports, &host);
+        replace_probe_results_and_free_slots(&mut ports, &host);
         law_new_server_starts_history();
         Ok(Server {
             adapter,
@@ -213,7 +214,7 @@ impl<A: Adapter> Server<A> {
         if self.lacks_trim(r, row.port) {
             return Err(Refusal::TrimUnsupported);
         }
-        if self.shared.book.unanswered_count(r.client) >= MOST_CLIENT_UNANSWERED {
+        if self.shared.book.unanswered_count(r.client) >= MOST_UNANSWERED_OF_A_CLIENT {
             return Err(Refusal::ClientFull);
         }
         if self.last >= u64::MAX {
@@ -343,7 +344,7 @@ impl<A: Adapter> Server<A> {
         ensures cost { MakesAtMost 0 (A.access_count self.old.adapter) (A.access_count self.new.adapter) }
     {
         law_in_call_gives_server_invariant();
-        law_stuck_calls_extend_history();
+        law_calls_that_end_stuck_extend_history();
         law_book_stays_well_formed();
         resolve_ports(&mut self.ports, &mut self.shared, replies);
     }
@@ -383,7 +384,7 @@ impl<A: Adapter> Server<A> {
     {
         law_aging_keeps_invariant();
         law_ticks_extend_history();
-        law_stuck_calls_extend_history();
+        law_calls_that_end_stuck_extend_history();
         law_book_stays_well_formed();
         replies.clear();
         if self.stuck {
@@ -445,8 +446,8 @@ impl<A: Adapter> Server<A> {
         law_in_call_gives_server_invariant();
         law_quarantined_loans_are_lent();
         law_reset_leads_to_settled();
-        law_resets_extend_history();
-        law_stuck_calls_extend_history();
+        law_ended_resets_extend_history();
+        law_calls_that_end_stuck_extend_history();
         law_book_stays_well_formed();
         replies.clear();
         if let Err(stuck) = reset(&mut self.adapter) {
@@ -456,7 +457,7 @@ impl<A: Adapter> Server<A> {
         }
         give_all_back(&mut self.ports, &mut self.shared.table);
         let host = take_over(&mut self.adapter, &wanted_disks(&self.ports));
-        note_probe_result(&mut self.ports, &host);
+        replace_probe_results_and_free_slots(&mut self.ports, &host);
         self.stuck = false;
         resolve_ports(&mut self.ports, &mut self.shared, replies);
         issue_due_on_ports(&mut self.ports, &mut self.adapter, &mut self.shared);

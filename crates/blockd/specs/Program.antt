@@ -6,7 +6,7 @@ use Rattle.std.specs.Io.KnownBytes.{Keeps}
 use Rattle.sector_store.specs.declared.disks.DiskStore.{DiskStore}
 use Rattle.sector_store.specs.declared.disks.DiskStore.TheVariants.{File, Memory}
 use Rattle.sector_store.specs.declared.file.FileStore.{FileStore}
-use Rattle.sector_store.specs.Stores.{followed_by_zeros}
+use Rattle.sector_store.specs.Stores.{filled_with_zeros_to_size}
 use Rattle.sector_store.specs.declared.store.MemStore.{MemStore}
 use Rattle.blockd.specs.declared.command_line.Args.{Args}
 use Rattle.device_model.specs.declared.model.Model.{Model}
@@ -58,12 +58,12 @@ module _ {H : Type 0} (reads : H → H → List ℕ → Result (Vec ℕ) FileErr
 -- ---- its run
 
 -- the image, and a disk in memory with 2048 sectors of zeros
-pub record AreDisksOver (image : FileStore) (first second : DiskStore) : Type 0 where
+pub record IsImageAnd2048BlankSectors (image : FileStore) (first second : DiskStore) : Type 0 where
   pub first_is : first ≡ File image
   pub blank : MemStore
   pub second_is : second ≡ Memory blank
-  pub size : blank.size ≡ 2048
-  pub zeros : followed_by_zeros blank.size blank.written.items ≡ replicate 2048 (replicate 512 0)
+  pub blank_has_2048_sectors : blank.size ≡ 2048
+  pub zeros : filled_with_zeros_to_size blank.size blank.written.items ≡ replicate 2048 (replicate 512 0)
 
 -- What is told is how the play ended; or, where that was well, that the output failed to hand on what it had gathered.
 abbrev pub TellsEnd : Ended → Result (Unit {0}) BlockdError → Type 0

@@ -9,7 +9,7 @@
 use command_line::{Args, ArgsFault};
 use fault::BlockdError;
 use play::PlayInputs;
-use program::{FileError, FileSource, Inputs, disks_over, load, run_script};
+use program::{FileError, FileSource, Inputs, image_and_2048_blank_sectors, load, run_script};
 use sector_store::FileStore;
 use std::fs::{self, File, Files};
 use std::io::{self, BufWriter, IsTerminal, Read};
@@ -113,7 +113,7 @@ fn print_played(
     trace: bool,
     is_watched: bool,
 ) -> Result<(), BlockdError> {
-    let (image, blank) = disks_over(rt.alloc(), image)?;
+    let (image, blank) = image_and_2048_blank_sectors(rt.alloc(), image)?;
     let gathered = if is_watched { 0 } else { GATHERED };
     let mut out = BufWriter::with_capacity(rt.alloc(), gathered, io::writer(rt)).map_err(
         |error| unless_memory(&error, BlockdError::Unwritten),

@@ -1,7 +1,7 @@
 // What the program makes of its files, once they are read: `main` hands over what the system gives.
 ghost use Rattle.std.specs.{Prelude.{◌≡◌, ℕ, IfOk, List}, Global.{Vec as VecOf}, Io.KnownBytes.{Keeps}, declared.result.Result.{Result as ResultOf}};
 ghost use Rattle.sector_store.specs.declared.file.FileStore.{FileStore as FileStoreOf};
-ghost use Rattle.blockd.specs.{Program.{AreDisksOver, Loads, RunsScript, TellsEnd, file_fault_of}, declared.program.FileError.{FileError as UnreadOf}};
+ghost use Rattle.blockd.specs.{Program.{IsImageAnd2048BlankSectors, Loads, RunsScript, TellsEnd, file_fault_of}, declared.program.FileError.{FileError as UnreadOf}};
 
 use crate::command_line::Args;
 use crate::fault::{BlockdError, program_result};
@@ -82,8 +82,11 @@ pub fn load<H: FileSource>(host: &mut H, args: &Args) -> Result<Inputs, BlockdEr
 }
 
 /// The two disks of a run: the image, which is in at first, and the blank one, in memory.
-pub fn disks_over(alloc: Global, image: FileStore) -> Result<(DiskStore, DiskStore), AllocError>
-    ensures { IfOk result (λ disks. AreDisksOver image disks.0 disks.1) }
+pub fn image_and_2048_blank_sectors(
+    alloc: Global,
+    image: FileStore,
+) -> Result<(DiskStore, DiskStore), AllocError>
+    ensures { IfOk result (λ disks. IsImageAnd2048BlankSectors image disks.0 disks.1) }
 {
     let blank = MemStore::new(alloc, BLANK_SECTORS)?;
     Ok((DiskStore::File(image), DiskStore::Memory(blank)))

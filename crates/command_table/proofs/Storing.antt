@@ -13,25 +13,25 @@ use Rattle.adapter.specs.Commands.{IsValidMeaning, Meaning, command_of, piece_co
 use Rattle.adapter.specs.Decoding.{IsWholePieces, pieces}
 use Rattle.adapter.specs.Device.{Device}
 use Rattle.adapter.specs.Memory.{patched, bytes_at}
-use Rattle.adapter.specs.Rules.{IsOn, IsUnowned, IsStable}
+use Rattle.adapter.specs.Rules.{IsOn, IsInMemoryNotOwnedByDevice, IsStable}
 use Rattle.adapter.specs.Encoding.{EncodesCommand, EncodesHeader, EncodesPrd}
 use Rattle.adapter.specs.declared.command.Command.{Command}
 use Rattle.adapter.specs.declared.command.Operation.{Operation}
 use Rattle.adapter.specs.declared.command.Prd.{Prd}
 use Rattle.refinement.specs.Fragments.{AnyAccess, SomeMachineAgrees, IsDrivenBy, IsSimulated, SparesOtherPorts, NoneWrites}
 use Rattle.refinement.specs.PreservedParts.{SameAdapter}
-use Rattle.refinement.specs.Driver.{KeepsTablesAndScratchUnlessOwn, MayStore, MissesTableAndHeaderButPrdbc}
+use Rattle.refinement.specs.Driver.{KeepsTablesAndScratchUnlessOwn, IsInMemoryOfFreeSlot, MissesTableAndHeaderButPrdbc}
 use Rattle.refinement.specs.MemoryLayout.{command_list_address, scratch_frame_address, command_table_address}
 use Rattle.refinement.specs.Slots.{SlotStates, SlotDecodesTo}
 use Rattle.command_table.specs.BufferBytes.{bytes_from}
 use Rattle.command_table.specs.Laws.{Laws}
 use Rattle.command_table.specs.Laws.AccessPurpose.{Tables, TablesAndBlock}
-use Rattle.command_table.specs.TableStores.{IsTableFor, FillsHeaderWithPrdbcZero, IsInTable, IsHeaderTableOrBlockStore, IsHeaderOrTableStore, IsUnused}
+use Rattle.command_table.specs.TableStores.{IsTableFor, FillsHeaderWithPrdbcZero, IsInTable, IsHeaderTableOrBlockStore, IsHeaderOrTableStore, IsSlotStateFree}
 use Rattle.command_table.specs.SectorPlaces.{places_of}
 use Rattle.command_table.proofs.Saying.{table_says}
 
 -- the driver may store them
-may_store : (uses : SlotStates) (port slot at : ℕ) (bytes : List ℕ) → port < 4 → slot < 32 → IsUnused port slot uses → IsHeaderOrTableStore port slot (Storing at bytes) → MayStore uses at (length bytes)
+may_store : (uses : SlotStates) (port slot at : ℕ) (bytes : List ℕ) → port < 4 → slot < 32 → IsSlotStateFree port slot uses → IsHeaderOrTableStore port slot (Storing at bytes) → IsInMemoryOfFreeSlot uses at (length bytes)
 may_store uses port slot at bytes below small free here = inl (record { port = port; slot = slot; port_is_below_4 = below; slot_below = small; free = free; is_in_header_or_table = of here })
   where
     of : FillsHeaderWithPrdbcZero port slot at bytes ⊎ IsInTable port slot at bytes →
@@ -40,10 +40,10 @@ may_store uses port slot at bytes below small free here = inl (record { port = p
     of (inr t) = inr t
 
 -- whatever the device does first
-pub store_free : Laws → (uses : SlotStates) (d : Device) (port slot at : ℕ) (bytes : List ℕ) → SomeMachineAgrees uses d → DRIVER_BYTES ≤ d.memory_size → port < 4 → slot < 32 → IsUnused port slot uses → IsHeaderOrTableStore port slot (Storing at bytes) →
-    IsStable (IsUnowned at (length bytes)) d
+pub store_free : Laws → (uses : SlotStates) (d : Device) (port slot at : ℕ) (bytes : List ℕ) → SomeMachineAgrees uses d → DRIVER_BYTES ≤ d.memory_size → port < 4 → slot < 32 → IsSlotStateFree port slot uses → IsHeaderOrTableStore port slot (Storing at bytes) →
+    IsStable (IsInMemoryNotOwnedByDevice at (length bytes)) d
 store_free laws uses d port slot at bytes a room below small free here =
-    laws.storable_bytes_are_unowned uses a.machine d a.reached a.driver_relation.state_relation at (length bytes)
+    laws.device_owns_no_storable_bytes uses a.machine d a.reached a.driver_relation.state_relation at (length bytes)
     (elim here [ inl h ↦ let place = h.0 in let size = h.1 in omega (arith, room, place, size, below, small) | inr table ↦ let t = table.1 in omega (arith, room, t) ])
     (may_store uses port slot at bytes below small free here)
 
@@ -63,7 +63,7 @@ table_spares port slot r (Writing s v) here = absurd here
 -- ---- one store
 
 module _ (laws : Laws) (port slot : ℕ) (below : port < 4) (small : slot < 32) (at : ℕ) (bytes : List ℕ) (old new : Device) (here : IsHeaderOrTableStore port slot (Storing at bytes)) (call : Stores at bytes old new) where
-  pub store_followed : IsSimulated (IsHeaderOrTableStore port slot) (IsUnused port slot) old new
+  pub store_followed : IsSimulated (IsHeaderOrTableStore port slot) (IsSlotStateFree port slot) old new
   store_followed = laws.fragments.stores (Tables port slot) at bytes old new here (λ uses free. may_store uses port slot at bytes below small free here) call
 
   pub store_on : IsOn old → IsOn new
@@ -75,7 +75,7 @@ module _ (laws : Laws) (port slot : ℕ) (below : port < 4) (small : slot < 32) 
   pub store_size : new.memory_size ≡ old.memory_size
   store_size = (laws.access_keeps_adapter (Storing at bytes) old new call).memory_size
 
-  module _ (on : IsOn old) (uses : SlotStates) (free : IsUnused port slot uses) (a : SomeMachineAgrees uses old) where
+  module _ (on : IsOn old) (uses : SlotStates) (free : IsSlotStateFree port slot uses) (a : SomeMachineAgrees uses old) where
     pub store_left : KeepsTablesAndScratchUnlessOwn uses (record old { memory = patched old.memory at bytes }) new
     store_left = laws.store_keeps_tables uses a.machine old new a.reached a.driver_relation.state_relation on.no_reset at bytes call
 
@@ -84,7 +84,7 @@ module _ (laws : Laws) (port slot : ℕ) (below : port < 4) (small : slot < 32) 
 
 -- ---- the table, and then the header
 
-module _ (laws : Laws) (port slot : ℕ) (below : port < 4) (small : slot < 32) (uses : SlotStates) (free : IsUnused port slot uses) (old mid new : Device) (on : IsOn old) (a : SomeMachineAgrees uses old)
+module _ (laws : Laws) (port slot : ℕ) (below : port < 4) (small : slot < 32) (uses : SlotStates) (free : IsSlotStateFree port slot uses) (old mid new : Device) (on : IsOn old) (a : SomeMachineAgrees uses old)
     (prds : List Prd) (table header : List ℕ) (few : length prds ≤ MOST_REQUEST_FRAMES) (size : TABLE_HEAD_BYTES + PRD_BYTES * length prds ≤ length table) (front : length (take (TABLE_HEAD_BYTES + PRD_BYTES * length prds) table) ≡ TABLE_HEAD_BYTES + PRD_BYTES * length prds)
     (first : Stores (command_table_address port slot) (take (TABLE_HEAD_BYTES + PRD_BYTES * length prds) table) old mid) (second : Stores (command_list_address port + 32 * slot) header mid new)
     (writes : Bool) (command : Command) (direction : (o : Operation) (s first count : ℕ) → command ≡ command_of o s first count → writes ≡ reads_memory o) (fis : EncodesCommand (bytes_from table 0 20) command)
@@ -137,16 +137,16 @@ block_misses port at n is place (inl header) from to = let h = header.1 in omega
 block_misses port at n is place (inr (inl header)) from to = let h = header.1 in omega (arith, is, h, from)
 block_misses port at n is place (inr (inr table)) from to = let t = table.1 in omega (arith, is, t, from)
 
-may_store_block : (uses : SlotStates) (port at : ℕ) (block : List ℕ) → port < 4 → at ≡ scratch_frame_address port → length block ≡ 512 → IsUnused port 0 uses → MayStore uses at (length block)
+may_store_block : (uses : SlotStates) (port at : ℕ) (block : List ℕ) → port < 4 → at ≡ scratch_frame_address port → length block ≡ 512 → IsSlotStateFree port 0 uses → IsInMemoryOfFreeSlot uses at (length block)
 may_store_block uses port at block below is size free = inr (record { port = port; below = below; free = free; begins_in_scratch = omega (arith, is); ends_in_scratch = omega (arith, is, size) })
 
-pub block_free : Laws → (uses : SlotStates) (d : Device) (port at : ℕ) (block : List ℕ) → SomeMachineAgrees uses d → DRIVER_BYTES ≤ d.memory_size → port < 4 → at ≡ scratch_frame_address port → length block ≡ 512 → IsUnused port 0 uses →
-    IsStable (IsUnowned at (length block)) d
+pub block_free : Laws → (uses : SlotStates) (d : Device) (port at : ℕ) (block : List ℕ) → SomeMachineAgrees uses d → DRIVER_BYTES ≤ d.memory_size → port < 4 → at ≡ scratch_frame_address port → length block ≡ 512 → IsSlotStateFree port 0 uses →
+    IsStable (IsInMemoryNotOwnedByDevice at (length block)) d
 block_free laws uses d port at block a room below is size free =
-    laws.storable_bytes_are_unowned uses a.machine d a.reached a.driver_relation.state_relation at (length block) (omega (arith, room, below, is, size)) (may_store_block uses port at block below is size free)
+    laws.device_owns_no_storable_bytes uses a.machine d a.reached a.driver_relation.state_relation at (length block) (omega (arith, room, below, is, size)) (may_store_block uses port at block below is size free)
 
 module _ (laws : Laws) (port at : ℕ) (below : port < 4) (is : at ≡ scratch_frame_address port) (block : List ℕ) (size : length block ≡ 512) (old new : Device) (call : Stores at block old new) where
-  pub block_followed : IsSimulated (IsHeaderTableOrBlockStore port 0) (IsUnused port 0) old new
+  pub block_followed : IsSimulated (IsHeaderTableOrBlockStore port 0) (IsSlotStateFree port 0) old new
   block_followed =
       laws.fragments.stores (TablesAndBlock port) at block old new (inr (refl, is, size)) (λ uses free. may_store_block uses port at block below is size free) call
 
@@ -163,15 +163,15 @@ module _ (laws : Laws) (port at : ℕ) (below : port < 4) (is : at ≡ scratch_f
       laws.store_keeps_other_tables uses at block old new (laws.store_keeps_tables uses a.machine old new a.reached a.driver_relation.state_relation on.no_reset at block call) port 0 m places below (omega arith) (block_misses port at (length block) is) told
 
 -- after header and table, the slot is unused still, and the memory as large
-pub table_agrees : Laws → (port : ℕ) (uses : SlotStates) (old mid : Device) → IsUnused port 0 uses → IsSimulated (IsHeaderOrTableStore port 0) (IsUnused port 0) old mid → SomeMachineAgrees uses old → SomeMachineAgrees uses mid
+pub table_agrees : Laws → (port : ℕ) (uses : SlotStates) (old mid : Device) → IsSlotStateFree port 0 uses → IsSimulated (IsHeaderOrTableStore port 0) (IsSlotStateFree port 0) old mid → SomeMachineAgrees uses old → SomeMachineAgrees uses mid
 table_agrees laws port uses old mid = laws.fragments.some_machine_agrees (Tables port 0) (λ uses. uses) uses old mid
 
-pub table_size : ((old new : Device) → IsDrivenBy AnyAccess old new → SameAdapter old new) → (port : ℕ) (old mid : Device) → IsSimulated (IsHeaderOrTableStore port 0) (IsUnused port 0) old mid → mid.memory_size ≡ old.memory_size
+pub table_size : ((old new : Device) → IsDrivenBy AnyAccess old new → SameAdapter old new) → (port : ℕ) (old mid : Device) → IsSimulated (IsHeaderOrTableStore port 0) (IsSlotStateFree port 0) old mid → mid.memory_size ≡ old.memory_size
 table_size same port old mid table = (same old mid (record { accesses = table.is_driven.accesses; all_are_done = table.is_driven.all_are_done; accesses_are_of_kind = All-weaker (IsHeaderOrTableStore port 0) AnyAccess (λ access here. tt) table.is_driven.accesses table.is_driven.accesses_are_of_kind })).memory_size
 
 -- header and table, and then a block
-pub with_block : Laws → (port : ℕ) (old mid new : Device) → IsSimulated (IsHeaderOrTableStore port 0) (IsUnused port 0) old mid → IsSimulated (IsHeaderTableOrBlockStore port 0) (IsUnused port 0) mid new →
-    IsSimulated (IsHeaderTableOrBlockStore port 0) (IsUnused port 0) old new
+pub with_block : Laws → (port : ℕ) (old mid new : Device) → IsSimulated (IsHeaderOrTableStore port 0) (IsSlotStateFree port 0) old mid → IsSimulated (IsHeaderTableOrBlockStore port 0) (IsSlotStateFree port 0) mid new →
+    IsSimulated (IsHeaderTableOrBlockStore port 0) (IsSlotStateFree port 0) old new
 with_block laws port old mid new table block =
     let wider = laws.fragments.is_of_wider_kind (Tables port 0) (TablesAndBlock port) (λ uses. uses) (λ access here. inl here) (λ uses free. free) old mid table in
     (laws.fragments.fragments_join (TablesAndBlock port) (TablesAndBlock port) (λ uses. uses) (λ uses. uses) (λ access here. here) (λ uses free. free) old mid new wider.is_simulated block).is_simulated

@@ -7,16 +7,16 @@ use Rattle.adapter.specs.Access.Access.{Writing}
 use Rattle.adapter.specs.Commands.{Meaning}
 use Rattle.adapter.specs.Device.{Device}
 use Rattle.adapter.specs.Memory.{bytes_at, patched}
-use Rattle.adapter.specs.Rules.{IsOn, IsStable, IsUnowned}
+use Rattle.adapter.specs.Rules.{IsOn, IsStable, IsInMemoryNotOwnedByDevice}
 use Rattle.block_machine.specs.Histories.{IsReachable}
 use Rattle.block_machine.specs.State.{Machine}
-use Rattle.refinement.specs.Driver.{KeepsTablesAndScratchUnlessOwn, MayStore, MissesTableAndHeaderButPrdbc}
+use Rattle.refinement.specs.Driver.{KeepsTablesAndScratchUnlessOwn, IsInMemoryOfFreeSlot, MissesTableAndHeaderButPrdbc}
 use Rattle.refinement.specs.Laws.{FragmentLaws}
 use Rattle.refinement.specs.PreservedParts.{SameAdapter}
 use Rattle.refinement.specs.MemoryLayout.{command_list_address}
 use Rattle.refinement.specs.Relation.{StateRelation}
 use Rattle.refinement.specs.Slots.{SlotDecodesTo, SlotStates}
-use Rattle.command_table.specs.TableStores.{IsHeaderTableOrBlockStore, IsHeaderOrTableStore, IsUnused}
+use Rattle.command_table.specs.TableStores.{IsHeaderTableOrBlockStore, IsHeaderOrTableStore, IsSlotStateFree}
 
 -- header and table of a slot of a port are stored; or these of its slot 0, and a block
 pub data AccessPurpose : Type 0 where
@@ -28,8 +28,8 @@ accesses_for (Tables port slot) = IsHeaderOrTableStore port slot
 accesses_for (TablesAndBlock port) = IsHeaderTableOrBlockStore port 0
 
 abbrev pub slot_uses_for : AccessPurpose → SlotStates → Type 0
-slot_uses_for (Tables port slot) = IsUnused port slot
-slot_uses_for (TablesAndBlock port) = IsUnused port 0
+slot_uses_for (Tables port slot) = IsSlotStateFree port slot
+slot_uses_for (TablesAndBlock port) = IsSlotStateFree port 0
 
 -- bytes that are put into memory, and read
 pub record MemoryLaws : Type 0 where
@@ -49,9 +49,9 @@ pub record Laws : Type 0 where
   pub access_keeps_on : (access : Access) (old new : Device) → IsOn old
       → ((v : ℕ) → access ≡ Writing Ghc v → (bit v 31 ≡ true) × (bit v 0 ≡ false)) → Does access old new → IsOn new
   pub access_keeps_adapter : (access : Access) (old new : Device) → Does access old new → SameAdapter old new
-  pub storable_bytes_are_unowned : (uses : SlotStates) (m : Machine) (d : Device) → IsReachable m
+  pub device_owns_no_storable_bytes : (uses : SlotStates) (m : Machine) (d : Device) → IsReachable m
       → StateRelation uses m d → (at n : ℕ)
-      → at + n ≤ d.memory_size → MayStore uses at n → IsStable (IsUnowned at n) d
+      → at + n ≤ d.memory_size → IsInMemoryOfFreeSlot uses at n → IsStable (IsInMemoryNotOwnedByDevice at n) d
   pub store_keeps_tables : (uses : SlotStates) (m : Machine) (old new : Device) → IsReachable m
       → StateRelation uses m old
       → old.hr ≡ false → (at : ℕ) (bytes : List ℕ) → Stores at bytes old new

@@ -77,14 +77,14 @@ IsBlockStore port slot access = ⊥
 abbrev pub IsHeaderTableOrBlockStore : ℕ → ℕ → Access → Type 0
 IsHeaderTableOrBlockStore port slot access = IsHeaderOrTableStore port slot access ⊎ IsBlockStore port slot access
 
--- the slot isn't used
-abbrev pub IsUnused : ℕ → ℕ → SlotStates → Type 0
-IsUnused port slot uses = uses port slot ≡ Free
+-- the slot's state is Free
+abbrev pub IsSlotStateFree : ℕ → ℕ → SlotStates → Type 0
+IsSlotStateFree port slot uses = uses port slot ≡ Free
 
 -- Header and table of a port's slot may be written: the slot is unused in a machine that agrees, and memory has the
 -- driver's areas.
 pub record MayWriteTable (port slot : ℕ) (d : Device) : Type 0 where
   pub adapter_is_on : IsOn d
-  pub machine_is_related : SomeMachineAgreesWith (IsUnused port slot) d
+  pub machine_is_related : SomeMachineAgreesWith (IsSlotStateFree port slot) d
   pub driver_memory_fits : DRIVER_BYTES ≤ d.memory_size
   pub port_in_range : port < 4

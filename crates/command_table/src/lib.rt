@@ -7,9 +7,9 @@
 
 ghost use Rattle.std.specs.Prelude.{◌≡◌, ℕ, List, [], ◌∷◌, ◌+◌, ◌*◌, ◌/◌, ◌%◌, ◌^◌, ◌<◌, ◌≤◌, length, drop, All};
 ghost use Rattle.byteorder.specs.Endian.{little_from};
-ghost use Rattle.adapter.specs.{Decoding.{pieces, IsWholePieces}, Encoding.{AreZero, EncodesHeader, EncodesPrd, IsAllowedPrd}, Commands.{IsValidMeaning, Meaning, command_of, piece_count, reads_memory}, Memory.{bytes_at}, Rules.{IsUnowned, IsOn, IsStable}, declared.command.Operation.{Operation}, declared.command.Prd.{Prd}, AccessBounds.{MakesAtMost}};
+ghost use Rattle.adapter.specs.{Decoding.{pieces, IsWholePieces}, Encoding.{AreZero, EncodesHeader, EncodesPrd, IsAllowedPrd}, Commands.{IsValidMeaning, Meaning, command_of, piece_count, reads_memory}, Memory.{bytes_at}, Rules.{IsInMemoryNotOwnedByDevice, IsOn, IsStable}, declared.command.Operation.{Operation}, declared.command.Prd.{Prd}, AccessBounds.{MakesAtMost}};
 ghost use Rattle.refinement.specs.{Fragments.{IsSimulated}, MemoryLayout.{command_list_address, scratch_frame_address}, Slots.{SlotDecodesTo}};
-ghost use Rattle.command_table.specs.{TableStores.{FitsTable, IsHeaderTableOrBlockStore, IsTable, IsTableFor, IsHeaderOrTableStore, IsUnused, MayWriteTable, StoresTable}, SectorPlaces.{places_of}, FrameRuns.{PrdsCoverFrames, FillFrames, IsLongestRunFromFirst}, BufferBytes.{StoresBytes}, Costs.{TABLE_WITH_BLOCK_ACCESSES, TABLE_ACCESSES}};
+ghost use Rattle.command_table.specs.{TableStores.{FitsTable, IsHeaderTableOrBlockStore, IsTable, IsTableFor, IsHeaderOrTableStore, IsSlotStateFree, MayWriteTable, StoresTable}, SectorPlaces.{places_of}, FrameRuns.{PrdsCoverFrames, FillFrames, IsLongestRunFromFirst}, BufferBytes.{StoresBytes}, Costs.{TABLE_WITH_BLOCK_ACCESSES, TABLE_ACCESSES}};
 
 pub mod laws;
 mod prerequisites;
@@ -160,7 +160,8 @@ fn is_write(command: &Command) -> bool
 /// Stores a command table at a place that is free, in one store: what follows its last PRD isn't stored. Most tables
 /// have few PRDs, and for those no buffer is cleared that has room for as many as a request can have frames.
 fn store_table<A: Adapter>(adapter: &mut A, at: u32, command: &Command, prds: &[Prd])
-    requires free { IsStable (IsUnowned at (TABLE_HEAD_BYTES + PRD_BYTES * length prds.now)) (A.device adapter.old) }
+    requires free { IsStable (IsInMemoryNotOwnedByDevice at (TABLE_HEAD_BYTES + PRD_BYTES * length prds.now))
+        (A.device adapter.old) }
     requires lba { command.now.lba < 2 ^ 48 }
     requires few { length prds.now ≤ MOST_REQUEST_FRAMES }
     requires allowed { All IsAllowedPrd prds.now }
@@ -192,7 +193,8 @@ pub fn write_table<A: Adapter>(
     requires may { MayWriteTable port.0 slot.0 (A.device adapter.old) }
     requires fits { FitsTable slot.0 command.now prds.now }
     ensures adapter_is_on { IsOn (A.device adapter.new) }
-    ensures followed { IsSimulated (IsHeaderOrTableStore port.0 slot.0) (IsUnused port.0 slot.0) (A.device adapter.old)
+    ensures followed { IsSimulated (IsHeaderOrTableStore port.0 slot.0) (IsSlotStateFree port.0 slot.0)
+        (A.device adapter.old)
         (A.device adapter.new) }
     ensures prdbc_is_zero { little_from 4 4
         (bytes_at (A.device adapter.new).memory (command_list_address port.0 + HEADER_BYTES * slot.0) HEADER_BYTES)
@@ -221,7 +223,8 @@ pub fn write_table_with_block<A: Adapter>(
     requires may { MayWriteTable port.0 0 (A.device adapter.old) }
     requires lba { command.now.lba < 2 ^ 48 }
     ensures adapter_is_on { IsOn (A.device adapter.new) }
-    ensures followed { IsSimulated (IsHeaderTableOrBlockStore port.0 0) (IsUnused port.0 0) (A.device adapter.old)
+    ensures followed { IsSimulated (IsHeaderTableOrBlockStore port.0 0) (IsSlotStateFree port.0 0)
+        (A.device adapter.old)
         (A.device adapter.new) }
     ensures slot_decodes { (m : Meaning) → IsValidMeaning m → command.now ≡ command_of m.operation 0 m.first m.count
         → piece_count m.operation m.count ≡ 1

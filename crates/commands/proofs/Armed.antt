@@ -19,7 +19,7 @@ use Rattle.adapter.specs.declared.command.Operation.TheVariants as operation
 use Rattle.refinement.specs.Fragments.{SomeMachineAgreesWith, IsSoleBit, IsSimulated}
 use Rattle.refinement.specs.MemoryLayout.{command_list_address, scratch_frame_address}
 use Rattle.refinement.specs.Slots.{Free, SlotDecodesTo}
-use Rattle.command_table.specs.TableStores.{IsHeaderTableOrBlockStore, IsTableFor, IsHeaderOrTableStore, IsUnused}
+use Rattle.command_table.specs.TableStores.{IsHeaderTableOrBlockStore, IsTableFor, IsHeaderOrTableStore, IsSlotStateFree}
 use Rattle.commands.specs.Batches.{BatchSlotsAreUnused, HasExactlySlotBitsOf, IsBatchStored, IsStoreForBatch, MemoryEncodesTask, PlacedTask, StoresTransfer, batch_of_one}
 use Rattle.commands.specs.Issuing.{IsArmedFor, MayIssueTransfer}
 use Rattle.commands.specs.Tasks.{WritesSactIfQueued, IsFitTransfer, IsStoreFor, RunsItsList, meaning_of}
@@ -47,8 +47,8 @@ pub is_trim : IsValidMeaning trim
 is_trim = record { ranged = λ e. absurd cc; not_ranged = λ _. (refl, refl) }
 
 -- a task alone is armed
-pub armed_one : (port : Port) (t : PlacedTask) (own : ℕ) (old mid armed : Device) → IsOn old → HasPort old port.0 → t.slot < 32 → t.slot ≤ old.cap / 256 % 32 → RunsItsList port.0 old → SomeMachineAgreesWith (IsUnused port.0 t.slot) old →
-    is_queued (meaning_of t.task).operation ≡ t.task.queued → (t.task.op ≡ Trim → t.slot ≡ 0) → IsSimulated (IsStoreFor t.task.op port.0 t.slot) (IsUnused port.0 t.slot) old mid → MemoryEncodesTask port.0 t mid.memory →
+pub armed_one : (port : Port) (t : PlacedTask) (own : ℕ) (old mid armed : Device) → IsOn old → HasPort old port.0 → t.slot < 32 → t.slot ≤ old.cap / 256 % 32 → RunsItsList port.0 old → SomeMachineAgreesWith (IsSlotStateFree port.0 t.slot) old →
+    is_queued (meaning_of t.task).operation ≡ t.task.queued → (t.task.op ≡ Trim → t.slot ≡ 0) → IsSimulated (IsStoreFor t.task.op port.0 t.slot) (IsSlotStateFree port.0 t.slot) old mid → MemoryEncodesTask port.0 t mid.memory →
     IsSoleBit t.slot own → WritesSactIfQueued t.task.queued port own mid armed → IsArmedFor port t.task.queued (t ∷ []) own old armed
 armed_one port t own old mid armed on there small usable may agreed kind head stores say sole arms = record {
   adapter_is_on = on;
@@ -62,20 +62,20 @@ armed_one port t own old mid armed on there small usable may agreed kind head st
   operation_is_queued = all_one (λ x. is_queued (meaning_of x.task).operation ≡ x.task.queued) t kind;
   trim_in_slot_0 = all_one (λ x. x.task.op ≡ Trim → x.slot ≡ 0) t head;
   after_stores = mid;
-  stores = simulated_as (IsStoreFor t.task.op port.0 t.slot) (IsStoreForBatch port.0 (t ∷ [])) (IsUnused port.0 t.slot) (BatchSlotsAreUnused port.0 (t ∷ [])) old mid (λ access is. (t, contains_here t [], is))
+  stores = simulated_as (IsStoreFor t.task.op port.0 t.slot) (IsStoreForBatch port.0 (t ∷ [])) (IsSlotStateFree port.0 t.slot) (BatchSlotsAreUnused port.0 (t ∷ [])) old mid (λ access is. (t, contains_here t [], is))
       (λ uses free. All-head (λ x. uses port.0 x.slot ≡ Free) t [] free) stores;
   slots_say_tasks = all_one (λ x. MemoryEncodesTask port.0 x mid.memory) t say;
   mask_has_slots = one_has_bits t own sole;
   arms = arms;
 }
 
-module _ (port : Port) (range : Range) (frames : List Frame) (own : ℕ) (old mid : Device) (on : IsOn old) (there : HasPort old port.0) (agreed : SomeMachineAgreesWith (IsUnused port.0 0) old)
+module _ (port : Port) (range : Range) (frames : List Frame) (own : ℕ) (old mid : Device) (on : IsOn old) (there : HasPort old port.0) (agreed : SomeMachineAgreesWith (IsSlotStateFree port.0 0) old)
     (may : RunsItsList port.0 old) (alone : IsSoleBit 0 own) where
-  pub armed_flush : IsSimulated (IsHeaderOrTableStore port.0 0) (IsUnused port.0 0) old mid → SlotDecodesTo mid.memory (command_list_address port.0) port.0 0 flush [] → IsArmedFor port false (batch_of_one 0 (flush_task range) frames) own old mid
+  pub armed_flush : IsSimulated (IsHeaderOrTableStore port.0 0) (IsSlotStateFree port.0 0) old mid → SlotDecodesTo mid.memory (command_list_address port.0) port.0 0 flush [] → IsArmedFor port false (batch_of_one 0 (flush_task range) frames) own old mid
   armed_flush stores told =
       armed_one port (record { slot = 0; task = flush_task range; frames = frames }) own old mid mid on there (omega arith) (omega arith) may agreed refl (λ trim. refl) stores (record { slot_says_task = told; block_names_sectors = tt }) alone refl
 
-  pub armed_trim : IsSimulated (IsHeaderTableOrBlockStore port.0 0) (IsUnused port.0 0) old mid → SlotDecodesTo mid.memory (command_list_address port.0) port.0 0 trim (scratch_frame_address port.0 ∷ []) →
+  pub armed_trim : IsSimulated (IsHeaderTableOrBlockStore port.0 0) (IsSlotStateFree port.0 0) old mid → SlotDecodesTo mid.memory (command_list_address port.0) port.0 0 trim (scratch_frame_address port.0 ∷ []) →
       trim_sectors (bytes_at mid.memory (scratch_frame_address port.0) 512) ≡ consecutive range.first.0 range.count → IsArmedFor port false (batch_of_one 0 (trim_task range) frames) own old mid
   armed_trim stores told block =
       armed_one port (record { slot = 0; task = trim_task range; frames = frames }) own old mid mid on there (omega arith) (omega arith) may agreed refl (λ trim. refl) stores (record { slot_says_task = told; block_names_sectors = block }) alone refl

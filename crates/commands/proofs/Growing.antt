@@ -15,13 +15,13 @@ use Rattle.adapter.specs.Rules.{IsOn, HasPort}
 use Rattle.block_machine.specs.Histories.{IsReachable}
 use Rattle.block_machine.specs.Expected.{after}
 use Rattle.block_machine.specs.State.{Machine}
-use Rattle.refinement.specs.Acts.{Act, ActsReach, AreActsDone, DriverSlots, accesses_of, act_steps, driver_state_of_slots}
-use Rattle.refinement.specs.Fragments.{DeviceStepsKeepUnwrittenPortSlots, SomeMachineAgreesWith}
-use Rattle.refinement.specs.Driver.{DriverAdvances, DriverRelation, DriverState, MayStore, MissesTableAndHeaderButPrdbc}
+use Rattle.refinement.specs.Acts.{Act, ActsReach, AreActsDone, DriverSlots, accesses_of, newest_first_steps_of_acts, driver_state_of_slots}
+use Rattle.refinement.specs.Fragments.{AllByDeviceAndPortsKeepSlotsIfKindWritesNoCiSact, SomeMachineAgreesWith}
+use Rattle.refinement.specs.Driver.{DriverAdvances, DriverRelation, DriverState, IsInMemoryOfFreeSlot, MissesTableAndHeaderButPrdbc}
 use Rattle.refinement.specs.PreservedParts.{SameAdapter}
 use Rattle.refinement.specs.ReadySlots.{IsStoredOnPortWithStSet, KeepsStoredCommand}
 use Rattle.refinement.specs.Slots.{Free, Armed, SlotDecodesTo, SlotStates, set_slot_state}
-use Rattle.command_table.specs.TableStores.{FillsHeaderWithPrdbcZero, IsInTable, IsHeaderOrTableStore, IsUnused}
+use Rattle.command_table.specs.TableStores.{FillsHeaderWithPrdbcZero, IsInTable, IsHeaderOrTableStore, IsSlotStateFree}
 use Rattle.commands.specs.Batches.{BatchSlotsAreUnused, IsBatchStored, IsSlotOf, IsStoreForBatch, MemoryEncodesTask, PlacedTask, StoresTransfer}
 use Rattle.commands.specs.Issuing.{MayIssueTransfer}
 use Rattle.commands.specs.Tasks.{IsFitTransfer, IsStoreFor, IsTransfer, RunsItsList, piece_addresses_of, meaning_of}
@@ -35,7 +35,7 @@ pub record Laws : Type 0 where
   pub acts : ActLaws
   pub stays : (port : Port) (slot : ℕ) (c : Meaning) (places : List ℕ) (acts : List Act) (k later : DriverState) (m : Machine) → IsReachable m → DriverRelation m k → AreActsDone acts k m later
       → All (KeepsStoredCommand port slot) (accesses_of acts) → IsOn k.device → IsStoredOnPortWithStSet k.device port.0 slot c places → IsStoredOnPortWithStSet later.device port.0 slot c places
-  pub misses : (uses : SlotStates) (port slot at n : ℕ) → uses port slot ≢ Free → port < 4 → slot < 32 → MayStore uses at n → MissesTableAndHeaderButPrdbc port slot at n
+  pub misses : (uses : SlotStates) (port slot at n : ℕ) → uses port slot ≢ Free → port < 4 → slot < 32 → IsInMemoryOfFreeSlot uses at n → MissesTableAndHeaderButPrdbc port slot at n
   pub put_here : PutsHere
   pub put_others : PutsNoOther
 
@@ -121,20 +121,20 @@ module _ (laws : Laws) (port : Port) (tasks : List PlacedTask) (t : PlacedTask) 
   s : DriverSlots
   s = record { slot_states = agreed.0; awaiting_disposition = agreed.2.parked }
 
-  x : ActsReach b.stores.is_driven.accesses (driver_state_of_slots s start) agreed.2.machine (driver_state_of_slots s mid) (DeviceStepsKeepUnwrittenPortSlots (IsStoreForBatch port.0 tasks) agreed.0)
+  x : ActsReach b.stores.is_driven.accesses (driver_state_of_slots s start) agreed.2.machine (driver_state_of_slots s mid) (AllByDeviceAndPortsKeepSlotsIfKindWritesNoCiSact (IsStoreForBatch port.0 tasks) agreed.0)
   unfolding s
   x = b.stores.acts_reach s agreed.2.machine agreed.2.reached agreed.2.driver_relation (fewer agreed.0 agreed.1)
 
   m : Machine
-  m = after agreed.2.machine (act_steps x.acts)
+  m = after agreed.2.machine (newest_first_steps_of_acts x.acts)
 
-  goes : DriverAdvances (driver_state_of_slots s start) agreed.2.machine (act_steps x.acts) (driver_state_of_slots s mid)
+  goes : DriverAdvances (driver_state_of_slots s start) agreed.2.machine (newest_first_steps_of_acts x.acts) (driver_state_of_slots s mid)
   unfolding s
   goes = laws.acts.goes x.acts (driver_state_of_slots s start) (driver_state_of_slots s mid) agreed.2.machine agreed.2.driver_relation x.acts_are_done
 
   m_reached : IsReachable m
   unfolding s m
-  m_reached = laws.acts.reached (driver_state_of_slots s start) (driver_state_of_slots s mid) agreed.2.machine (act_steps x.acts) agreed.2.reached goes
+  m_reached = laws.acts.reached (driver_state_of_slots s start) (driver_state_of_slots s mid) agreed.2.machine (newest_first_steps_of_acts x.acts) agreed.2.reached goes
 
   pub may_prepare : MayIssueTransfer port t.slot t.task t.frames mid
   unfolding s m
@@ -162,7 +162,7 @@ module _ (laws : Laws) (port : Port) (tasks : List PlacedTask) (t : PlacedTask) 
         let its_small : y.slot < 32 = All-contains (λ z. z.slot < 32) tasks y b.slots_in_range is in
         let its_fit : IsFitTransfer y.task y.frames = All-contains (λ z. IsFitTransfer z.task z.frames) tasks y b.transfers_fit is in
         let places : List ℕ = piece_addresses_of port.0 y.task.op y.task.range.count y.frames in
-        let z : ActsReach w.stores.is_driven.accesses (driver_state_of_slots s mid) m (driver_state_of_slots s new) (DeviceStepsKeepUnwrittenPortSlots (IsHeaderOrTableStore port.0 t.slot) s.slot_states) = w.stores.acts_reach s m m_reached goes.driver_relation (its agreed.0 agreed.1) in
+        let z : ActsReach w.stores.is_driven.accesses (driver_state_of_slots s mid) m (driver_state_of_slots s new) (AllByDeviceAndPortsKeepSlotsIfKindWritesNoCiSact (IsHeaderOrTableStore port.0 t.slot) s.slot_states) = w.stores.acts_reach s m m_reached goes.driver_relation (its agreed.0 agreed.1) in
         let after_both : IsStoredOnPortWithStSet new port.0 y.slot (meaning_of y.task) places =
         laws.stays port y.slot (meaning_of y.task) places z.acts (driver_state_of_slots s mid) (driver_state_of_slots s new) m m_reached goes.driver_relation z.acts_are_done
         (subst (All (KeepsStoredCommand port y.slot)) (sym z.accesses_match_acts)
@@ -188,7 +188,7 @@ module _ (laws : Laws) (port : Port) (tasks : List PlacedTask) (t : PlacedTask) 
       stores = simulated_then laws.acts (IsStoreForBatch port.0 both) (BatchSlotsAreUnused port.0 both) start mid new
           (simulated_as (IsStoreForBatch port.0 tasks) (IsStoreForBatch port.0 both) (BatchSlotsAreUnused port.0 tasks) (BatchSlotsAreUnused port.0 both) start mid
           (λ access is. (is.0, Contains-append_left tasks (t ∷ []) is.0 is.1, is.2)) fewer b.stores)
-          (simulated_as (IsHeaderOrTableStore port.0 t.slot) (IsStoreForBatch port.0 both) (IsUnused port.0 t.slot) (BatchSlotsAreUnused port.0 both) mid new
+          (simulated_as (IsHeaderOrTableStore port.0 t.slot) (IsStoreForBatch port.0 both) (IsSlotStateFree port.0 t.slot) (BatchSlotsAreUnused port.0 both) mid new
           (λ access is. (t, Contains-append_right tasks (t ∷ []) t (contains_here t []), store_of_table port.0 t.slot access t.task.op fit.is_transfer is)) its w.stores);
       slots_say_tasks = All-push (λ y. MemoryEncodesTask port.0 y new.memory) tasks t (all_in (λ y. MemoryEncodesTask port.0 y new.memory) tasks stays) w.slot_says_task;
     }

@@ -27,16 +27,16 @@ use Rattle.block_machine.specs.Expected.{after}
 use Rattle.block_machine.specs.State.{Accepted, Pending, Machine}
 use Rattle.block_machine.specs.Steps.{Step, Issue, IsEnabled, after_step}
 use Rattle.block_machine.specs.declared.due.QueueMode.{QueueMode}
-use Rattle.refinement.specs.Acts.{Act, ActsReach, AreActsDone, DriverSlots, IsActDone, IsIssueStepOn, IsIssueStep, IsAtMostOneStepOrIssuesOfPort, accesses_of, act_steps, driver_state_of_slots}
+use Rattle.refinement.specs.Acts.{Act, ActsReach, AreActsDone, DriverSlots, IsActDone, IsIssueStepOn, IsIssueStep, IsAtMostOneStepOrIssuesOfPort, accesses_of, newest_first_steps_of_acts, driver_state_of_slots}
 use Rattle.refinement.specs.Relation.{StateRelation, port_at}
-use Rattle.refinement.specs.Fragments.{IsSoleBit, DeviceStepsKeepUnwrittenPortSlots, driver_state_of}
-use Rattle.refinement.specs.Driver.{IsBackedByDeviceAlone, DriverAdvances, DriverRelation, DriverState, EndsInSteps, IsPrepared, KeepsTablesAndScratchUnlessOwn, MissesTableAndHeaderButPrdbc, with_slot_serving}
+use Rattle.refinement.specs.Fragments.{IsSoleBit, AllByDeviceAndPortsKeepSlotsIfKindWritesNoCiSact, driver_state_of}
+use Rattle.refinement.specs.Driver.{IsBackedByDeviceAlone, DriverAdvances, DriverRelation, DriverState, EndsInSteps, IsRequestPreparedToIssue, KeepsTablesAndScratchUnlessOwn, MissesTableAndHeaderButPrdbc, with_slot_serving}
 use Rattle.refinement.specs.Simulation.{SimulatesSteps}
 use Rattle.refinement.specs.PreservedParts.{DoesNotWrite, ControlsChangeOnlyByTheirWrites, SameAdapter}
-use Rattle.refinement.specs.ReadySlots.{IsReadied, IsReadyToIssue, IsStoredOnPortWithStSet}
+use Rattle.refinement.specs.ReadySlots.{IsStoredAndArmedIffQueued, IsReadyToIssue, IsStoredOnPortWithStSet}
 use Rattle.refinement.specs.Slots.{SlotState, Free, Armed, Own, Serves, SlotStates, set_slot_state, MeansRequest, HasBlockIfTrim, IsArmedIfSt, HasListInPlace, RelatesSlot, SlotDecodesTo}
-use Rattle.refinement.specs.StartedPort.{ClearsNoStart}
-use Rattle.commands.specs.Batches.{BatchSlotsAreUnused, HaveOwnSlots, IsBatchIssued, IsBatchAccess, IsSlotOf, IsStoreForBatch, IssuesBatchAtEnd, MayServeBatch, MemoryEncodesTask, PlacedTask, StoresThenWritesAll, issues_of, with_serving_batch}
+use Rattle.refinement.specs.StartedPort.{WritesCmdOnlyWithStSet}
+use Rattle.commands.specs.Batches.{BatchSlotsAreUnused, HaveOwnSlots, IsBatchIssued, IsBatchAccess, IsSlotOf, IsStoreForBatch, IssuesBatchAtEnd, MayServeBatch, MemoryEncodesTask, PlacedTask, StoresThenWritesAll, issues_newest_first, with_serving_batch}
 use Rattle.commands.specs.Issuing.{IsArmedFor}
 use Rattle.commands.specs.Tasks.{WritesSactIfQueued, BlockNamesSectors, IsFreeArmedOrServing, IsTaskOf, RunsItsList, piece_addresses_of, meaning_of, task_operation, issuing_writes}
 use Rattle.commands.proofs.Batch.{all_as, all_in, all_one, armed_here, armed_others, uses_armed, bits_begin, bits_more, bits_on, bits_written, changed_here, ci_bits, contains_here, contains_there, first_apart, own_bit, own_bit_is, rest_apart, sact_bits, served_armed, served_here, served_others, uses_served, serving_batch_is, with_bits, zip_as}
@@ -63,9 +63,9 @@ pub record Laws : Type 0 where
   pub arms : (k : DriverState) (m : Machine) (port : Port) (slot v : ℕ) → DriverRelation m k → k.slot_states port.0 slot ≡ Free → (k.device.port port.0).st ≡ true → IsSoleBit slot v
       → DriverAdvances k m [] (record k { slot_states = set_slot_state k.slot_states port.0 slot Armed; device = device_after_write (Px port Sact) v k.device })
   pub issues : (k : DriverState) (m : Machine) (port : Port) (slot : ℕ) (mode : QueueMode) (e : Pending) (v : ℕ) → IsReachable m → DriverRelation m k
-      → IsPrepared k.slot_states m k.device port.0 slot mode e v → DriverAdvances k m (Issue mode e ∷ []) (with_slot_serving k port.0 slot e.request.id (device_after_write (Px port Ci) v k.device))
+      → IsRequestPreparedToIssue k.slot_states m k.device port.0 slot mode e v → DriverAdvances k m (Issue mode e ∷ []) (with_slot_serving k port.0 slot e.request.id (device_after_write (Px port Ci) v k.device))
   pub stays : (uses : SlotStates) (m : Machine) (port : Port) (slot : ℕ) (c : Meaning) (places : List ℕ) (access : Access) (old new : Device) → IsReachable m → StateRelation uses m old
-      → old.hr ≡ false → ClearsNoStart port access → DoesNotWrite (Px port Clb) access
+      → old.hr ≡ false → WritesCmdOnlyWithStSet port access → DoesNotWrite (Px port Clb) access
       → ((at : ℕ) (bytes : List ℕ) → access ≡ Storing at bytes → MissesTableAndHeaderButPrdbc port.0 slot at (length bytes)) → Does access old new → IsStoredOnPortWithStSet old port.0 slot c places
       → IsStoredOnPortWithStSet new port.0 slot c places
   pub stands : (uses : SlotStates) (m : Machine) (port slot : ℕ) (c : Meaning) (places : List ℕ) (old new : Device) → IsReachable m → StateRelation uses m old → old.hr ≡ false
@@ -73,9 +73,9 @@ pub record Laws : Type 0 where
   pub permitted : (uses : SlotStates) (m : Machine) (d : Device) (port : Port) (v : ℕ) → IsReachable m → StateRelation uses m d → IsOn d → HasPort d port.0
       → (d.port port.0).st ≡ true → ((slot : ℕ) → bit v slot ≡ true → IsReadyToIssue uses d port.0 slot) → IsStable (MayWrite (Px port Ci) v) d
   pub prepared : (uses : SlotStates) (m : Machine) (d : Device) (port slot : ℕ) (c : Meaning) (places : List ℕ) (mode : QueueMode) (e : Pending) (v : ℕ)
-      → IsReadied uses d port slot c places → IsEnabled m (Issue mode e) → e.request.port.0 ≡ port → slot < mode.usable_slots → (is_plain mode e.request.asked.op ≡ true → slot ≡ 0)
+      → IsStoredAndArmedIffQueued uses d port slot c places → IsEnabled m (Issue mode e) → e.request.port.0 ≡ port → slot < mode.usable_slots → (is_plain mode e.request.asked.op ≡ true → slot ≡ 0)
       → MeansRequest port slot e.request c places → is_queued c.operation ≡ not (is_plain mode e.request.asked.op)
-      → HasBlockIfTrim e.request.asked.op d.memory port e.request → bit v slot ≡ true → ((k : ℕ) → k ≢ slot → bit v k ≡ false) → IsPrepared uses m d port slot mode e v
+      → HasBlockIfTrim e.request.asked.op d.memory port e.request → bit v slot ≡ true → ((k : ℕ) → k ≢ slot → bit v k ≡ false) → IsRequestPreparedToIssue uses m d port slot mode e v
   pub follows : (uses : SlotStates) (m : Machine) (old new : Device) → IsReachable m → StateRelation uses m old → Steps old new → SimulatesSteps uses m old new
   pub leaves : (uses : SlotStates) (m : Machine) (old new : Device) → IsReachable m → StateRelation uses m old → old.hr ≡ false → (r : Reg) (v : ℕ) → Writes r v old new → KeepsTablesAndScratchUnlessOwn uses old new
   pub leaves_steps : (uses : SlotStates) (m : Machine) (old new : Device) → IsReachable m → StateRelation uses m old → old.hr ≡ false → Steps old new → KeepsTablesAndScratchUnlessOwn uses old new
@@ -87,9 +87,9 @@ pub record Laws : Type 0 where
 
 -- ---- issues
 
-pub only_issues : (mode : QueueMode) (es : List Pending) → All IsIssueStep (issues_of mode es)
+pub only_issues : (mode : QueueMode) (es : List Pending) → All IsIssueStep (issues_newest_first mode es)
 only_issues mode [] = All-nil IsIssueStep
-only_issues mode (e ∷ es) = All-append IsIssueStep (issues_of mode es) (Issue mode e ∷ []) (only_issues mode es) (all_one IsIssueStep (Issue mode e) tt)
+only_issues mode (e ∷ es) = All-append IsIssueStep (issues_newest_first mode es) (Issue mode e ∷ []) (only_issues mode es) (all_one IsIssueStep (Issue mode e) tt)
 
 issues_decide : (port : Port) (v : ℕ) (own : List Step) → All (IsIssueStepOn port) own → IsAtMostOneStepOrIssuesOfPort (Writing (Px port Ci) v) own
 issues_decide port v [] all = tt
@@ -97,12 +97,12 @@ issues_decide port v (step ∷ []) all = tt
 issues_decide port v (step ∷ other ∷ own) all = all
 
 -- they are of the tasks' port
-issues_on : (port : Port) (mode : QueueMode) (tasks : List PlacedTask) (es : List Pending) → AllZip (λ t e. IsTaskOf port t.slot t.task t.frames mode e) tasks es → All (IsIssueStepOn port) (issues_of mode es)
+issues_on : (port : Port) (mode : QueueMode) (tasks : List PlacedTask) (es : List Pending) → AllZip (λ t e. IsTaskOf port t.slot t.task t.frames mode e) tasks es → All (IsIssueStepOn port) (issues_newest_first mode es)
 issues_on port mode [] [] zip = All-nil (IsIssueStepOn port)
 issues_on port mode [] (e ∷ es) zip = absurd zip
 issues_on port mode (t ∷ tasks) [] zip = absurd zip
 issues_on port mode (t ∷ tasks) (e ∷ es) zip =
-    All-append (IsIssueStepOn port) (issues_of mode es) (Issue mode e ∷ []) (issues_on port mode tasks es zip.1) (all_one (IsIssueStepOn port) (Issue mode e) zip.0.port_is)
+    All-append (IsIssueStepOn port) (issues_newest_first mode es) (Issue mode e ∷ []) (issues_on port mode tasks es zip.1) (all_one (IsIssueStepOn port) (Issue mode e) zip.0.port_is)
 
 -- what may come one after another, in two parts
 may_split : Laws → (m : Machine) (late early : List Step) → AllEnabled m (late ++ early) → AllEnabled m early × AllEnabled (after m early) late
@@ -139,7 +139,7 @@ record Reaches (port : Port) (tasks : List PlacedTask) (queued : Bool) (accesses
   acts : List Act
   done : AreActsDone acts (driver_state_of_slots s from) m (driver_state_of_slots (with_armed queued port tasks s) armed)
   accesses_are : accesses_of acts ≡ accesses
-  device : AllByDevice (act_steps acts)
+  device : AllByDevice (newest_first_steps_of_acts acts)
   own : (t : PlacedTask) → Contains tasks t → All (λ act. IsUnissued (act.state_after.slot_states port.0 t.slot)) acts
   others : (q k : ℕ) → (q ≡ port.0 → IsSlotOf tasks k → ⊥) → All (λ act. act.state_after.slot_states q k ≡ s.slot_states q k) acts
 
@@ -184,10 +184,10 @@ module _ (laws : Laws) (port : Port) where
     ItsTask t e = IsTaskOf port t.slot t.task t.frames mode e
 
     all_issued : (ts : List PlacedTask) (es : List Pending) (uses : SlotStates) (parked : ℕ → List RequestId) (bits : ℕ → Bool) (d : Device) (m : Machine) → AllZip ItsTask ts es → HaveOwnSlots ts →
-        IsReachable m → DriverRelation m (driver_state_of uses parked (bits_on ci_bits port d bits)) → AllEnabled m (issues_of mode es) →
+        IsReachable m → DriverRelation m (driver_state_of uses parked (bits_on ci_bits port d bits)) → AllEnabled m (issues_newest_first mode es) →
         ((t : PlacedTask) → Contains ts t → is_queued (meaning_of t.task).operation ≡ t.task.queued) →
-        ((t : PlacedTask) → Contains ts t → IsReadied uses d port.0 t.slot (meaning_of t.task) (places_for port t)) → ((t : PlacedTask) → Contains ts t → BlockNamesSectors t.task.op t.task.range port.0 d.memory) →
-        DriverAdvances (driver_state_of uses parked (bits_on ci_bits port d bits)) m (issues_of mode es) (driver_state_of (uses_served port.0 ts es uses) parked (bits_on ci_bits port d (with_bits ts bits)))
+        ((t : PlacedTask) → Contains ts t → IsStoredAndArmedIffQueued uses d port.0 t.slot (meaning_of t.task) (places_for port t)) → ((t : PlacedTask) → Contains ts t → BlockNamesSectors t.task.op t.task.range port.0 d.memory) →
+        DriverAdvances (driver_state_of uses parked (bits_on ci_bits port d bits)) m (issues_newest_first mode es) (driver_state_of (uses_served port.0 ts es uses) parked (bits_on ci_bits port d (with_bits ts bits)))
     all_issued [] [] uses parked bits d m zip apart reached knows may kinds readied blocks = laws.none (driver_state_of uses parked (bits_on ci_bits port d bits)) m knows
     all_issued [] (e ∷ es) uses parked bits d m zip apart reached knows may kinds readied blocks = absurd zip
     all_issued (t ∷ ts) [] uses parked bits d m zip apart reached knows may kinds readied blocks = absurd zip
@@ -197,22 +197,22 @@ module _ (laws : Laws) (port : Port) where
         let more : ℕ → Bool = λ j. bits j || bit (own_bit t.slot) j in
         let next : DriverState = driver_state_of put_uses parked (bits_on ci_bits port d more) in
         let last : DriverState = driver_state_of (uses_served port.0 ts es put_uses) parked (bits_on ci_bits port d (with_bits ts more)) in
-        let x : IsReadied uses d port.0 t.slot (meaning_of t.task) (places_for port t) = readied t (contains_here t ts) in
-        let z : AllEnabled m (Issue mode e ∷ []) × AllEnabled (after_step m (Issue mode e)) (issues_of mode es) = may_split laws m (issues_of mode es) (Issue mode e ∷ []) may in
+        let x : IsStoredAndArmedIffQueued uses d port.0 t.slot (meaning_of t.task) (places_for port t) = readied t (contains_here t ts) in
+        let z : AllEnabled m (Issue mode e ∷ []) × AllEnabled (after_step m (Issue mode e)) (issues_newest_first mode es) = may_split laws m (issues_newest_first mode es) (Issue mode e ∷ []) may in
         let first : DriverAdvances k m (Issue mode e ∷ []) next =
         subst (λ (new : Device). DriverAdvances k m (Issue mode e ∷ []) (driver_state_of put_uses parked new)) (bits_more ci_bits port d bits (own_bit t.slot))
         (laws.issues k m port t.slot mode e (own_bit t.slot) reached knows
         (laws.prepared uses m (bits_on ci_bits port d bits) port.0 t.slot (meaning_of t.task) (places_for port t) mode e (own_bit t.slot)
-        (record { slot_state_is = x.slot_state_is; stored = stored_on_bits d bits t.slot (meaning_of t.task) (places_for port t) x.stored }) z.0.1 (ap (λ (q : Port). q.0) zip.0.port_is) zip.0.slot_is_usable (head t e zip.0)
+        (record { armed_if_queued_else_free = x.armed_if_queued_else_free; stored = stored_on_bits d bits t.slot (meaning_of t.task) (places_for port t) x.stored }) z.0.1 (ap (λ (q : Port). q.0) zip.0.port_is) zip.0.slot_is_usable (head t e zip.0)
         (task_means port t.slot t.task t.frames mode e zip.0) (kind t e zip.0 (kinds t (contains_here t ts)))
         (task_block port t.slot t.task t.frames mode e zip.0 d.memory (blocks t (contains_here t ts))) (own_bit_is t.slot).bit_is_set (own_bit_is t.slot).no_other_bit_is_set)) in
-        let rest : DriverAdvances next (after_step m (Issue mode e)) (issues_of mode es) last =
+        let rest : DriverAdvances next (after_step m (Issue mode e)) (issues_newest_first mode es) last =
         all_issued ts es put_uses parked more d (after_step m (Issue mode e)) zip.1 (rest_apart t ts apart) (laws.acts.reached k next m (Issue mode e ∷ []) reached first) first.driver_relation z.1
         (λ y is. kinds y (contains_there t ts y is))
-        (λ y is. let old : IsReadied uses d port.0 y.slot (meaning_of y.task) (places_for port y) = readied y (contains_there t ts y is) in
-        record { slot_state_is = laws.put_others uses port.0 t.slot (Serves e.request.id) port.0 y.slot (λ _ s. first_apart t ts apart (y, is, s)) ∙ old.slot_state_is; stored = old.stored })
+        (λ y is. let old : IsStoredAndArmedIffQueued uses d port.0 y.slot (meaning_of y.task) (places_for port y) = readied y (contains_there t ts y is) in
+        record { armed_if_queued_else_free = laws.put_others uses port.0 t.slot (Serves e.request.id) port.0 y.slot (λ _ s. first_apart t ts apart (y, is, s)) ∙ old.armed_if_queued_else_free; stored = old.stored })
         (λ y is. blocks y (contains_there t ts y is)) in
-        laws.compose k next last m (Issue mode e ∷ []) (issues_of mode es) first rest
+        laws.compose k next last m (Issue mode e ∷ []) (issues_newest_first mode es) first rest
       where
         kind : (t : PlacedTask) (e : Pending) → ItsTask t e → is_queued (meaning_of t.task).operation ≡ t.task.queued → is_queued (meaning_of t.task).operation ≡ not (is_plain mode e.request.asked.op)
         kind t e is its = its ∙ (is.queued_is ∙ sym (ap (λ (o : Op). not (is_plain mode o)) is.operation_is))
@@ -288,7 +288,7 @@ module _ (laws : Laws) (port : Port) where
           (subst (λ (d : Device). DriverAdvances (driver_state_of s.slot_states s.awaiting_disposition d) (after m x.0) [] (driver_state_of (uses_armed port.0 tasks s.slot_states) s.awaiting_disposition (bits_on sact_bits port call.at_access (with_bits tasks bits))))
           (bits_begin sact_bits port call.at_access) y) in
           let g : DriverAdvances k m x.0 later_armed = laws.compose k between later_armed m x.0 [] x.2 z in
-          record { steps = x.0; all_steps_are_devices = x.1; steps_are_enabled = g.steps_are_enabled; is_backed = g.is_backed; driver_relation = g.driver_relation }
+          record { steps = x.0; all_steps_are_by_device = x.1; steps_are_enabled = g.steps_are_enabled; is_backed = g.is_backed; driver_relation = g.driver_relation }
 
     armed_from : (kind : Bool) → WritesSactIfQueued kind port own b.after_stores armed → (s : DriverSlots) (m : Machine) → IsReachable m → DriverRelation m (driver_state_of_slots s b.after_stores) → BatchSlotsAreUnused port.0 tasks s.slot_states →
         Reaches port tasks kind (arming_of port kind own) s m b.after_stores armed
@@ -299,7 +299,7 @@ module _ (laws : Laws) (port : Port) where
           acts = act ∷ [];
           done = (laws.ends (driver_state_of_slots s b.after_stores) (driver_state_of_slots (with_armed true port tasks s) armed) m (Writing (Px port Sact) own) [] e tt call, refl);
           accesses_are = refl;
-          device = e.all_steps_are_devices;
+          device = e.all_steps_are_by_device;
           own = λ t is. all_one (λ (a : Act). IsUnissued (a.state_after.slot_states port.0 t.slot)) act (inr (armed_here laws.put_here laws.put_others port.0 tasks s.slot_states b.slots_are_apart t.slot (t, is, refl)));
           others = λ q k other. all_one (λ (a : Act). a.state_after.slot_states q k ≡ s.slot_states q k) act (armed_others laws.put_here laws.put_others port.0 tasks s.slot_states q k other);
         }
@@ -367,27 +367,27 @@ module _ (laws : Laws) (port : Port) where
     -- from a machine that agrees, acts lead to the armed slots, which are ready for PxCI
     record Stage (s : DriverSlots) (m : Machine) : Type 0 where
       reaches : Reaches port tasks queued (b.stores.is_driven.accesses ++ arming_of port queued own) s m old armed
-      goes : DriverAdvances (driver_state_of_slots s old) m (act_steps reaches.acts) (driver_state_of_slots (with_armed queued port tasks s) armed)
-      reached : IsReachable (after m (act_steps reaches.acts))
-      readied : (t : PlacedTask) → Contains tasks t → IsReadied (with_armed queued port tasks s).slot_states armed port.0 t.slot (meaning_of t.task) (places_for port t)
+      goes : DriverAdvances (driver_state_of_slots s old) m (newest_first_steps_of_acts reaches.acts) (driver_state_of_slots (with_armed queued port tasks s) armed)
+      reached : IsReachable (after m (newest_first_steps_of_acts reaches.acts))
+      readied : (t : PlacedTask) → Contains tasks t → IsStoredAndArmedIffQueued (with_armed queued port tasks s).slot_states armed port.0 t.slot (meaning_of t.task) (places_for port t)
 
     stage : (s : DriverSlots) (m : Machine) → IsReachable m → DriverRelation m (driver_state_of_slots s old) → BatchSlotsAreUnused port.0 tasks s.slot_states → Stage s m
-    stage s m reached knows free = record { reaches = reaches; goes = goes; reached = laws.acts.reached (driver_state_of_slots s old) later m (act_steps reaches.acts) reached goes; readied = readied }
+    stage s m reached knows free = record { reaches = reaches; goes = goes; reached = laws.acts.reached (driver_state_of_slots s old) later m (newest_first_steps_of_acts reaches.acts) reached goes; readied = readied }
       where
         later : DriverState
         later = driver_state_of_slots (with_armed queued port tasks s) armed
 
-        x : ActsReach b.stores.is_driven.accesses (driver_state_of_slots s old) m (driver_state_of_slots s b.after_stores) (DeviceStepsKeepUnwrittenPortSlots (IsStoreForBatch port.0 tasks) s.slot_states)
+        x : ActsReach b.stores.is_driven.accesses (driver_state_of_slots s old) m (driver_state_of_slots s b.after_stores) (AllByDeviceAndPortsKeepSlotsIfKindWritesNoCiSact (IsStoreForBatch port.0 tasks) s.slot_states)
         x = b.stores.acts_reach s m reached knows free
 
-        g : DriverAdvances (driver_state_of_slots s old) m (act_steps x.acts) (driver_state_of_slots s b.after_stores)
+        g : DriverAdvances (driver_state_of_slots s old) m (newest_first_steps_of_acts x.acts) (driver_state_of_slots s b.after_stores)
         g = laws.acts.goes x.acts (driver_state_of_slots s old) (driver_state_of_slots s b.after_stores) m knows x.acts_are_done
 
-        mid_reached : IsReachable (after m (act_steps x.acts))
-        mid_reached = laws.acts.reached (driver_state_of_slots s old) (driver_state_of_slots s b.after_stores) m (act_steps x.acts) reached g
+        mid_reached : IsReachable (after m (newest_first_steps_of_acts x.acts))
+        mid_reached = laws.acts.reached (driver_state_of_slots s old) (driver_state_of_slots s b.after_stores) m (newest_first_steps_of_acts x.acts) reached g
 
-        y : Reaches port tasks queued (arming_of port queued own) s (after m (act_steps x.acts)) b.after_stores armed
-        y = armed_from queued b.arms s (after m (act_steps x.acts)) mid_reached g.driver_relation free
+        y : Reaches port tasks queued (arming_of port queued own) s (after m (newest_first_steps_of_acts x.acts)) b.after_stores armed
+        y = armed_from queued b.arms s (after m (newest_first_steps_of_acts x.acts)) mid_reached g.driver_relation free
 
         kept : (q : Port) → All (λ act. act.state_after.slot_states q.0 ≡ s.slot_states q.0) x.acts
         kept q = x.acts_are_such.unwritten_ports_keep_slots q (λ access is. storing_writes_none (Px q Ci) access (stores_only access is)) (λ access is. storing_writes_none (Px q Sact) access (stores_only access is))
@@ -398,7 +398,7 @@ module _ (laws : Laws) (port : Port) where
           done = laws.acts.more x.acts y.acts (driver_state_of_slots s old) (driver_state_of_slots s b.after_stores) later m x.acts_are_done y.done;
           accesses_are = laws.acts.accesses x.acts y.acts
               ∙ (ap (λ (early : List Access). early ++ accesses_of y.acts) x.accesses_match_acts ∙ ap (λ (late : List Access). b.stores.is_driven.accesses ++ late) y.accesses_are);
-          device = subst AllByDevice (sym (laws.acts.steps x.acts y.acts)) (laws.acts.device (act_steps y.acts) (act_steps x.acts) y.device x.acts_are_such.all_steps_are_devices);
+          device = subst AllByDevice (sym (laws.acts.steps x.acts y.acts)) (laws.acts.device (newest_first_steps_of_acts y.acts) (newest_first_steps_of_acts x.acts) y.device x.acts_are_such.all_steps_are_by_device);
           own = λ t is. let P : Act → Type 0 = λ act. IsUnissued (act.state_after.slot_states port.0 t.slot) in
               All-append P x.acts y.acts
               (all_as (λ act. act.state_after.slot_states port.0 ≡ s.slot_states port.0) P (λ act same. inl (ap (λ (f : ℕ → SlotState). f t.slot) same ∙ unused s free t is)) x.acts (kept port)) (y.own t is);
@@ -408,13 +408,13 @@ module _ (laws : Laws) (port : Port) where
               (all_as (λ act. act.state_after.slot_states q ≡ s.slot_states q) P (λ act same. ap (λ (f : ℕ → SlotState). f k) same) x.acts (kept (port_at q))) (y.others q k other);
         }
 
-        goes : DriverAdvances (driver_state_of_slots s old) m (act_steps reaches.acts) later
+        goes : DriverAdvances (driver_state_of_slots s old) m (newest_first_steps_of_acts reaches.acts) later
         goes = laws.acts.goes reaches.acts (driver_state_of_slots s old) later m knows reaches.done
 
-        readied : (t : PlacedTask) → Contains tasks t → IsReadied (with_armed queued port tasks s).slot_states armed port.0 t.slot (meaning_of t.task) (places_for port t)
+        readied : (t : PlacedTask) → Contains tasks t → IsStoredAndArmedIffQueued (with_armed queued port tasks s).slot_states armed port.0 t.slot (meaning_of t.task) (places_for port t)
         readied t is = record {
-          slot_state_is = armed_used queued s free t is ∙ sym (use_of queued (is_queued (meaning_of t.task).operation) (kind t is ∙ its_kind t is));
-          stored = armed_stored queued b.arms s.slot_states (after m (act_steps x.acts)) mid_reached g.driver_relation.state_relation t is;
+          armed_if_queued_else_free = armed_used queued s free t is ∙ sym (use_of queued (is_queued (meaning_of t.task).operation) (kind t is ∙ its_kind t is));
+          stored = armed_stored queued b.arms s.slot_states (after m (newest_first_steps_of_acts x.acts)) mid_reached g.driver_relation.state_relation t is;
         }
 
     -- the machine that the caller knows of
@@ -429,7 +429,7 @@ module _ (laws : Laws) (port : Port) where
         let x = known_stage in
         let same = armed_same queued b.arms in
         let whole = stores_same laws.leaving port (IsStoreForBatch port.0 tasks) stores_only old b.after_stores b.stores.is_driven in
-        laws.permitted (with_armed queued port tasks s0).slot_states (after b.machine_is_related.2.machine (act_steps x.reaches.acts)) armed port own x.reached x.goes.driver_relation.state_relation on_armed
+        laws.permitted (with_armed queued port tasks s0).slot_states (after b.machine_is_related.2.machine (newest_first_steps_of_acts x.reaches.acts)) armed port own x.reached x.goes.driver_relation.state_relation on_armed
         (b.has_port.0, ap (λ (pi : ℕ). bit pi port.0) (same.0 ∙ whole.pi) ∙ b.has_port.1) (armed_runs queued b.arms)
         (λ slot set.
         let t : IsSlotOf tasks slot = b.mask_has_slots.no_other_is_set slot set in
@@ -495,8 +495,8 @@ module _ (laws : Laws) (port : Port) where
         serves_as false s = serving_batch_is port tasks es s
 
         -- the write of PxCI
-        module _ (s : DriverSlots) (m : Machine) (reached : IsReachable m) (knows : DriverRelation m (driver_state_of_slots s armed)) (may : AllEnabled m (issues_of mode es))
-            (readied : (t : PlacedTask) → Contains tasks t → IsReadied s.slot_states armed port.0 t.slot (meaning_of t.task) (places_for port t)) (trims : (t : PlacedTask) → Contains tasks t → t.task.op ≡ Trim → s.slot_states port.0 0 ≡ Free) where
+        module _ (s : DriverSlots) (m : Machine) (reached : IsReachable m) (knows : DriverRelation m (driver_state_of_slots s armed)) (may : AllEnabled m (issues_newest_first mode es))
+            (readied : (t : PlacedTask) → Contains tasks t → IsStoredAndArmedIffQueued s.slot_states armed port.0 t.slot (meaning_of t.task) (places_for port t)) (trims : (t : PlacedTask) → Contains tasks t → t.task.op ≡ Trim → s.slot_states port.0 0 ≡ Free) where
           abbrev k : DriverState
           k = driver_state_of_slots s armed
 
@@ -506,27 +506,27 @@ module _ (laws : Laws) (port : Port) where
           abbrev served : DriverState
           served = driver_state_of (uses_served port.0 tasks es s.slot_states) s.awaiting_disposition new
 
-          issue_ends : EndsInSteps k m (issues_of mode es) served
+          issue_ends : EndsInSteps k m (issues_newest_first mode es) served
           issue_ends =
               let x : (steps : List Step) × AllByDevice steps × DriverAdvances k m steps between = laws.access k between m (laws.part k call.at_access call.steps) reached knows in
               let bits : ℕ → Bool = (call.at_access.port port.0).ci in
               let leaves : KeepsTablesAndScratchUnlessOwn s.slot_states armed call.at_access = laws.leaves_steps s.slot_states m armed call.at_access reached knows.state_relation on_armed.no_reset call.steps in
-              let y : DriverAdvances (driver_state_of s.slot_states s.awaiting_disposition (bits_on ci_bits port call.at_access bits)) (after m x.0) (issues_of mode es)
+              let y : DriverAdvances (driver_state_of s.slot_states s.awaiting_disposition (bits_on ci_bits port call.at_access bits)) (after m x.0) (issues_newest_first mode es)
               (driver_state_of (uses_served port.0 tasks es s.slot_states) s.awaiting_disposition (bits_on ci_bits port call.at_access (with_bits tasks bits))) =
               all_issued mode tasks es s.slot_states s.awaiting_disposition bits call.at_access (after m x.0) zip b.slots_are_apart (laws.acts.reached k between m x.0 reached x.2)
               (subst (λ (d : Device). DriverRelation (after m x.0) (driver_state_of s.slot_states s.awaiting_disposition d)) (sym (bits_begin ci_bits port call.at_access)) x.2.driver_relation)
-              (laws.due m x.0 reached x.1 x.2.steps_are_enabled (issues_of mode es) (only_issues mode es) may) kind
+              (laws.due m x.0 reached x.1 x.2.steps_are_enabled (issues_newest_first mode es) (only_issues mode es) may) kind
               (λ t is. record {
-                slot_state_is = (readied t is).slot_state_is;
+                armed_if_queued_else_free = (readied t is).armed_if_queued_else_free;
                 stored = laws.stands s.slot_states m port.0 t.slot (meaning_of t.task) (places_for port t) armed call.at_access reached knows.state_relation on_armed.no_reset call.steps (readied t is).stored;
               })
               (λ t is. block_stays s.slot_states armed call.at_access b.has_port.0 leaves t.task.op t.task.range (trims t is) (block_then t is)) in
-              let z : DriverAdvances between (after m x.0) (issues_of mode es) served =
-              subst (λ (d : Device). DriverAdvances between (after m x.0) (issues_of mode es) (driver_state_of (uses_served port.0 tasks es s.slot_states) s.awaiting_disposition d)) (sym (bits_written ci_bits port call.at_access tasks own b.mask_has_slots) ∙ sym call.effect)
-              (subst (λ (d : Device). DriverAdvances (driver_state_of s.slot_states s.awaiting_disposition d) (after m x.0) (issues_of mode es) (driver_state_of (uses_served port.0 tasks es s.slot_states) s.awaiting_disposition (bits_on ci_bits port call.at_access (with_bits tasks bits))))
+              let z : DriverAdvances between (after m x.0) (issues_newest_first mode es) served =
+              subst (λ (d : Device). DriverAdvances between (after m x.0) (issues_newest_first mode es) (driver_state_of (uses_served port.0 tasks es s.slot_states) s.awaiting_disposition d)) (sym (bits_written ci_bits port call.at_access tasks own b.mask_has_slots) ∙ sym call.effect)
+              (subst (λ (d : Device). DriverAdvances (driver_state_of s.slot_states s.awaiting_disposition d) (after m x.0) (issues_newest_first mode es) (driver_state_of (uses_served port.0 tasks es s.slot_states) s.awaiting_disposition (bits_on ci_bits port call.at_access (with_bits tasks bits))))
               (bits_begin ci_bits port call.at_access) y) in
-              let g : DriverAdvances k m (issues_of mode es ++ x.0) served = laws.compose k between served m x.0 (issues_of mode es) x.2 z in
-              record { steps = x.0; all_steps_are_devices = x.1; steps_are_enabled = g.steps_are_enabled; is_backed = g.is_backed; driver_relation = g.driver_relation }
+              let g : DriverAdvances k m (issues_newest_first mode es ++ x.0) served = laws.compose k between served m x.0 (issues_newest_first mode es) x.2 z in
+              record { steps = x.0; all_steps_are_by_device = x.1; steps_are_enabled = g.steps_are_enabled; is_backed = g.is_backed; driver_relation = g.driver_relation }
 
         comes : (s : DriverSlots) (m : Machine) → IsReachable m → DriverRelation m (driver_state_of_slots s old) → MayServeBatch port tasks mode es s m →
             ActsReach accesses (driver_state_of_slots s old) m (driver_state_of_slots (with_serving_batch port tasks es s) new) (IssuesBatchAtEnd port tasks mode es s.slot_states)
@@ -535,10 +535,10 @@ module _ (laws : Laws) (port : Port) where
           acts_are_done = laws.acts.more x.reaches.acts (act ∷ []) (driver_state_of_slots s old) before later m x.reaches.done (last, refl);
           accesses_match_acts = laws.acts.accesses x.reaches.acts (act ∷ []) ∙ ap (λ (early : List Access). early ++ Writing (Px port Ci) own ∷ []) x.reaches.accesses_are;
           acts_are_such = record {
-            device_steps = ends.steps ++ act_steps x.reaches.acts;
+            device_steps = ends.steps ++ newest_first_steps_of_acts x.reaches.acts;
             last_act_issues = (x.reaches.acts, act, refl, x.reaches.device);
-            only_device_before = laws.acts.device ends.steps (act_steps x.reaches.acts) ends.all_steps_are_devices x.reaches.device;
-            issues_come_last = laws.acts.steps x.reaches.acts (act ∷ []) ∙ append_assoc (issues_of mode es) ends.steps (act_steps x.reaches.acts);
+            only_device_before = laws.acts.device ends.steps (newest_first_steps_of_acts x.reaches.acts) ends.all_steps_are_by_device x.reaches.device;
+            issues_come_last = laws.acts.steps x.reaches.acts (act ∷ []) ∙ append_assoc (issues_newest_first mode es) ends.steps (newest_first_steps_of_acts x.reaches.acts);
             own_slots_are_being_issued = zip_as (λ t e. uses_served port.0 tasks es s.slot_states port.0 t.slot ≡ Serves e.request.id) (λ t e. All (λ a. IsFreeArmedOrServing e.request.id (a.state_after.slot_states port.0 t.slot)) (x.reaches.acts ++ act ∷ [])) tasks es
                 (λ t e is serves. let P : Act → Type 0 = λ a. IsFreeArmedOrServing e.request.id (a.state_after.slot_states port.0 t.slot) in
                 All-append P x.reaches.acts (act ∷ [])
@@ -561,20 +561,20 @@ module _ (laws : Laws) (port : Port) where
             x = stage s m reached knows fits.slots_are_free
 
             m2 : Machine
-            m2 = after m (act_steps x.reaches.acts)
+            m2 = after m (newest_first_steps_of_acts x.reaches.acts)
 
-            may2 : AllEnabled m2 (issues_of mode es)
-            may2 = laws.due m (act_steps x.reaches.acts) reached x.reaches.device x.goes.steps_are_enabled (issues_of mode es) (only_issues mode es) fits.may_be_issued
+            may2 : AllEnabled m2 (issues_newest_first mode es)
+            may2 = laws.due m (newest_first_steps_of_acts x.reaches.acts) reached x.reaches.device x.goes.steps_are_enabled (issues_newest_first mode es) (only_issues mode es) fits.may_be_issued
 
-            ends : EndsInSteps before m2 (issues_of mode es) later
-            ends = subst (λ (z : DriverSlots). EndsInSteps before m2 (issues_of mode es) (driver_state_of_slots z new)) (serves_as queued s)
+            ends : EndsInSteps before m2 (issues_newest_first mode es) later
+            ends = subst (λ (z : DriverSlots). EndsInSteps before m2 (issues_newest_first mode es) (driver_state_of_slots z new)) (serves_as queued s)
                 (issue_ends (with_armed queued port tasks s) m2 x.reached x.goes.driver_relation may2 x.readied (trim_free s fits.slots_are_free))
 
             act : Act
-            act = record { access = Some (Writing (Px port Ci) own); steps = issues_of mode es ++ ends.steps; state_after = later }
+            act = record { access = Some (Writing (Px port Ci) own); steps = issues_newest_first mode es ++ ends.steps; state_after = later }
 
             last : IsActDone before m2 act
-            last = laws.ends before later m2 (Writing (Px port Ci) own) (issues_of mode es) ends (issues_decide port own (issues_of mode es) (issues_on port mode tasks es zip)) call
+            last = laws.ends before later m2 (Writing (Px port Ci) own) (issues_newest_first mode es) ends (issues_decide port own (issues_newest_first mode es) (issues_on port mode tasks es zip)) call
 
       -- ---- what it leaves
 
@@ -582,7 +582,7 @@ module _ (laws : Laws) (port : Port) where
       uses0 = (with_armed queued port tasks s0).slot_states
 
       abbrev m0 : Machine
-      m0 = after b.machine_is_related.2.machine (act_steps known_stage.reaches.acts)
+      m0 = after b.machine_is_related.2.machine (newest_first_steps_of_acts known_stage.reaches.acts)
 
       set : (t : PlacedTask) → Contains tasks t → (new.port port.0).ci t.slot ≡ true
       set t is = ap (λ (d : Device). (d.port port.0).ci t.slot) call.effect
@@ -603,7 +603,7 @@ module _ (laws : Laws) (port : Port) where
       active : (t : PlacedTask) → Contains tasks t → t.task.queued ≡ true → (new.port port.0).sact t.slot ≡ true
       active t is its_queued =
           let f : SimulatesSteps uses0 m0 armed call.at_access = laws.follows uses0 m0 armed call.at_access known_stage.reached known_stage.goes.driver_relation.state_relation call.steps in
-          let used : uses0 port.0 t.slot ≡ Armed = (known_stage.readied t is).slot_state_is ∙ cond-true (is_queued (meaning_of t.task).operation) Armed Free (kind t is ∙ its_queued) in
+          let used : uses0 port.0 t.slot ≡ Armed = (known_stage.readied t is).armed_if_queued_else_free ∙ cond-true (is_queued (meaning_of t.task).operation) Armed Free (kind t is ∙ its_queued) in
           let h : IsArmedIfSt (call.at_access.port port.0) t.slot = subst (λ (u : SlotState). RelatesSlot (after m0 f.steps) call.at_access.memory call.at_access.tape (call.at_access.port port.0) port.0 t.slot u) used (f.state_relation.relates_slots port.0 t.slot) in
           ap (λ (d : Device). (d.port port.0).sact t.slot) call.effect
           ∙ (ap (λ (p : DevicePort). p.sact t.slot) (changed_here call.at_access.port port.0 _)

@@ -17,12 +17,12 @@ use Rattle.block_machine.specs.Expected.{after}
 use Rattle.block_machine.specs.State.{Machine, Pending}
 use Rattle.block_machine.specs.Steps.{Step}
 use Rattle.block_machine.specs.declared.due.QueueMode.{QueueMode}
-use Rattle.refinement.specs.Acts.{Act, AreActsDone, ActsReach, DriverSlots, driver_state_of_slots, act_steps}
+use Rattle.refinement.specs.Acts.{Act, AreActsDone, ActsReach, DriverSlots, driver_state_of_slots, newest_first_steps_of_acts}
 use Rattle.refinement.specs.Fragments.{AnySlotStates, IsSimulated, SparesOtherPorts, GainsNoMove}
 use Rattle.refinement.specs.Driver.{EndsInSteps, DriverAdvances, TapeBacksSteps, DriverState, DriverRelation}
 use Rattle.refinement.specs.Slots.{Own, SlotState, client_operation_of}
 use Rattle.commands.specs.Masks.{ReadsDone, ReadsCiOrSact}
-use Rattle.commands.specs.Batches.{IsBatchAccess, IsSlotOf, IssuesBatch, IssuesBatchAtEnd, MayServeBatch, PlacedTask, issues_of, with_serving_batch}
+use Rattle.commands.specs.Batches.{IsBatchAccess, IsSlotOf, IssuesBatch, IssuesBatchAtEnd, MayServeBatch, PlacedTask, issues_newest_first, with_serving_batch}
 use Rattle.commands.specs.Tasks.{IsFreeArmedOrServing, IsTaskOf}
 use Rattle.commands.proofs.Batch.{all_as, slot_cases, zip_at}
 
@@ -50,7 +50,7 @@ finding_of port (Loading place bytes) here = absurd here
 
 -- what laws of acts say
 pub record Laws : Type 0 where
-  pub goes : (acts : List Act) (k later : DriverState) (m : Machine) → DriverRelation m k → AreActsDone acts k m later → DriverAdvances k m (act_steps acts) later
+  pub goes : (acts : List Act) (k later : DriverState) (m : Machine) → DriverRelation m k → AreActsDone acts k m later → DriverAdvances k m (newest_first_steps_of_acts acts) later
   pub silent : (acts : List Act) (k later : DriverState) (m : Machine) (port : ℕ) (o : Operation) → client_operation_of o ≡ None → IsReachable m → DriverRelation m k → (k.slot_states port 0 ≡ Own o → ⊥)
       → All (λ act. act.state_after.slot_states port 0 ≡ Own o → ⊥) acts → AreActsDone acts k m later → GainsNoMove port o k.device later.device
 
@@ -69,14 +69,14 @@ module _ (laws : Laws) (port : Port) (tasks : List PlacedTask) (mode : QueueMode
   unfolding later
   x = i.machine_follows mode es is s m reached knows fits
 
-  g : DriverAdvances (driver_state_of_slots s old) m (act_steps x.acts) later
+  g : DriverAdvances (driver_state_of_slots s old) m (newest_first_steps_of_acts x.acts) later
   g = laws.goes x.acts (driver_state_of_slots s old) later m knows x.acts_are_done
 
-  pub ends : EndsInSteps (driver_state_of_slots s old) m (issues_of mode es) (driver_state_of_slots (with_serving_batch port tasks es s) new)
+  pub ends : EndsInSteps (driver_state_of_slots s old) m (issues_newest_first mode es) (driver_state_of_slots (with_serving_batch port tasks es s) new)
   unfolding later
   ends = record {
     steps = x.acts_are_such.device_steps;
-    all_steps_are_devices = x.acts_are_such.only_device_before;
+    all_steps_are_by_device = x.acts_are_such.only_device_before;
     steps_are_enabled = subst (λ (steps : List Step). AllEnabled m steps) x.acts_are_such.issues_come_last g.steps_are_enabled;
     is_backed = subst (λ (steps : List Step). TapeBacksSteps old new m steps) x.acts_are_such.issues_come_last g.is_backed;
     driver_relation = subst (λ (steps : List Step). DriverRelation (after m steps) later) x.acts_are_such.issues_come_last g.driver_relation;
@@ -112,7 +112,7 @@ finding_followed port mask done old new f = record {
         acts_are_done = x.acts_are_done;
         accesses_match_acts = x.accesses_match_acts;
         acts_are_such = record {
-          all_steps_are_devices = x.acts_are_such.only_device_steps;
+          all_steps_are_by_device = x.acts_are_such.only_device_steps;
           unwritten_ports_keep_slots = λ q issues arms. all_as (λ act. act.state_after.slot_states ≡ s.slot_states) (λ act. act.state_after.slot_states q.0 ≡ s.slot_states q.0) (λ act same. ap (λ (uses : ℕ → ℕ → SlotState). uses q.0) same) x.acts x.acts_are_such.slots_are_kept;
         };
       };

@@ -21,7 +21,7 @@ use Rattle.block_machine.specs.Steps.{Step, NoneKept}
 use Rattle.refinement.specs.Acts.{Act, DriverSlots, IsActDone, ActsReach, driver_state_of_slots}
 use Rattle.refinement.specs.Relation.{StateRelation}
 use Rattle.refinement.specs.Driver.{DriverState, DriverRelation, IsBackedByDeviceAlone, DriverAdvances}
-use Rattle.refinement.specs.PortFacts.{EndedIn, IsSlotClear}
+use Rattle.refinement.specs.PortFacts.{EndedOnPort, IsSlotClear}
 use Rattle.refinement.specs.PreservedParts.{ControlsChangeOnlyByTheirWrites}
 use Rattle.refinement.specs.Slots.{Serves, SlotStates}
 use Rattle.commands.specs.Masks.{IsDoneMask, ReadsDone, FindsEnds, ReadsCiOrSact, FindsEachClearSlot}
@@ -34,7 +34,7 @@ pub record Laws : Type 0 where
   pub on : (access : Access) (old new : Device) → IsOn old → ((v : ℕ) → access ≡ Writing Ghc v → (bit v 31 ≡ true) × (bit v 0 ≡ false)) → Does access old new → IsOn new
   pub controls : (port : Port) (access : Access) (old new : Device) → old.hr ≡ false → Does access old new → ControlsChangeOnlyByTheirWrites access port (old.port port.0) (new.port port.0)
   pub ends : (uses : SlotStates) (m : Machine) (d : Device) (port : Port) (slot : ℕ) (id : RequestId) → StateRelation uses m d → uses port.0 slot ≡ Serves id → (d.port port.0).st ≡ true
-      → (d.port port.0).ci slot ≡ false → (d.port port.0).sact slot ≡ false → IsSlotClear (d.port port.0) slot × EndedIn m port id
+      → (d.port port.0).ci slot ≡ false → (d.port port.0).sact slot ≡ false → IsSlotClear (d.port port.0) slot × EndedOnPort m port id
   pub reached : (k later : DriverState) (m : Machine) (steps : List Step) → IsReachable m → DriverAdvances k m steps later → IsReachable (after m steps)
   pub device : (late early : List Step) → AllByDevice late → AllByDevice early → AllByDevice (late ++ early)
   pub after_both : (m : Machine) (late early : List Step) → after m (late ++ early) ≡ after (after m early) late
@@ -110,7 +110,7 @@ module _ (laws : Laws) (port : Port) (mask done issued active : ℕ) (old mid ne
       requests_have_ended = λ st slot id small is serves.
           let bits = all_clear (bit mask slot) (bit issued slot) (bit active slot) (sym (clear slot small) ∙ is) in
           let found = laws.ends s.slot_states (after (after m x.0) y.0) new port slot id y.2.driver_advances.driver_relation.state_relation serves (started st) (ci_clear slot small bits.0) (sact_clear slot small bits.1) in
-          (found.0.over, subst (λ (n : Machine). EndedIn n port id) (sym (laws.after_both m y.0 x.0)) found.1);
+          (found.0.over, subst (λ (n : Machine). EndedOnPort n port id) (sym (laws.after_both m y.0 x.0)) found.1);
       none_is_quarantined = laws.kept m (y.0 ++ x.0) port (laws.device y.0 x.0 y.1 x.1);
     };
   }

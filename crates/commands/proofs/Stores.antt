@@ -16,7 +16,7 @@ use Rattle.block_machine.specs.Histories.{IsReachable}
 use Rattle.block_machine.specs.Expected.{after}
 use Rattle.block_machine.specs.State.{Machine}
 use Rattle.block_machine.specs.Steps.{Step}
-use Rattle.refinement.specs.Acts.{Act, AreActsDone, driver_state_of_slots, accesses_of, act_steps}
+use Rattle.refinement.specs.Acts.{Act, AreActsDone, driver_state_of_slots, accesses_of, newest_first_steps_of_acts}
 use Rattle.refinement.specs.Fragments.{AnyAccess, IsDrivenBy, IsSimulated, OnlyDeviceChangesPort, SparesOtherPorts}
 use Rattle.refinement.specs.Driver.{DriverAdvances, DriverRelation, DriverState}
 use Rattle.refinement.specs.PreservedParts.{SameAdapter, DoesNotWrite}
@@ -117,11 +117,11 @@ stored_in port slot c places d there small may told = record {
 
 -- what laws say of acts
 pub record ActLaws : Type 0 where
-  pub goes : (acts : List Act) (k later : DriverState) (m : Machine) → DriverRelation m k → AreActsDone acts k m later → DriverAdvances k m (act_steps acts) later
+  pub goes : (acts : List Act) (k later : DriverState) (m : Machine) → DriverRelation m k → AreActsDone acts k m later → DriverAdvances k m (newest_first_steps_of_acts acts) later
   pub reached : (k later : DriverState) (m : Machine) (steps : List Step) → IsReachable m → DriverAdvances k m steps later → IsReachable (after m steps)
-  pub more : (early late : List Act) (a b c : DriverState) (m : Machine) → AreActsDone early a m b → AreActsDone late b (after m (act_steps early)) c → AreActsDone (early ++ late) a m c
+  pub more : (early late : List Act) (a b c : DriverState) (m : Machine) → AreActsDone early a m b → AreActsDone late b (after m (newest_first_steps_of_acts early)) c → AreActsDone (early ++ late) a m c
   pub accesses : (early late : List Act) → accesses_of (early ++ late) ≡ accesses_of early ++ accesses_of late
-  pub steps : (early late : List Act) → act_steps (early ++ late) ≡ act_steps late ++ act_steps early
+  pub steps : (early late : List Act) → newest_first_steps_of_acts (early ++ late) ≡ newest_first_steps_of_acts late ++ newest_first_steps_of_acts early
   pub device : (late early : List Step) → AllByDevice late → AllByDevice early → AllByDevice (late ++ early)
 
 pub does_then : (first then : List Access) (old mid new : Device) → DoesAll first old mid → DoesAll then mid new → DoesAll (first ++ then) old new
@@ -136,7 +136,7 @@ simulated_none May Fits d = record {
     acts = [];
     acts_are_done = refl;
     accesses_match_acts = refl;
-    acts_are_such = record { all_steps_are_devices = tt; unwritten_ports_keep_slots = λ q issues arms. All-nil (λ (act : Act). act.state_after.slot_states q.0 ≡ s.slot_states q.0) };
+    acts_are_such = record { all_steps_are_by_device = tt; unwritten_ports_keep_slots = λ q issues arms. All-nil (λ (act : Act). act.state_after.slot_states q.0 ≡ s.slot_states q.0) };
   };
 }
 
@@ -151,7 +151,7 @@ simulated_as May More Fits Fewer old new more fewer x = record {
         acts = y.acts;
         acts_are_done = y.acts_are_done;
         accesses_match_acts = y.accesses_match_acts;
-        acts_are_such = record { all_steps_are_devices = y.acts_are_such.all_steps_are_devices; unwritten_ports_keep_slots = λ q issues arms. y.acts_are_such.unwritten_ports_keep_slots q (λ access is. issues access (more access is)) (λ access is. arms access (more access is)) };
+        acts_are_such = record { all_steps_are_by_device = y.acts_are_such.all_steps_are_by_device; unwritten_ports_keep_slots = λ q issues arms. y.acts_are_such.unwritten_ports_keep_slots q (λ access is. issues access (more access is)) (λ access is. arms access (more access is)) };
       };
 }
 
@@ -165,14 +165,14 @@ simulated_then laws May Fits old mid new a b = record {
   acts_reach = λ s m reached knows fits.
       let x = a.acts_reach s m reached knows fits in
       let g = laws.goes x.acts (driver_state_of_slots s old) (driver_state_of_slots s mid) m knows x.acts_are_done in
-      let y = b.acts_reach s (after m (act_steps x.acts)) (laws.reached (driver_state_of_slots s old) (driver_state_of_slots s mid) m (act_steps x.acts) reached g) g.driver_relation fits in
+      let y = b.acts_reach s (after m (newest_first_steps_of_acts x.acts)) (laws.reached (driver_state_of_slots s old) (driver_state_of_slots s mid) m (newest_first_steps_of_acts x.acts) reached g) g.driver_relation fits in
       record {
         acts = x.acts ++ y.acts;
         acts_are_done = laws.more x.acts y.acts (driver_state_of_slots s old) (driver_state_of_slots s mid) (driver_state_of_slots s new) m x.acts_are_done y.acts_are_done;
         accesses_match_acts = laws.accesses x.acts y.acts
             ∙ (ap (λ (early : List Access). early ++ accesses_of y.acts) x.accesses_match_acts ∙ ap (λ (late : List Access). a.is_driven.accesses ++ late) y.accesses_match_acts);
         acts_are_such = record {
-          all_steps_are_devices = subst AllByDevice (sym (laws.steps x.acts y.acts)) (laws.device (act_steps y.acts) (act_steps x.acts) y.acts_are_such.all_steps_are_devices x.acts_are_such.all_steps_are_devices);
+          all_steps_are_by_device = subst AllByDevice (sym (laws.steps x.acts y.acts)) (laws.device (newest_first_steps_of_acts y.acts) (newest_first_steps_of_acts x.acts) y.acts_are_such.all_steps_are_by_device x.acts_are_such.all_steps_are_by_device);
           unwritten_ports_keep_slots = λ q issues arms. All-append (λ (act : Act). act.state_after.slot_states q.0 ≡ s.slot_states q.0) x.acts y.acts (x.acts_are_such.unwritten_ports_keep_slots q issues arms) (y.acts_are_such.unwritten_ports_keep_slots q issues arms);
         };
       };

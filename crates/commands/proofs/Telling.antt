@@ -23,8 +23,8 @@ use Rattle.refinement.specs.Fragments.{IsSimulated}
 use Rattle.refinement.specs.MemoryLayout.{sector_address}
 use Rattle.refinement.specs.Slots.{AreRequestPlaces, HasBlockIfTrim, MeansRequest, client_operation_of}
 use Rattle.command_table.specs.SectorPlaces.{place_of, places_of}
-use Rattle.command_table.specs.TableStores.{IsTableFor, IsHeaderOrTableStore, IsUnused}
-use Rattle.commands.specs.Tasks.{BlockNamesSectors, IsStoreFor, IsTransfer, IsTaskOf, piece_addresses_of, fis_value_of_range, meaning_of, task_operation}
+use Rattle.command_table.specs.TableStores.{IsTableFor, IsHeaderOrTableStore, IsSlotStateFree}
+use Rattle.commands.specs.Tasks.{BlockNamesSectors, IsStoreFor, IsTransfer, IsTaskOf, piece_addresses_of, number_if_transfer, meaning_of, task_operation}
 use Rattle.commands.specs.declared.ncq.Task.{Task}
 
 -- what holds of a read and of a write holds of a transfer
@@ -46,16 +46,16 @@ ranged = of_command (λ queued op. is_ranged (task_operation queued op) ≡ true
 moves_all : (count : ℕ) (queued : Bool) (op : Op) → IsTransfer op → piece_count (task_operation queued op) count ≡ count
 moves_all count = of_command (λ queued op. piece_count (task_operation queued op) count ≡ count) refl refl refl refl
 
-pub in_its_fis : (n : ℕ) (op : Op) → IsTransfer op → fis_value_of_range op n ≡ n
-in_its_fis n = of_transfer (λ op. fis_value_of_range op n ≡ n) refl refl
+pub in_its_fis : (n : ℕ) (op : Op) → IsTransfer op → number_if_transfer op n ≡ n
+in_its_fis n = of_transfer (λ op. number_if_transfer op n ≡ n) refl refl
 
 pub in_frames : (port count : ℕ) (frames : List Frame) (op : Op) → IsTransfer op → piece_addresses_of port op count frames ≡ places_of frames count
 in_frames port count frames = of_transfer (λ op. piece_addresses_of port op count frames ≡ places_of frames count) refl refl
 
 -- what is stored for a transfer is header and table
-pub stored_for : (port slot : ℕ) (old new : Device) (op : Op) → IsTransfer op → IsSimulated (IsHeaderOrTableStore port slot) (IsUnused port slot) old new →
-    IsSimulated (IsStoreFor op port slot) (IsUnused port slot) old new
-stored_for port slot old new op is followed = of_transfer (λ op. IsSimulated (IsStoreFor op port slot) (IsUnused port slot) old new) followed followed op is
+pub stored_for : (port slot : ℕ) (old new : Device) (op : Op) → IsTransfer op → IsSimulated (IsHeaderOrTableStore port slot) (IsSlotStateFree port slot) old new →
+    IsSimulated (IsStoreFor op port slot) (IsSlotStateFree port slot) old new
+stored_for port slot old new op is followed = of_transfer (λ op. IsSimulated (IsStoreFor op port slot) (IsSlotStateFree port slot) old new) followed followed op is
 
 pub never_trim : (slot : ℕ) (op : Op) → IsTransfer op → op ≡ Trim → slot ≡ 0
 never_trim slot = of_transfer (λ op. op ≡ Trim → slot ≡ 0) (λ (h : Read ≡ Trim). absurd cc) (λ (h : Write ≡ Trim). absurd cc)
@@ -73,7 +73,7 @@ pub table_says : (r : Task) (frames : List Frame) (port slot : ℕ) → IsTransf
     command ≡ command_of (task_operation r.queued r.op) slot r.range.first.0 r.range.count → All IsWholePieces prds → pieces prds ≡ places_of frames r.range.count →
     IsTableFor slot command prds (meaning_of r) (piece_addresses_of port r.op r.range.count frames)
 table_says r frames port slot transfers some few first command prds fields whole places =
-    subst (λ (first : ℕ). IsTableFor slot command prds (record { operation = task_operation r.queued r.op; first = first; count = fis_value_of_range r.op r.range.count }) (piece_addresses_of port r.op r.range.count frames)) (sym (in_its_fis r.range.first.0 r.op transfers))
+    subst (λ (first : ℕ). IsTableFor slot command prds (record { operation = task_operation r.queued r.op; first = first; count = number_if_transfer r.op r.range.count }) (piece_addresses_of port r.op r.range.count frames)) (sym (in_its_fis r.range.first.0 r.op transfers))
     (subst (λ (count : ℕ). IsTableFor slot command prds (record { operation = task_operation r.queued r.op; first = r.range.first.0; count = count }) (piece_addresses_of port r.op r.range.count frames)) (sym (in_its_fis r.range.count r.op transfers))
     (subst (IsTableFor slot command prds (record { operation = task_operation r.queued r.op; first = r.range.first.0; count = r.range.count })) (sym (in_frames port r.range.count frames r.op transfers)) (record {
       meaning = record {
@@ -118,7 +118,7 @@ module _ (port : Port) (slot : ℕ) (r : Task) (frames : List Frame) (mode : Que
   head : r.op ≡ Trim → slot ≡ 0
   head trim = is.plain_in_slot_0 (is.queued_is ∙ ap (λ (op : Op). not (is_plain mode op)) trim)
 
-  names_first : (queued : Bool) (op : Op) → is_ranged (task_operation queued op) ≡ true → fis_value_of_range op r.range.first.0 ≡ e.request.asked.first.0
+  names_first : (queued : Bool) (op : Op) → is_ranged (task_operation queued op) ≡ true → number_if_transfer op r.range.first.0 ≡ e.request.asked.first.0
   names_first true Read named = sym (ap (λ (s : Sector). s.0) is.first_is)
   names_first false Read named = sym (ap (λ (s : Sector). s.0) is.first_is)
   names_first true Write named = sym (ap (λ (s : Sector). s.0) is.first_is)

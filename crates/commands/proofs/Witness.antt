@@ -17,7 +17,7 @@ use Rattle.block_machine.specs.Rules.{frame_count_for}
 use Rattle.block_machine.specs.State.{Accepted, Machine, Pending}
 use Rattle.block_machine.specs.Steps.{Issue, IsEnabled, Step}
 use Rattle.block_machine.specs.declared.due.QueueMode.{QueueMode}
-use Rattle.refinement.specs.Driver.{IsPrepared, idle_driver_state}
+use Rattle.refinement.specs.Driver.{IsRequestPreparedToIssue, idle_driver_state}
 use Rattle.refinement.specs.Slots.{AreRequestPlaces, client_operation_of}
 use Rattle.refinement.specs.ReadWitness.{PreparedReadWitness, prepared_read}
 use Rattle.commands.specs.Tasks.{IsFitTransfer}
@@ -36,7 +36,7 @@ frames_fit start (step ∷ past) r was = ⊎_elim
 module _ (known : PreparedReadWitness) (one : (memory : ℕ → ℕ) (list slot : ℕ) (m n : Meaning) (xs ys : List ℕ) → DecodesTo memory list slot m xs → DecodesTo memory list slot n ys → (m ≡ n) × (xs ≡ ys))
     (says : DecodesTo first_read_device.memory 0 0 (read_of 100 8) (piece_addresses 0x64000 8))
     (issued : (start : Machine) (history : List Step) (mode : QueueMode) (e : Pending) → IsInitial start → IsLegal start history → IsEnabled (after start history) (Issue mode e) → WasAccepted start history e.request) where
-  prepared : IsPrepared (idle_driver_state prepared_read).slot_states known.machine prepared_read 0 0 known.mode known.request 1
+  prepared : IsRequestPreparedToIssue (idle_driver_state prepared_read).slot_states known.machine prepared_read 0 0 known.mode known.request 1
   prepared = known.prepared
 
   abbrev request : Accepted

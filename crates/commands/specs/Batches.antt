@@ -17,12 +17,12 @@ use Rattle.block_machine.specs.Events.{AllByDevice, AllEnabled}
 use Rattle.block_machine.specs.State.{Machine, Pending}
 use Rattle.block_machine.specs.Steps.{Step, Issue}
 use Rattle.block_machine.specs.declared.due.QueueMode.{QueueMode}
-use Rattle.refinement.specs.Acts.{Act, ActsReachWith, DriverSlots, act_steps}
+use Rattle.refinement.specs.Acts.{Act, ActsReachWith, DriverSlots, newest_first_steps_of_acts}
 use Rattle.refinement.specs.Fragments.{IsDrivenBy, IsSimulated, SomeMachineAgreesWith}
 use Rattle.refinement.specs.MemoryLayout.{command_list_address}
 use Rattle.refinement.specs.ReadySlots.{IsStoredOnPortWithStSet}
 use Rattle.refinement.specs.Slots.{Free, SlotDecodesTo, SlotStates}
-use Rattle.command_table.specs.TableStores.{IsHeaderTableOrBlockStore, IsHeaderOrTableStore, IsUnused}
+use Rattle.command_table.specs.TableStores.{IsHeaderTableOrBlockStore, IsHeaderOrTableStore, IsSlotStateFree}
 use Rattle.commands.specs.Tasks.{BlockNamesSectors, IsFreeArmedOrServing, IsFitTransfer, IsStoreFor, IsTaskOf, RunsItsList, piece_addresses_of, meaning_of, with_serving, issuing_writes}
 use Rattle.commands.specs.declared.ncq.Task.{Task}
 
@@ -70,7 +70,7 @@ IsStoreForBatch port tasks access = (t : PlacedTask) × Contains tasks t × IsSt
 -- What a transfer's command needs was stored in its slot, and nothing else was done: header and table, which say it.
 pub record StoresTransfer (port : Port) (t : PlacedTask) (old new : Device) : Type 0 where
   pub adapter_is_on : IsOn new
-  pub stores : IsSimulated (IsHeaderOrTableStore port.0 t.slot) (IsUnused port.0 t.slot) old new
+  pub stores : IsSimulated (IsHeaderOrTableStore port.0 t.slot) (IsSlotStateFree port.0 t.slot) old new
   pub slot_says_task : MemoryEncodesTask port.0 t new.memory
 
 -- Accesses that store for queued transfers led there, and no others: each transfer has a slot of its own that the
@@ -108,16 +108,16 @@ pub record StoresThenWritesAll (port : Port) (queued : Bool) (tasks : List Place
     pub accesses_are : accesses ≡ stores ++ issuing_writes port queued mask
 
 -- the requests' issues, the last one first
-abbrev pub issues_of : QueueMode → List Pending → List Step
-issues_of mode [] = []
-issues_of mode (e ∷ es) = issues_of mode es ++ Issue mode e ∷ []
+abbrev pub issues_newest_first : QueueMode → List Pending → List Step
+issues_newest_first mode [] = []
+issues_newest_first mode (e ∷ es) = issues_newest_first mode es ++ Issue mode e ∷ []
 
 -- the slots are free, and the requests may be issued one after another
 pub record MayServeBatch (port : Port) (tasks : List PlacedTask) (mode : QueueMode) (es : List Pending) (s :
     DriverSlots)
     (m : Machine) : Type 0 where
   pub slots_are_free : BatchSlotsAreUnused port.0 tasks s.slot_states
-  pub may_be_issued : AllEnabled m (issues_of mode es)
+  pub may_be_issued : AllEnabled m (issues_newest_first mode es)
 
 -- each slot serves the request in its place
 abbrev pub with_serving_batch : Port → List PlacedTask → List Pending → DriverSlots → DriverSlots
@@ -130,10 +130,11 @@ with_serving_batch port _ _ s = s
 -- the first.
 pub record IssuesBatchAtEnd (port : Port) (tasks : List PlacedTask) (mode : QueueMode) (es : List Pending)
     (uses : SlotStates) (acts : List Act) : Type 0 where
-  pub last_act_issues : (early : List Act) × (act : Act) × (acts ≡ early ++ act ∷ []) × AllByDevice (act_steps early)
+  pub last_act_issues : (early : List Act) × (act : Act) × (acts ≡ early ++ act ∷ [])
+      × AllByDevice (newest_first_steps_of_acts early)
   pub device_steps : List Step
   pub only_device_before : AllByDevice device_steps
-  pub issues_come_last : act_steps acts ≡ issues_of mode es ++ device_steps
+  pub issues_come_last : newest_first_steps_of_acts acts ≡ issues_newest_first mode es ++ device_steps
   pub own_slots_are_being_issued : AllZip
       (λ t e. All (λ act. IsFreeArmedOrServing e.request.id (act.state_after.slot_states port.0 t.slot)) acts) tasks
       es

@@ -9,7 +9,7 @@ use Rattle.adapter.specs.Commands.{is_queued}
 use Rattle.adapter.specs.Device.{Device}
 use Rattle.adapter.specs.Rules.{IsOn, HasPort}
 use Rattle.refinement.specs.Fragments.{SomeMachineAgreesWith, IsSimulated}
-use Rattle.command_table.specs.TableStores.{IsUnused}
+use Rattle.command_table.specs.TableStores.{IsSlotStateFree}
 use Rattle.commands.specs.Batches.{BatchSlotsAreUnused, HasExactlySlotBitsOf, HaveOwnSlots, IsBatchIssued, IsStoreForBatch, MemoryEncodesTask, PlacedTask, batch_of_one}
 use Rattle.commands.specs.Tasks.{WritesSactIfQueued, IsFitTransfer, RunsItsList, meaning_of}
 use Rattle.commands.specs.declared.ncq.Task.{Task}
@@ -20,7 +20,7 @@ pub record MayIssueTask (port : Port) (slot : ℕ) (d : Device) : Type 0 where
   pub adapter_is_on : IsOn d
   pub has_port : HasPort d port.0
   pub driver_memory_fits : DRIVER_BYTES ≤ d.memory_size
-  pub machine_is_related : SomeMachineAgreesWith (IsUnused port.0 slot) d
+  pub machine_is_related : SomeMachineAgreesWith (IsSlotStateFree port.0 slot) d
   pub list_runs : RunsItsList port.0 d
 
 -- A transfer's command may be issued in the port's slot: the slot is one that the adapter has (AHCI 1.3.1, 3.1.1,

@@ -12,9 +12,9 @@ use Rattle.block_machine.specs.Events.{AllByDevice}
 use Rattle.block_machine.specs.Expected.{after}
 use Rattle.block_machine.specs.State.{Machine}
 use Rattle.block_machine.specs.Steps.{NoneKept}
-use Rattle.refinement.specs.Acts.{Act, DriverSlots, ActsReachWith, act_steps}
+use Rattle.refinement.specs.Acts.{Act, DriverSlots, ActsReachWith, newest_first_steps_of_acts}
 use Rattle.refinement.specs.Fragments.{IsDrivenBy}
-use Rattle.refinement.specs.PortFacts.{EndedIn}
+use Rattle.refinement.specs.PortFacts.{EndedOnPort}
 use Rattle.refinement.specs.Slots.{Serves, IsOver}
 
 -- it reads PxCI or PxSACT
@@ -26,12 +26,12 @@ ReadsCiOrSact port access = ⊥
 -- done and serves a request is over, and the request has ended. And no request of the port was kept meanwhile.
 pub record FindsEnds (port : Port) (done : ℕ) (old new : Device) (s : DriverSlots) (m : Machine)
     (acts : List Act) : Type 0 where
-  pub only_device_steps : AllByDevice (act_steps acts)
+  pub only_device_steps : AllByDevice (newest_first_steps_of_acts acts)
   pub slots_are_kept : All (λ act. act.state_after.slot_states ≡ s.slot_states) acts
   pub requests_have_ended : (old.port port.0).st ≡ true → (slot : ℕ) (id : RequestId) → slot < 32 → bit done slot ≡ true
       → s.slot_states port.0 slot ≡ Serves id → IsOver (new.port port.0) slot
-      × EndedIn (after m (act_steps acts)) port id
-  pub none_is_quarantined : NoneKept m port → NoneKept (after m (act_steps acts)) port
+      × EndedOnPort (after m (newest_first_steps_of_acts acts)) port id
+  pub none_is_quarantined : NoneKept m port → NoneKept (after m (newest_first_steps_of_acts acts)) port
 
 -- the bits of the mask that are clear in what was read of PxCI and of PxSACT
 abbrev pub IsDoneMask : ℕ → ℕ → ℕ → ℕ → Type 0

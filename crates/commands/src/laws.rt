@@ -5,7 +5,7 @@ ghost use Rattle.hba_regs.specs.{Bits.{bit}, declared.reg.Reg.TheVariants.{Px}, 
 ghost use Rattle.adapter.specs.{Access.{Access, Writes}, Device.{Device}, Rules.{HasPort, IsOn, MayWrite, IsStable}, declared.command.Operation.{Operation}};
 ghost use Rattle.block_machine.specs.{Histories.{IsReachable}, State.{Machine, Pending}, declared.due.QueueMode.{QueueMode}};
 ghost use Rattle.refinement.specs.{Acts.{DriverSlots, driver_state_of_slots}, Fragments.{AnySlotStates, IsSimulated, SomeMachineAgreesWith, SparesOtherPorts, GainsNoMove}, Driver.{EndsInSteps, DriverRelation}, Slots.{Own, client_operation_of}};
-ghost use Rattle.commands.specs.{Batches.{BatchSlotsAreUnused, HasExactlySlotBitsOf, IsBatchIssued, IsBatchStored, IsBatchAccess, IsSlotOf, IssuesBatch, MayServeBatch, PlacedTask, StoresTransfer, issues_of, with_serving_batch}, Issuing.{IsArmedFor, MayIssueTransfer}, Masks.{ReadsDone, ReadsCiOrSact}, Tasks.{IsFitTransfer, IsTaskOf, RunsItsList}, Witness.{BatchIssueWitness, TransferIssueWitness}};
+ghost use Rattle.commands.specs.{Batches.{BatchSlotsAreUnused, HasExactlySlotBitsOf, IsBatchIssued, IsBatchStored, IsBatchAccess, IsSlotOf, IssuesBatch, MayServeBatch, PlacedTask, StoresTransfer, issues_newest_first, with_serving_batch}, Issuing.{IsArmedFor, MayIssueTransfer}, Masks.{ReadsDone, ReadsCiOrSact}, Tasks.{IsFitTransfer, IsTaskOf, RunsItsList}, Witness.{BatchIssueWitness, TransferIssueWitness}};
 
 use adapter::laws::{law_a_first_read_exists, law_decoding_is_unique};
 use block_machine::laws::law_issues_keep_rules_but_frames;
@@ -14,14 +14,14 @@ use refinement::acts::{
 };
 use refinement::fragments::law_other_ports_are_untouched;
 use refinement::laws::{
-    law_a_prepared_read_agrees, law_advances_compose, law_device_is_followed,
-    law_device_steps_are_parts, law_enabled_issues_stay, law_histories_compose,
+    law_a_prepared_read_agrees, law_advances_compose, law_device_and_faithful_step_lists_compose,
+    law_device_is_followed, law_device_steps_are_a_call_part, law_enabled_issues_stay,
     law_setting_changes_one_slot, law_stored_commands_stay, law_tables_and_idle_scratch_are_kept,
     law_two_reads_are_stored,
 };
 use refinement::port_facts::{law_adapter_stays, law_controls_stay};
 use refinement::readying::{
-    law_bits_are_followed_in_turn, law_readied_may_be_issued, law_stored_stays,
+    law_one_bit_arms_or_issues_slot, law_readied_may_be_issued, law_stored_stays,
     law_stored_stays_over_acts,
 };
 
@@ -43,14 +43,14 @@ pub fn law_writing_issues()
     law_acts_compose();
     law_acts_advance_driver();
     law_adapter_stays();
-    law_bits_are_followed_in_turn();
+    law_one_bit_arms_or_issues_slot();
     law_controls_stay();
     law_device_is_followed();
-    law_device_steps_are_parts();
+    law_device_steps_are_a_call_part();
     law_enabled_issues_stay();
     law_tables_and_idle_scratch_are_kept();
     law_advances_compose();
-    law_histories_compose();
+    law_device_and_faithful_step_lists_compose();
     law_other_ports_are_untouched();
     law_setting_changes_one_slot();
     law_readied_may_be_issued();
@@ -74,7 +74,7 @@ pub fn law_batches_grow()
     law_acts_compose();
     law_acts_advance_driver();
     law_advances_compose();
-    law_histories_compose();
+    law_device_and_faithful_step_lists_compose();
     law_other_ports_are_untouched();
     law_setting_changes_one_slot();
     law_stored_commands_stay();
@@ -98,7 +98,7 @@ pub fn law_batch_issues_come_last()
         (s : DriverSlots) (m : Machine) → IssuesBatch port tasks old new
         → AllZip (λ t e. IsTaskOf port t.slot t.task t.frames mode e) tasks es → IsReachable m
         → DriverRelation m (driver_state_of_slots s old) → MayServeBatch port tasks mode es s m
-        → EndsInSteps (driver_state_of_slots s old) m (issues_of mode es)
+        → EndsInSteps (driver_state_of_slots s old) m (issues_newest_first mode es)
         (driver_state_of_slots (with_serving_batch port tasks es s) new) }
     ensures no_unasked_page_moves { (port : Port) (tasks : List PlacedTask) (mode : QueueMode) (es : List Pending)
         (old new : Device)
@@ -111,8 +111,8 @@ pub fn law_batch_issues_come_last()
     law_acts_advance_driver();
 }
 
-/// What is found done is a fragment that is followed, with each slot used as it was.
-pub fn law_reading_done_is_simulated()
+/// Where a mask was read for what is done, that is simulated, with each slot used as it was.
+pub fn law_mask_reading_is_simulated()
     ensures { (port : Port) (mask done : ℕ) (old new : Device) → ReadsDone port mask done old new
         → IsSimulated (ReadsCiOrSact port) AnySlotStates old new }
 {}

@@ -9,8 +9,8 @@ ghost use Rattle.commands.specs.Masks.{IsDoneMask, ReadsDone, FindsEachClearSlot
 use adapter::laws::law_step_lists_keep_what_steps_keep;
 use refinement::acts::law_accesses_and_decisions_are_acts;
 use refinement::laws::{
-    law_advances_compose, law_book_only_advances_over_device_steps, law_histories_compose,
-    law_reading_is_followed,
+    law_advances_compose, law_book_only_advances_over_device_steps,
+    law_device_and_faithful_step_lists_compose, law_reading_is_followed,
 };
 use refinement::port_facts::{law_adapter_stays, law_controls_stay, law_ended_is_clear};
 
@@ -25,7 +25,7 @@ pub fn law_reading_finds_done()
     law_controls_stay();
     law_ended_is_clear();
     law_advances_compose();
-    law_histories_compose();
+    law_device_and_faithful_step_lists_compose();
     law_reading_is_followed();
     law_step_lists_keep_what_steps_keep();
     law_book_only_advances_over_device_steps();

@@ -9,7 +9,7 @@ use Rattle.device_model.proofs.Absurd.{some-none, some_one, true-false}
 use Rattle.device_model.proofs.Places.{changed_same, changed_other}
 use Rattle.device_model.specs.TakenBlocks.{BlockIsOfTakenTrim, brought}
 use Rattle.device_model.specs.declared.port.TakenCommand.{TakenCommand}
-use Rattle.device_model.specs.declared.port.CommandKind.TheVariants.{Trim}
+use Rattle.adapter.specs.declared.command.Operation.TheVariants.{Trim}
 
 -- what is taken in a slot, once one has changed
 at_set : (taken : ℕ → Option TakenCommand) (slot : ℕ) (new : Option TakenCommand) (k : ℕ) (t : TakenCommand) → changed taken slot new k ≡ Some t →
@@ -33,7 +33,7 @@ block_gone taken block none = record {
 module _ (taken : ℕ → Option TakenCommand) (block : List ℕ) (slot : ℕ) (has : BlockIsOfTakenTrim taken block) where
   -- a command is taken beside those that are
   pub block_put : (command : TakenCommand) → command.block ≡ None → command.first < 2 ^ 48 →
-      ((other : ℕ) (u : TakenCommand) → other ≢ slot → taken other ≡ Some u → (command.command_kind ≡ Trim → ⊥) × (u.command_kind ≡ Trim → ⊥)) →
+      ((other : ℕ) (u : TakenCommand) → other ≢ slot → taken other ≡ Some u → (command.operation ≡ Trim → ⊥) × (u.operation ≡ Trim → ⊥)) →
       BlockIsOfTakenTrim (changed taken slot (Some command)) block
   block_put command new low beside = record {
     trim_is_alone = λ a b t u here there trim.
@@ -42,7 +42,7 @@ module _ (taken : ℕ → Option TakenCommand) (block : List ℕ) (slot : ℕ) (
               elim (at_set taken slot (Some command) b u there) [
                 | inl second ↦ second.0 ∙ sym first.0
                 | inr second ↦
-                    let kind = ap (λ (x : TakenCommand). x.command_kind) (some_one first.1) ∙ trim in
+                    let kind = ap (λ (x : TakenCommand). x.operation) (some_one first.1) ∙ trim in
                     absurd ((beside b u second.0 second.1).0 kind)
               ]
           | inr first ↦
@@ -80,7 +80,7 @@ module _ (taken : ℕ → Option TakenCommand) (block : List ℕ) (slot : ℕ) (
     first_in_range = λ a t here. elim (at_set taken slot None a t here) [ inl first ↦ absurd (cc first.1) | inr first ↦ has.first_in_range a t first.1 ];
   }
 
-  module _ (old new : TakenCommand) (held : taken slot ≡ Some old) (kind : new.command_kind ≡ old.command_kind) (number : new.first ≡ old.first) where
+  module _ (old new : TakenCommand) (held : taken slot ≡ Some old) (kind : new.operation ≡ old.operation) (number : new.first ≡ old.first) where
     goes_low : (a : ℕ) (t : TakenCommand) → changed taken slot (Some new) a ≡ Some t → t.first < 2 ^ 48
     goes_low a t here =
         elim (at_set taken slot (Some new) a t here) [
@@ -92,11 +92,11 @@ module _ (taken : ℕ → Option TakenCommand) (block : List ℕ) (slot : ℕ) (
         ]
 
     goes_alone : (a b : ℕ) (t u : TakenCommand) → changed taken slot (Some new) a ≡ Some t →
-        changed taken slot (Some new) b ≡ Some u → t.command_kind ≡ Trim → b ≡ a
+        changed taken slot (Some new) b ≡ Some u → t.operation ≡ Trim → b ≡ a
     goes_alone a b t u here there trim =
         elim (at_set taken slot (Some new) a t here) [
           | inl first ↦
-              let was : old.command_kind ≡ Trim = sym kind ∙ (ap (λ (x : TakenCommand). x.command_kind) (some_one first.1) ∙ trim) in
+              let was : old.operation ≡ Trim = sym kind ∙ (ap (λ (x : TakenCommand). x.operation) (some_one first.1) ∙ trim) in
               elim (at_set taken slot (Some new) b u there) [
                 | inl second ↦ second.0 ∙ sym first.0
                 | inr second ↦ has.trim_is_alone slot b old u held second.1 was ∙ sym first.0
@@ -118,13 +118,13 @@ module _ (taken : ℕ → Option TakenCommand) (block : List ℕ) (slot : ℕ) (
             | inl first ↦
                 let one : new ≡ t = some_one first.1 in
                 let had = has.block_is slot old b held (sym same ∙ (ap (λ (x : TakenCommand). x.block) one ∙ brought)) in
-                (ap (λ (x : TakenCommand). x.command_kind) (sym one) ∙ (kind ∙ had.0), had.1)
+                (ap (λ (x : TakenCommand). x.operation) (sym one) ∙ (kind ∙ had.0), had.1)
             | inr first ↦ has.block_is a t b first.1 brought
           ];
     }
 
     -- a trim has brought a block
-    pub block_moved : (bytes : List ℕ) → old.command_kind ≡ Trim → new.block ≡ Some (snapshot_of_bytes bytes) → BlockIsOfTakenTrim (changed taken slot (Some new)) bytes
+    pub block_moved : (bytes : List ℕ) → old.operation ≡ Trim → new.block ≡ Some (snapshot_of_bytes bytes) → BlockIsOfTakenTrim (changed taken slot (Some new)) bytes
     block_moved bytes trim is_new = record {
       trim_is_alone = goes_alone;
       first_in_range = goes_low;
@@ -133,7 +133,7 @@ module _ (taken : ℕ → Option TakenCommand) (block : List ℕ) (slot : ℕ) (
             | inl first ↦
                 let one : new ≡ t = some_one first.1 in
                 let same : snapshot_of_bytes bytes ≡ b = some_one (sym is_new ∙ (ap (λ (x : TakenCommand). x.block) one ∙ brought)) in
-                (ap (λ (x : TakenCommand). x.command_kind) (sym one) ∙ (kind ∙ trim), ap (λ (x : Snapshot (List ℕ)). x.value) (sym same))
+                (ap (λ (x : TakenCommand). x.operation) (sym one) ∙ (kind ∙ trim), ap (λ (x : Snapshot (List ℕ)). x.value) (sym same))
             | inr first ↦ let ne = first.0 in absurd (ne (has.trim_is_alone slot a old t held first.1 trim))
           ];
     }

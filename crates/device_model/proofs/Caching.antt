@@ -9,7 +9,7 @@ use Rattle.sector_store.specs.declared.store.Failures.{Failures}
 use Rattle.device_model.proofs.Absurd.{fun_ext, some-none}
 use Rattle.device_model.specs.WriteCaches.{HasRoomForOldSectors, RollsBack, WritesFail, sector_told}
 use Rattle.device_model.specs.declared.cache.Cache.{Cache}
-use Rattle.device_model.specs.OldSectors.{AreRising, AddsOldSector, old_number_at, old_bytes_of, with_old_bytes}
+use Rattle.device_model.specs.OldSectors.{AreRising, SetsOldBytesOfSector, old_number_at, old_bytes_of, with_old_bytes}
 use Rattle.device_model.specs.declared.old_sectors.OldSector.{OldSector}
 
 below_or : (a b : ℕ) → (a < b) ⊎ (b ≤ a)
@@ -21,7 +21,7 @@ same_one k = elim (eqb_tells k k) [ inl same ↦ same.0 | inr other ↦ absurd (
 apart : (k q : ℕ) → k ≢ q → nat_eq k q ≡ false
 apart k q ne = elim (eqb_tells k q) [ inl same ↦ absurd (ne same.1) | inr other ↦ other.0 ]
 
-module _ (olds now : List OldSector) (k : ℕ) (bytes : List ℕ) (f : ℕ → List ℕ) (none : old_bytes_of olds k ≡ None) (keeps : AddsOldSector olds now k bytes) (is : bytes ≡ f k) where
+module _ (olds now : List OldSector) (k : ℕ) (bytes : List ℕ) (f : ℕ → List ℕ) (none : old_bytes_of olds k ≡ None) (keeps : SetsOldBytesOfSector olds now k bytes) (is : bytes ≡ f k) where
   kept_here : (g : ℕ → List ℕ) → with_old_bytes now g k ≡ with_old_bytes olds f k
   kept_here g =
       ap (λ (x : Option (List ℕ)). unwrap_or x (g k)) (keeps k)
@@ -49,13 +49,13 @@ pub written_here : (f : ℕ → List ℕ) (k : ℕ) (bytes : List ℕ) → with_
 written_here f k bytes = ap (λ b. if b then bytes else f k) (same_one k)
 
 -- the old bytes of a sector were kept
-pub kept_lasts : (olds now : List OldSector) (k : ℕ) (bytes : List ℕ) (told : Option (ℕ → List ℕ)) → old_bytes_of olds k ≡ None → AddsOldSector olds now k bytes →
+pub kept_lasts : (olds now : List OldSector) (k : ℕ) (bytes : List ℕ) (told : Option (ℕ → List ℕ)) → old_bytes_of olds k ≡ None → SetsOldBytesOfSector olds now k bytes →
     IfSome told (λ f. bytes ≡ f k) → option_map (with_old_bytes now) told ≡ option_map (with_old_bytes olds) told
 kept_lasts olds now k bytes None none keeps is = refl
 kept_lasts olds now k bytes (Some f) none keeps is = ap Some (kept_with olds now k bytes f none keeps is f (λ _ _. refl))
 
 -- and then it was written
-pub kept_written : (olds now : List OldSector) (k : ℕ) (bytes : List ℕ) (told : Option (ℕ → List ℕ)) → old_bytes_of olds k ≡ None → AddsOldSector olds now k bytes →
+pub kept_written : (olds now : List OldSector) (k : ℕ) (bytes : List ℕ) (told : Option (ℕ → List ℕ)) → old_bytes_of olds k ≡ None → SetsOldBytesOfSector olds now k bytes →
     IfSome told (λ f. bytes ≡ f k) → (put : List ℕ) → option_map (with_old_bytes now) (option_map (λ f. with_sector f k put) told) ≡ option_map (with_old_bytes olds) told
 kept_written olds now k bytes None none keeps is put = refl
 kept_written olds now k bytes (Some f) none keeps is put = ap Some (kept_with olds now k bytes f none keeps is (with_sector f k put) (λ q ne. written_other f k q put ne))

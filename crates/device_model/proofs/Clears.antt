@@ -14,7 +14,7 @@ use Rattle.ata_types.specs.declared.Port.{Port}
 use Rattle.ata_types.specs.declared.Slot.{Slot}
 use Rattle.sector_store.specs.declared.store.Failures.{Failures}
 use Rattle.device_model.specs.Disks.{bay_of, port_has_cache, disk_over, bay_failures, disk_failures, has_cache, lasting_of, page_source_of}
-use Rattle.device_model.specs.StepEffects.{ClearsFewer, HasCleared, CommandFails, IsSectorFault}
+use Rattle.device_model.specs.StepEffects.{ClearsFewer, HasCleared, CommandOfStepFails, SectorIsPastDiskOrStoreFails}
 use Rattle.device_model.specs.ModelState.{device_at, media_of, all_media_at}
 use Rattle.device_model.specs.DiskPages.{GainsOwnPages, with_logged_error}
 use Rattle.device_model.specs.SentFises.{SendsFault}
@@ -224,9 +224,9 @@ module _ {S : Type 0} (size : S → ℕ) (told : S → Option (ℕ → List ℕ)
   -- the next one can't be: its command fails on it
   pub part_fails : (small : slot.0 < 32) → HasClear old_device p.0 slot.0 most (taken_of r) → IsPart size told p slot most first count (taken_of r) m then_model →
       count < next_run_length most (taken_of r) → (error : ℕ) → (last : Model S) → disk_failures failures last p.0 ≡ failures b.disk.store →
-      IsSectorFault a.cache.is_on true (first + count) (size a.disk.store) error (failures a.disk.store) (failures b.disk.store) → first ≡ next_uncleared (taken_of r) →
+      SectorIsPastDiskOrStoreFails a.cache.is_on true (first + count) (size a.disk.store) error (failures a.disk.store) (failures b.disk.store) → first ≡ next_uncleared (taken_of r) →
       IsFailed size told failures p slot error (record (taken_of r) { cleared = r.cleared + count }) then_model last →
-      CommandFails size told failures (asked.Clear p slot most) m last
+      CommandOfStepFails size told failures (asked.Clear p slot most) m last
   part_fails small has part fewer error last fine cause start failed =
       let t : FetchedCommand = record (taken_of r) { cleared = r.cleared + count } in
       let more = part.more fewer in
@@ -234,10 +234,10 @@ module _ {S : Type 0} (size : S → ℕ) (told : S → Option (ℕ → List ℕ)
       let sector : first + count ≡ next_uncleared t = (let same : first + count ≡ next_uncleared (taken_of r) + count = ap (λ (k : ℕ). k + count) start in same) ∙ sym next in
       let sizes : size a.disk.store ≡ ((device_at size told then_model).port p.0).disk.sector_count = sym size_is ∙ sym part.disk_size in
       let then_size : ℕ = ((device_at size told then_model).port p.0).disk.sector_count in
-      let P : Option Failures → Option Failures → Type 0 = λ before now. IsSectorFault (port_has_cache m p.0) true (next_uncleared t) then_size error before now in
-      let Q : ℕ → Type 0 = λ n. IsSectorFault (port_has_cache m p.0) true (next_uncleared t) n error (failures a.disk.store) (failures b.disk.store) in
-      let R : ℕ → Type 0 = λ k. IsSectorFault (port_has_cache m p.0) true k (size a.disk.store) error (failures a.disk.store) (failures b.disk.store) in
-      let O : Bool → Type 0 = λ on. IsSectorFault on true (first + count) (size a.disk.store) error (failures a.disk.store) (failures b.disk.store) in
+      let P : Option Failures → Option Failures → Type 0 = λ before now. SectorIsPastDiskOrStoreFails (port_has_cache m p.0) true (next_uncleared t) then_size error before now in
+      let Q : ℕ → Type 0 = λ n. SectorIsPastDiskOrStoreFails (port_has_cache m p.0) true (next_uncleared t) n error (failures a.disk.store) (failures b.disk.store) in
+      let R : ℕ → Type 0 = λ k. SectorIsPastDiskOrStoreFails (port_has_cache m p.0) true k (size a.disk.store) error (failures a.disk.store) (failures b.disk.store) in
+      let O : Bool → Type 0 = λ on. SectorIsPastDiskOrStoreFails on true (first + count) (size a.disk.store) error (failures a.disk.store) (failures b.disk.store) in
       let before : failures a.disk.store ≡ disk_failures failures m p.0 = sym (ap (bay_failures failures) was) in
       let plain : is_queued t.meaning.operation ≡ false = ap is_queued has.trim in
       let one : failed.fails.fault.fetched_command ≡ t = failed.same in

@@ -1,7 +1,7 @@
 -- What a model makes of a step that it is told.
 use Rattle.std.proofs.Common.{ℕ, Bool, true, false, ◌≡◌, ◌≢◌, ◌<◌, ◌≤◌, ◌^◌, ◌⊎◌, ◌∙◌, List, Option, Some, ⊎_elim, refl, sym, ap, subst, inl, inr}
 use Rattle.std.specs.Prelude.{option_map}
-use Rattle.adapter.specs.AskedSteps.{FailsAndPosts, SlotGoesOn}
+use Rattle.adapter.specs.AskedSteps.{FailsAndPosts, DoesAtLeastOneSlotStep}
 use Rattle.adapter.specs.declared.access.DeviceStep.TheVariants as asked
 use Rattle.ata_types.specs.declared.Port.{Port}
 use Rattle.ata_types.specs.declared.Slot.{Slot}
@@ -12,7 +12,7 @@ use Rattle.adapter.proofs.Runs.{Steps-refl}
 use Rattle.adapter.specs.Steps.{Can, Steps}
 use Rattle.adapter.specs.Steps.DeviceTransition.{Fault}
 use Rattle.sector_store.specs.declared.store.Failures.{Failures}
-use Rattle.device_model.specs.StepEffects.{AnswersStep, MayAskStore, ClearsFewer, Completes, DidStep, FailsToClear, FailsToMove, OwnStepsKeep, CommandFails, IsLeftOut, LacksMemory, IsMemoryAddressableForStep, NoCallFailed, StepKeeps, IsPossible, asked_port, page_source_after_failure}
+use Rattle.device_model.specs.StepEffects.{AnswersStep, MayAskStore, ClearsFewer, Completes, DidStep, FailsToClear, FailsToMove, OwnStepsKeep, CommandOfStepFails, IsLeftOut, LacksMemory, IsMemoryAddressableForStep, NoCallFailed, StepKeeps, IsPossible, asked_port, page_source_after_failure}
 use Rattle.device_model.specs.Disks.{bay_of, port_has_cache, disk_in_bay, numbered_disk, disk_failures, identity_of, page_source_of, disk_index_of}
 use Rattle.device_model.specs.ModelState.{device_at}
 use Rattle.device_model.specs.DiskPages.{GainsOwnPages}
@@ -164,7 +164,7 @@ module _ {S : Type 0} (size : S → ℕ) (told : S → Option (ℕ → List ℕ)
 
   -- A Finish came to a step that was left, for which there was room, and which was possible. So it has no address.
   pub cut_short : (s : DeviceStep) (p : Port) (slot : Slot) (did : Bool) (old mid new : Model S) → IsPossible (asked.Finish p slot) (device_at size told old) →
-      (did ≡ true → SlotGoesOn (SendsEnd slot.0) p.0 slot.0 (device_at size told old) (device_at size told mid)) → (did ≡ false → device_at size told mid ≡ device_at size told old) →
+      (did ≡ true → DoesAtLeastOneSlotStep (SendsEnd slot.0) p.0 slot.0 (device_at size told old) (device_at size told mid)) → (did ≡ false → device_at size told mid ≡ device_at size told old) →
       Meanwhile size p.0 old mid → ((MayAskStore (asked.Finish p slot) (device_at size told old) → ⊥) → (which : DiskIndex) → numbered_disk mid p.0 which ≡ numbered_disk old p.0 which) →
       (did ≡ false → (which : DiskIndex) → numbered_disk mid p.0 which ≡ numbered_disk old p.0 which) → NoCallFailed failures old mid → asked_port s ≡ p.0 → IsLeftOut size told failures s mid new →
       ((device_at size told old).memory_size ≤ 2 ^ 32 → IsMemoryAddressableForStep s (device_at size told mid)) → IsPossible s (device_at size told mid) →
@@ -199,14 +199,14 @@ module _ {S : Type 0} (size : S → ℕ) (told : S → Option (ℕ → List ℕ)
         starved = same_flag mid.hardware.starved new.hardware.starved step.stays_starved told_before;
       })
 
-      by : (b : Bool) → (b ≡ true → SlotGoesOn (SendsEnd slot.0) p.0 slot.0 (device_at size told old) (device_at size told mid)) →
+      by : (b : Bool) → (b ≡ true → DoesAtLeastOneSlotStep (SendsEnd slot.0) p.0 slot.0 (device_at size told old) (device_at size told mid)) →
           (b ≡ false → device_at size told mid ≡ device_at size told old) → (b ≡ false → (which : DiskIndex) → numbered_disk mid p.0 which ≡ numbered_disk old p.0 which) →
           AnswersStep size told failures (asked.Finish p slot) b old new
       by true on stays first = (
         may,
         record {
           completes_or_fails = inl (record {
-            does_asked_step = subst (λ (d : Device). SlotGoesOn (SendsEnd slot.0) p.0 slot.0 (device_at size told old) d) (sym step.device_is_kept) (on refl);
+            does_asked_step = subst (λ (d : Device). DoesAtLeastOneSlotStep (SendsEnd slot.0) p.0 slot.0 (device_at size told old) d) (sym step.device_is_kept) (on refl);
             no_call_failed = λ _ q which. ap (option_map (λ (x : ModelDisk S). failures x.store)) (disks q which) ∙ none q which;
             page_source_is = all.says;
             clear_and_finish_do_all_below_4_gib = λ small_enough. absurd (unserved small_enough);
@@ -237,13 +237,13 @@ module _ {S : Type 0} (size : S → ℕ) (told : S → Option (ℕ → List ℕ)
       }
 
   -- what is before a fault of a Finish
-  before_it : (p : Port) (slot : Slot) (did : Bool) (old mid : Device) → (did ≡ true → SlotGoesOn (SendsEnd slot.0) p.0 slot.0 old mid) → (did ≡ false → mid ≡ old) →
-      (mid ≡ old) ⊎ SlotGoesOn (SendsEnd slot.0) p.0 slot.0 old mid
+  before_it : (p : Port) (slot : Slot) (did : Bool) (old mid : Device) → (did ≡ true → DoesAtLeastOneSlotStep (SendsEnd slot.0) p.0 slot.0 old mid) → (did ≡ false → mid ≡ old) →
+      (mid ≡ old) ⊎ DoesAtLeastOneSlotStep (SendsEnd slot.0) p.0 slot.0 old mid
   before_it p slot true old mid went stayed = inr (went refl)
   before_it p slot false old mid went stayed = inl (stayed refl)
 
   module _ (p : Port) (slot : Slot) (did : Bool) (old mid new : Model S) (may : IsPossible (asked.Finish p slot) (device_at size told old))
-      (went : did ≡ true → SlotGoesOn (SendsEnd slot.0) p.0 slot.0 (device_at size told old) (device_at size told mid))
+      (went : did ≡ true → DoesAtLeastOneSlotStep (SendsEnd slot.0) p.0 slot.0 (device_at size told old) (device_at size told mid))
       (stayed : did ≡ false → device_at size told mid ≡ device_at size told old) (meanwhile : Meanwhile size p.0 old mid)
       (asks : MayAskStore (asked.Finish p slot) (device_at size told old)) (none : NoCallFailed failures old mid) where
     fine : disk_failures failures mid p.0 ≡ disk_failures failures old p.0
@@ -252,7 +252,7 @@ module _ {S : Type 0} (size : S → ℕ) (told : S → Option (ℕ → List ℕ)
     -- a Finish came to a sector on which its command failed
     fails_finish : new.held ≡ mid.held → disk_index_of new p.0 ≡ disk_index_of mid p.0 → ((q : ℕ) → q ≢ p.0 → bay_of new q ≡ bay_of mid q) → GainsOwnPages size mid new →
         StepKeeps size mid new → new.hardware.starved ≡ mid.hardware.starved →
-        CommandFails size told failures (asked.Finish p slot) old new → AnswersStep size told failures (asked.Finish p slot) true old new
+        CommandOfStepFails size told failures (asked.Finish p slot) old new → AnswersStep size told failures (asked.Finish p slot) true old new
     fails_finish held which others pages keeps starved failed = (
       may,
       record {
@@ -267,7 +267,7 @@ module _ {S : Type 0} (size : S → ℕ) (told : S → Option (ℕ → List ℕ)
       },
     )
 
-    pub move_fails : DidStep size told failures (asked.Move p slot) mid new → CommandFails size told failures (asked.Move p slot) mid new →
+    pub move_fails : DidStep size told failures (asked.Move p slot) mid new → CommandOfStepFails size told failures (asked.Move p slot) mid new →
         AnswersStep size told failures (asked.Finish p slot) true old new
     move_fails step f =
         fails_finish step.held_ports_are step.disk_index_is step.other_bays_are_kept step.gains_own_pages step.step_keeps step.starved_is_kept (
@@ -278,7 +278,7 @@ module _ {S : Type 0} (size : S → ℕ) (told : S → Option (ℕ → List ℕ)
               (subst (λ says. FailsToMove (port_has_cache mid p.0) p.0 slot.0 (disk_failures failures mid p.0) (disk_failures failures new p.0) says (page_source_of new p.0) (device_at size told mid) (device_at size told new)) meanwhile.says f))),
         )
 
-    pub clear_fails : (most : ℕ) → DidStep size told failures (asked.Clear p slot most) mid new → CommandFails size told failures (asked.Clear p slot most) mid new →
+    pub clear_fails : (most : ℕ) → DidStep size told failures (asked.Clear p slot most) mid new → CommandOfStepFails size told failures (asked.Clear p slot most) mid new →
         AnswersStep size told failures (asked.Finish p slot) true old new
     clear_fails most step (last, cleared, f) =
         fails_finish step.held_ports_are step.disk_index_is step.other_bays_are_kept step.gains_own_pages step.step_keeps step.starved_is_kept (
@@ -290,9 +290,9 @@ module _ {S : Type 0} (size : S → ℕ) (told : S → Option (ℕ → List ℕ)
         )
       where
         on : (last ≡ device_at size told mid) ⊎ ClearsFewer p.0 slot.0 most (device_at size told mid) last →
-            (last ≡ device_at size told old) ⊎ SlotGoesOn (SendsEnd slot.0) p.0 slot.0 (device_at size told old) last
+            (last ≡ device_at size told old) ⊎ DoesAtLeastOneSlotStep (SendsEnd slot.0) p.0 slot.0 (device_at size told old) last
         on (inl same) =
-            subst (λ (d : Device). (d ≡ device_at size told old) ⊎ SlotGoesOn (SendsEnd slot.0) p.0 slot.0 (device_at size told old) d) (sym same)
+            subst (λ (d : Device). (d ≡ device_at size told old) ⊎ DoesAtLeastOneSlotStep (SendsEnd slot.0) p.0 slot.0 (device_at size told old) d) (sym same)
             (before_it p slot did _ _ went stayed)
         on (inr more) = inr (goes_next (SendsEnd slot.0) p.0 slot.0 _ _ last did went stayed (inr (inr (inr (most, more.0)))))
 

@@ -20,7 +20,7 @@ use Rattle.device_model.specs.PieceTransfers.{IsTransferred, piece_of}
 use Rattle.device_model.specs.FetchedBytes.{bytes_of}
 use Rattle.device_model.specs.Finishing.{TapeHasRoom}
 use Rattle.device_model.specs.Slots.{WorksOnIn, IsNextMove}
-use Rattle.device_model.specs.PortView.{blank_port, taken_in, media_after_move, operation_of_kind, port_of, taken_of}
+use Rattle.device_model.specs.PortView.{reset_port_without_disk, taken_in, media_after_move, port_of, taken_of}
 use Rattle.device_model.specs.WholeAdapter.{AllMedia, device_of, all_media_after_move}
 use Rattle.device_model.specs.declared.hardware.Hardware.{Hardware}
 use Rattle.device_model.specs.declared.port.PortModel.{PortModel}
@@ -86,13 +86,13 @@ piece_is h next k d b is whole small size =
 
 pub exchanged : (h : Hardware) (next : NextMove) (k : ℕ) (d b : List ℕ) → d ≡ h.memory.items → k ≡ 512 →
     next.address + 512 ≤ length h.memory.items → length b ≡ 512 →
-    (reads_memory (operation_of_kind next.command_kind) ≡ true → b ≡ take k (drop next.address d)) →
+    (reads_memory next.operation ≡ true → b ≡ take k (drop next.address d)) →
     IsTransferred h (with_piece h next.address k d b) next
 exchanged h next k d b is whole small size takes =
     record {
       rest_is_kept = λ _. with_piece h next.address k d b;
       memory_size_is_kept = ap length items ∙ (long ∙ all);
-      memory_is = by (reads_memory (operation_of_kind next.command_kind)) takes;
+      memory_is = by (reads_memory next.operation) takes;
     }
   where
     all : length d ≡ length h.memory.items
@@ -140,8 +140,8 @@ pub port_moves_over : (old h : Hardware) (o : AllMedia) (p port slot : ℕ) (nex
     (t : TakenCommand) (tape : Vec Entry) (operation : Operation) (direction : Direction) →
     IsTransferred old h next → p ≡ port → p < length h.ports → IsNextMove old port slot next t →
     port_of new (media_after_move (o.media p) (taken_of t) (piece_of h next))
-    ≡ port_after_move (port_of (slice_index_or h.ports p blank_port) (o.media p)) slot (taken_of t) (piece_of h next) →
-    operation ≡ operation_of_kind next.command_kind → direction ≡ direction_of (operation_of_kind next.command_kind) →
+    ≡ port_after_move (port_of (slice_index_or h.ports p reset_port_without_disk) (o.media p)) slot (taken_of t) (piece_of h next) →
+    operation ≡ next.operation → direction ≡ direction_of next.operation →
     tape.items
     ≡ h.tape.items
     ++ entry.Move (moved_by port slot operation next.sector next.address direction (piece_of h next)) ∷ [] →
@@ -155,7 +155,7 @@ port_moves_over old h o p port slot next new t tape operation direction is e sma
     let moved = port_moves old o p port slot next new t tape h.memory bytes operation direction e
     (subst (λ (x : Hardware). p < length x.ports) is.rest_is_kept small) at
     (subst (λ (x : Hardware). port_of new (media_after_move (o.media p) (taken_of t) bytes)
-    ≡ port_after_move (port_of (slice_index_or x.ports p blank_port) (o.media p)) slot (taken_of t) bytes) is.rest_is_kept moves)
+    ≡ port_after_move (port_of (slice_index_or x.ports p reset_port_without_disk) (o.media p)) slot (taken_of t) bytes) is.rest_is_kept moves)
     named way
     (subst (λ (x : Hardware). noted.items ≡ x.tape.items ++ entry.Move
     (moved_by port slot operation next.sector next.address direction bytes) ∷ []) is.rest_is_kept more)
@@ -167,10 +167,10 @@ port_moves_over old h o p port slot next new t tape operation direction is e sma
 pub next_over : {old h : Hardware} {next : NextMove} {t : TakenCommand} → (port slot : ℕ) → IsTransferred old h next →
     IsNextMove old port slot next t → IsNextMove h port slot next t
 next_over {old} {h} {next} {t} port slot is at = record {
-  works_on = subst (λ (x : Hardware). WorksOnIn (slice_index_or x.ports port blank_port) slot t) (sym is.rest_is_kept) at.works_on;
+  works_on = subst (λ (x : Hardware). WorksOnIn (slice_index_or x.ports port reset_port_without_disk) slot t) (sym is.rest_is_kept) at.works_on;
   piece_is_left = at.piece_is_left;
   moved_fits = at.moved_fits;
-  kind_is = at.kind_is;
+  operation_is = at.operation_is;
   sector_is = at.sector_is;
   address_is = at.address_is;
   inside = let size = is.memory_size_is_kept in let inside = at.inside in omega (arith, size, inside);
@@ -190,10 +190,10 @@ pub next_grown : {old h : Hardware} {next : NextMove} {t : TakenCommand} → (po
 next_grown {old} {h} {next} {t} port slot is at =
     let size : length h.memory.items ≡ length old.memory.items = ap (λ (x : Hardware). length x.memory.items) is in
     record {
-      works_on = subst (λ (x : Hardware). WorksOnIn (slice_index_or x.ports port blank_port) slot t) (sym is) at.works_on;
+      works_on = subst (λ (x : Hardware). WorksOnIn (slice_index_or x.ports port reset_port_without_disk) slot t) (sym is) at.works_on;
       piece_is_left = at.piece_is_left;
       moved_fits = at.moved_fits;
-      kind_is = at.kind_is;
+      operation_is = at.operation_is;
       sector_is = at.sector_is;
       address_is = at.address_is;
       inside = let inside = at.inside in omega (arith, size, inside);
@@ -208,7 +208,7 @@ next_grown {old} {h} {next} {t} port slot is at =
     }
 
 -- the sector that a command names next, once one more piece is moved
-one_further : (t : TakenCommand) (sector : ℕ) → is_ranged (operation_of_kind t.command_kind) ≡ true → sector ≡ next_sector (taken_of t) →
+one_further : (t : TakenCommand) (sector : ℕ) → is_ranged t.operation ≡ true → sector ≡ next_sector (taken_of t) →
     sector + 1 ≡ next_sector (taken_of (record t { moved = t.moved + 1 }))
 one_further t sector ranged is =
     let was : next_sector (taken_of t) ≡ t.first + t.moved = ap (λ (b : Bool). if b then t.first + t.moved else 0) ranged in
@@ -219,15 +219,15 @@ one_further t sector ranged is =
 -- once the next piece of a command is noted, the one behind it is next
 pub next_after : (old : Hardware) (p port slot : ℕ) (next : NextMove) (t : TakenCommand) (new : PortModel) (tape : Vec Entry) (starved : Bool) →
     IsNextMove old port slot next t → 1 ≤ next.pieces_following → p ≡ port → p < length old.ports →
-    new ≡ record (slice_index_or old.ports p blank_port) { taken = new.taken } →
+    new ≡ record (slice_index_or old.ports p reset_port_without_disk) { taken = new.taken } →
     taken_in new.taken slot ≡ Some (record t { moved = t.moved + 1 }) →
     IsNextMove (record old { ports = slice_set old.ports p new; tape = tape; starved = starved }) port slot
     (record next { sector = next.sector + 1; address = next.address + 512; pieces_following = next.pieces_following - 1 })
     (record t { moved = t.moved + 1 })
 next_after old p port slot next t new tape starved at some e small same held =
     let u : TakenCommand = record t { moved = t.moved + 1 } in
-    let there : slice_index_or (slice_set old.ports p new) port blank_port ≡ new =
-    ap (λ k. slice_index_or (slice_set old.ports p new) k blank_port) (sym e) ∙ get_or-set_same old.ports p new blank_port small in
+    let there : slice_index_or (slice_set old.ports p new) port reset_port_without_disk ≡ new =
+    ap (λ k. slice_index_or (slice_set old.ports p new) k reset_port_without_disk) (sym e) ∙ get_or-set_same old.ports p new reset_port_without_disk small in
     let inside = at.pieces_follow.inside in
     let one = at.pieces_follow.pieces_are 1 some in
     record {
@@ -236,10 +236,10 @@ next_after old p port slot next t new tape starved at some e small same held =
             is_taken = held;
             works = λ m.
                 let was = (at.works_on.works m).working in
-                let P : PortModel → Type 0 = λ x. IsWorking (port_of x m) (operation_of_kind t.command_kind) in
-                let here : PortModel = slice_index_or old.ports port blank_port in
+                let P : PortModel → Type 0 = λ x. IsWorking (port_of x m) t.operation in
+                let here : PortModel = slice_index_or old.ports port reset_port_without_disk in
                 let is : new ≡ record here { taken = new.taken } =
-                same ∙ ap (λ k. record (slice_index_or old.ports k blank_port) { taken = new.taken }) e in
+                same ∙ ap (λ k. record (slice_index_or old.ports k reset_port_without_disk) { taken = new.taken }) e in
                 record {
                   taken = slot_taken (taken_in new.taken) u slot held;
                   working = subst P (sym is)
@@ -248,7 +248,7 @@ next_after old p port slot next t new tape starved at some e small same held =
           });
       piece_is_left = one.0;
       moved_fits = let room = at.pieces_follow.moved_fits in omega (arith, room, some);
-      kind_is = at.kind_is;
+      operation_is = at.operation_is;
       sector_is = one_further t next.sector (at.pieces_follow.is_ranged_if_any some) at.sector_is;
       address_is = sym one.1;
       inside = omega (arith, inside, some);

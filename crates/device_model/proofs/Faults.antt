@@ -11,7 +11,7 @@ use Rattle.ata_types.specs.declared.Port.{Port}
 use Rattle.ata_types.specs.declared.Slot.{Slot}
 use Rattle.sector_store.specs.declared.store.Failures.{Failures}
 use Rattle.device_model.specs.Disks.{bay_of, port_has_cache, disk_failures, page_source_of, disk_index_of}
-use Rattle.device_model.specs.StepEffects.{MayAskStore, DidStep, CommandFails, IsSectorFault, StepKeeps, asked_port, page_source_after_failure, disk_index_after}
+use Rattle.device_model.specs.StepEffects.{MayAskStore, DidStep, CommandOfStepFails, SectorIsPastDiskOrStoreFails, StepKeeps, asked_port, page_source_after_failure, disk_index_after}
 use Rattle.device_model.specs.Finishing.{HasMove}
 use Rattle.device_model.specs.HeldPorts.{held_after}
 use Rattle.device_model.specs.ModelState.{device_at}
@@ -33,11 +33,11 @@ module _ {S : Type 0} (size : S → ℕ) (told : S → Option (ℕ → List ℕ)
   -- as the next sector was to be moved
   pub fails_to_move : device_at size told mid ≡ device_at size told m → page_source_of mid p.0 ≡ page_source_of m p.0 → HasMove (device_at size told m) p.0 slot.0 t →
       is_ranged t.meaning.operation ≡ true →
-      IsSectorFault (port_has_cache m p.0) (reads_memory t.meaning.operation) (next_sector t) ((device_at size told m).port p.0).disk.sector_count error (disk_failures failures m p.0) (disk_failures failures mid p.0) →
-      CommandFails size told failures (asked.Move p slot) m last
+      SectorIsPastDiskOrStoreFails (port_has_cache m p.0) (reads_memory t.meaning.operation) (next_sector t) ((device_at size told m).port p.0).disk.sector_count error (disk_failures failures m p.0) (disk_failures failures mid p.0) →
+      CommandOfStepFails size told failures (asked.Move p slot) m last
   fails_to_move same says move ranged cause =
       let P : Option Failures → Type 0 = λ now.
-      IsSectorFault (port_has_cache m p.0) (reads_memory t.meaning.operation) (next_sector t) ((device_at size told m).port p.0).disk.sector_count error (disk_failures failures m p.0) now in
+      SectorIsPastDiskOrStoreFails (port_has_cache m p.0) (reads_memory t.meaning.operation) (next_sector t) ((device_at size told m).port p.0).disk.sector_count error (disk_failures failures m p.0) now in
       let Q : FetchedCommand → Device → Type 0 = λ x d. Can (Fault p.0 slot.0 error 0 x) d in
       let R : FetchedCommand → Device → Type 0 = λ x d. SendsFault (is_queued x.meaning.operation) p.0 d (device_at size told last) in
       record {
@@ -53,7 +53,7 @@ module _ {S : Type 0} (size : S → ℕ) (told : S → Option (ℕ → List ℕ)
       }
 
   -- the step is done, as far as that
-  pub did_fail : (s : DeviceStep) → asked_port s ≡ p.0 → CommandFails size told failures s m last → held_after s m.held ≡ m.held →
+  pub did_fail : (s : DeviceStep) → asked_port s ≡ p.0 → CommandOfStepFails size told failures s m last → held_after s m.held ≡ m.held →
       disk_index_after s (disk_index_of m (asked_port s)) ≡ disk_index_of m (asked_port s) → mid.held ≡ m.held → page_source_of mid p.0 ≡ page_source_of m p.0 → disk_index_of mid p.0 ≡ disk_index_of m p.0 →
       ((q : ℕ) → q ≢ p.0 → bay_of mid q ≡ bay_of m q) → GainsOwnPages size m mid → StepKeeps size m mid → mid.hardware.starved ≡ m.hardware.starved →
       MayAskStore s (device_at size told m) → DidStep size told failures s m last

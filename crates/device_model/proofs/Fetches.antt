@@ -9,8 +9,6 @@ use Rattle.adapter.specs.declared.command.Operation.{Operation}
 use Rattle.adapter.specs.declared.command.Prd.{Prd}
 use Rattle.adapter.proofs.SaysLemmas.{cut_length, cut_index}
 use Rattle.device_model.specs.FetchedBytes.{no_prd}
-use Rattle.device_model.specs.PortView.{operation_of_kind}
-use Rattle.device_model.specs.declared.port.CommandKind.{CommandKind}
 
 abbrev Here : (ℕ → ℕ) → ℕ → Prd → Type 0
 Here memory at e = EncodesPrd (bytes_at memory at 16) e
@@ -129,16 +127,16 @@ only_one e here (suc k) d lt = absurd (omega arith)
 
 -- ---- what a command of this kind says
 
-module _ (k : CommandKind) (memory : ℕ → ℕ) (list slot : ℕ) (m : Meaning) (places : List ℕ) (is : m.operation ≡ operation_of_kind k)
+module _ (k : Operation) (memory : ℕ → ℕ) (list slot : ℕ) (m : Meaning) (places : List ℕ) (is : m.operation ≡ k)
     (s : DecodesTo memory list slot m places) where
-  pub said_header : EncodesHeader (bytes_at memory (list + 32 * slot) 32) (reads_memory (operation_of_kind k)) (length s.prds) s.table
+  pub said_header : EncodesHeader (bytes_at memory (list + 32 * slot) 32) (reads_memory k) (length s.prds) s.table
   said_header = subst (λ (w : Bool). EncodesHeader (bytes_at memory (list + 32 * slot) 32) w (length s.prds) s.table) (ap reads_memory is) s.header
 
-  pub said_command : EncodesCommand (bytes_at memory s.table 20) (command_of (operation_of_kind k) slot m.first m.count)
+  pub said_command : EncodesCommand (bytes_at memory s.table 20) (command_of k slot m.first m.count)
   said_command = subst (λ (o : Operation). EncodesCommand (bytes_at memory s.table 20) (command_of o slot m.first m.count)) is s.fis
 
-  pub said_meaning : IsValidMeaning (record { operation = operation_of_kind k; first = m.first; count = m.count })
+  pub said_meaning : IsValidMeaning (record { operation = k; first = m.first; count = m.count })
   said_meaning = subst (λ (o : Operation). IsValidMeaning (record { operation = o; first = m.first; count = m.count })) is s.meaning
 
-  pub said_count : length (pieces s.prds) ≡ piece_count (operation_of_kind k) m.count
+  pub said_count : length (pieces s.prds) ≡ piece_count k m.count
   said_count = ap length (sym s.places_are) ∙ (s.place_count_is ∙ ap (λ (o : Operation). piece_count o m.count) is)

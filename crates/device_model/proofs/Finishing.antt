@@ -1,13 +1,13 @@
 -- A command that may be done is taken, goes on piece by piece and clear by clear, and ends.
 use Rattle.std.proofs.Common.{[], ◌∷◌, ℕ, Bool, true, false, zero, suc, ◌≡◌, ◌<◌, ◌≤◌, ◌+◌, ◌⊎◌, List, length, slice_index, slice_index_or, Option, None, Some, refl, sym, ◌∙◌, ap, subst, inl, inr, arith}
 use Rattle.std.specs.Prelude.{if◌then◌else◌}
-use Rattle.adapter.specs.AskedSteps.{DoesClear, DoesFetch, DoesMove, DoesDone, DoesSlotStep, DoesSlotSteps, EndsAndPosts, SlotGoesOn}
+use Rattle.adapter.specs.AskedSteps.{DoesClear, DoesFetch, DoesMove, DoesDone, DoesSlotStep, DoesExactlySlotSteps, EndsAndPosts, DoesAtLeastOneSlotStep}
 use Rattle.adapter.specs.Commands.{Meaning, is_queued, is_ranged}
 use Rattle.adapter.specs.Device.{Disk, FetchedCommand, Halt, DevicePort, Device}
 use Rattle.adapter.specs.Memory.{changed}
 use Rattle.adapter.specs.OneCommand.{IsFreeSlot}
 use Rattle.adapter.specs.Decoding.{pieces}
-use Rattle.adapter.specs.Steps.{Can, IsWorking, WorksOn, admits, newly_fetched, MayBring, next_place, next_sector, port_after_fetch, port_after_move, port_after_clear, port_after_done, port_with_lasting_after_operation, block_after}
+use Rattle.adapter.specs.Steps.{Can, IsWorking, WorksOn, admits, newly_fetched, MayBring, next_place, next_sector, port_after_fetch, port_after_move, port_after_clear, port_after_done_except_lasting, port_with_lasting_after_operation, block_after}
 use Rattle.adapter.specs.Steps.DeviceTransition.{Fetch, Move, Done}
 use Rattle.adapter.specs.declared.command.Operation.{Operation}
 use Rattle.adapter.specs.declared.command.Operation.TheVariants.{Trim}
@@ -15,22 +15,20 @@ use Rattle.device_model.proofs.Absurd.{some-none, some_one, true-false}
 use Rattle.device_model.proofs.Places.{changed_same}
 use Rattle.adapter.proofs.SaysLemmas.{says_meaning, says_places}
 use Rattle.device_model.specs.StepEffects.{HasCleared, HasEndedSlot}
-use Rattle.device_model.specs.Finishing.{HasDisksOrIsRanged, HasMove, HasMovesLeftInMemory, IsInProgress, MayFinish}
+use Rattle.device_model.specs.Finishing.{HasDisksOrOperationIsRanged, HasMove, HasMovesLeftInMemory, IsInProgress, MayFinish}
 use Rattle.device_model.specs.SentFises.{SendsEnd}
-use Rattle.device_model.specs.Slots.{CanClear, WorksOnIn, IsNextMove}
+use Rattle.device_model.specs.Slots.{IsMovedTrimWithSectorsLeftAtLeast, WorksOnIn, IsNextMove}
 use Rattle.device_model.specs.Trims.{HasClear, HasClearsLeft, next_run_length, uncleared}
-use Rattle.device_model.specs.PortView.{halt_of, taken_in, operation_of_kind, taken_of, blank_port}
+use Rattle.device_model.specs.PortView.{halt_of, taken_in, taken_of, reset_port_without_disk}
 use Rattle.device_model.specs.WholeAdapter.{HasDisks, AllMedia, device_of}
 use Rattle.device_model.specs.declared.port.PortModel.{PortModel}
 use Rattle.device_model.specs.declared.hardware.Hardware.{Hardware}
 use Rattle.device_model.specs.declared.port.TakenCommand.{TakenCommand}
-use Rattle.device_model.specs.declared.port.CommandKind.{CommandKind}
-use Rattle.device_model.specs.declared.port.CommandKind.TheVariants as command_kind
+use Rattle.adapter.specs.declared.command.Operation.TheVariants as operation
 use Rattle.device_model.specs.declared.steps.NextMove.{NextMove}
 use Rattle.device_model.proofs.Posting.{end_rest}
 use Rattle.device_model.proofs.Trimming.{is_a_trim, moved_clears, none_left, some_uncleared, span_less}
 use Rattle.device_model.proofs.SlotLemmas.{slot_taken, taken_slot}
-use Rattle.device_model.proofs.Transfers.{is_trim, kind_of_operation}
 
 cleared : (queued : Bool) (p : DevicePort) (slot : ℕ) →
     (if queued then (if queued then changed p.sact slot false else p.sact) slot else (if queued then p.ci else changed p.ci slot false) slot) ≡ false
@@ -160,11 +158,11 @@ module _ (port slot : ℕ) where
       }
 
   -- and it has ended
-  pub done_port : (old new : Device) (e : EndsAndPosts (SendsEnd slot) port slot old new) → new.port port ≡ port_with_lasting_after_operation (port_after_done (old.port port) slot e.done.cause_bit e.done.fetched_command.meaning.operation) e.done.fetched_command.meaning.operation (length old.tape)
+  pub done_port : (old new : Device) (e : EndsAndPosts (SendsEnd slot) port slot old new) → new.port port ≡ port_with_lasting_after_operation (port_after_done_except_lasting (old.port port) slot e.done.cause_bit e.done.fetched_command.meaning.operation) e.done.fetched_command.meaning.operation (length old.tape)
   done_port old new e =
       let f : DoesDone port slot old e.after_end = e.done in
       ap (λ (d : Device). d.port port) (end_rest port slot f.cause_bit f.fetched_command.meaning.operation e.after_end new e.posts)
-      ∙ (ap (λ (d : Device). d.port port) f.effect ∙ changed_same old.port port (port_with_lasting_after_operation (port_after_done (old.port port) slot f.cause_bit f.fetched_command.meaning.operation) f.fetched_command.meaning.operation (length old.tape)))
+      ∙ (ap (λ (d : Device). d.port port) f.effect ∙ changed_same old.port port (port_with_lasting_after_operation (port_after_done_except_lasting (old.port port) slot f.cause_bit f.fetched_command.meaning.operation) f.fetched_command.meaning.operation (length old.tape)))
 
   done_gone : (old new : Device) → EndsAndPosts (SendsEnd slot) port slot old new → (new.port port).taken slot ≡ None
   done_gone old new e = ap (λ (p : DevicePort). p.taken slot) (done_port old new e) ∙ changed_same (old.port port).taken slot None
@@ -207,11 +205,11 @@ module _ (port slot : ℕ) where
       let kind : is_queued c.fetched_command.meaning.operation ≡ true = ap (λ (x : FetchedCommand). is_queued x.meaning.operation) same ∙ queued in
       ap (λ (x : DevicePort). x.ci slot) there ∙ was c.fetched_command c.can.works.taken kind before
 
-  no_more_after : (n : ℕ) (since new : Device) → DoesSlotSteps (SendsEnd slot) n port slot since new → IsIssuedNoMore since new
+  no_more_after : (n : ℕ) (since new : Device) → DoesExactlySlotSteps (SendsEnd slot) n port slot since new → IsIssuedNoMore since new
   no_more_after zero since new same = subst (IsIssuedNoMore since) (sym same) (no_more_yet since)
   no_more_after (suc n) since new s = no_more_on since s.0 new (no_more_after n since s.0 s.1) s.2
 
-  pub no_more_going : (did : Bool) (since new : Device) → (did ≡ true → SlotGoesOn (SendsEnd slot) port slot since new) → (did ≡ false → new ≡ since) →
+  pub no_more_going : (did : Bool) (since new : Device) → (did ≡ true → DoesAtLeastOneSlotStep (SendsEnd slot) port slot since new) → (did ≡ false → new ≡ since) →
       IsIssuedNoMore since new
   no_more_going true since new goes same = let g = goes refl in no_more_after (suc g.0) since new g.1
   no_more_going false since new goes same = subst (IsIssuedNoMore since) (sym (same refl)) (no_more_yet since)
@@ -238,7 +236,7 @@ module _ (port slot : ℕ) where
   done_frees old new going plain e =
       let f : DoesDone port slot old e.after_end = e.done in
       let p : DevicePort = old.port port in
-      let state : DevicePort = port_with_lasting_after_operation (port_after_done p slot f.cause_bit f.fetched_command.meaning.operation) f.fetched_command.meaning.operation (length old.tape) in
+      let state : DevicePort = port_with_lasting_after_operation (port_after_done_except_lasting p slot f.cause_bit f.fetched_command.meaning.operation) f.fetched_command.meaning.operation (length old.tape) in
       let same : f.fetched_command ≡ going.fetched_command = some_one (sym f.can.works.taken ∙ going.works.taken) in
       let issued : state.ci ≡ changed p.ci slot false =
       ap (λ b. if b then p.ci else changed p.ci slot false) (ap (λ (x : FetchedCommand). is_queued x.meaning.operation) same ∙ plain) in
@@ -262,9 +260,9 @@ module _ (port slot : ℕ) where
 
 -- a command that a port works on is one that its slot holds
 pub holds : (h : Hardware) (o : AllMedia) (port slot : ℕ) (t : FetchedCommand) → WorksOn ((device_of h o).port port) slot t t.meaning.operation →
-    (r : TakenCommand) × WorksOnIn (slice_index_or h.ports port blank_port) slot r × (t ≡ taken_of r)
+    (r : TakenCommand) × WorksOnIn (slice_index_or h.ports port reset_port_without_disk) slot r × (t ≡ taken_of r)
 holds h o port slot t works =
-    let p : PortModel = slice_index_or h.ports port blank_port in
+    let p : PortModel = slice_index_or h.ports port reset_port_without_disk in
     let w = taken_slot (taken_in p.taken) slot t works.taken in (
       w.0,
       record {
@@ -286,7 +284,7 @@ holds h o port slot t works =
 -- what a move that is possible says of the command
 pub record MoveFits (h : Hardware) (port slot : ℕ) : Type 0 where
   pub r : TakenCommand
-  pub holds : WorksOnIn (slice_index_or h.ports port blank_port) slot r
+  pub holds : WorksOnIn (slice_index_or h.ports port reset_port_without_disk) slot r
   pub left : r.moved < length (pieces r.prds)
   pub inside : slice_index (pieces r.prds) r.moved + 512 ≤ length h.memory.items
 
@@ -310,28 +308,25 @@ next_has_move h o d port slot next r has same is =
     subst P same (record { works = is.works_on.works (o.media port); piece_is_left = is.piece_is_left; piece_is_inside = omega (arith, place, there); has_disks = subst Q (sym same) has })
 
 -- a move of a device is of a sector on its disk, if it is of one
-brings_on_disk : (disk : Disk) (memory : ℕ → ℕ) (t : FetchedCommand) (k : CommandKind) (bytes : List ℕ) → is_ranged (operation_of_kind k) ≡ true →
-    MayBring disk memory t (operation_of_kind k) bytes → next_sector t < disk.sector_count
-brings_on_disk disk memory t command_kind.Read bytes ranged brings = brings.0
-brings_on_disk disk memory t command_kind.Write bytes ranged brings = brings.0
-brings_on_disk disk memory t command_kind.ReadQueued bytes ranged brings = brings.0
-brings_on_disk disk memory t command_kind.WriteQueued bytes ranged brings = brings.0
-brings_on_disk disk memory t command_kind.Identify bytes ranged brings = absurd (cc ranged)
-brings_on_disk disk memory t command_kind.Flush bytes ranged brings = absurd (cc ranged)
-brings_on_disk disk memory t command_kind.Trim bytes ranged brings = absurd (cc ranged)
-brings_on_disk disk memory t command_kind.ReadLog bytes ranged brings = absurd (cc ranged)
+brings_on_disk : (disk : Disk) (memory : ℕ → ℕ) (t : FetchedCommand) (k : Operation) (bytes : List ℕ) → is_ranged k ≡ true →
+    MayBring disk memory t k bytes → next_sector t < disk.sector_count
+brings_on_disk disk memory t operation.Read bytes ranged brings = brings.0
+brings_on_disk disk memory t operation.Write bytes ranged brings = brings.0
+brings_on_disk disk memory t operation.ReadQueued bytes ranged brings = brings.0
+brings_on_disk disk memory t operation.WriteQueued bytes ranged brings = brings.0
+brings_on_disk disk memory t operation.Identify bytes ranged brings = absurd (cc ranged)
+brings_on_disk disk memory t operation.Flush bytes ranged brings = absurd (cc ranged)
+brings_on_disk disk memory t operation.Trim bytes ranged brings = absurd (cc ranged)
+brings_on_disk disk memory t operation.ReadLog bytes ranged brings = absurd (cc ranged)
 
 -- where a move may be made on a port that has disks, and its piece is in the memory, it is possible
 pub has_move : (d : Device) (port slot : ℕ) (t : FetchedCommand) (bytes : List ℕ) → ((sector : ℕ) → sector < (d.port port).disk.sector_count → HasDisks d port) →
-    HasDisksOrIsRanged d port t.meaning.operation → next_place t + 512 ≤ d.memory_size → Can (Move port slot t bytes) d → HasMove d port slot t
+    HasDisksOrOperationIsRanged d port t.meaning.operation → next_place t + 512 ≤ d.memory_size → Can (Move port slot t bytes) d → HasMove d port slot t
 has_move d port slot t bytes sized has inside can =
     record { works = can.works; piece_is_left = can.piece_is_left; piece_is_inside = inside; has_disks = elim has [ inl here ↦ here | inr ranged ↦ on ranged ] }
   where
     on : is_ranged t.meaning.operation ≡ true → HasDisks d port
-    on ranged =
-        let kind = kind_of_operation t.meaning.operation in
-        let P : Operation → Type 0 = λ o. MayBring (d.port port).disk d.memory t o bytes in
-        sized (next_sector t) (brings_on_disk (d.port port).disk d.memory t kind.0 bytes (ap is_ranged (sym kind.1) ∙ ranged) (subst P kind.1 can.brings))
+    on ranged = sized (next_sector t) (brings_on_disk (d.port port).disk d.memory t t.meaning.operation bytes ranged can.brings)
 
 -- where a move is left, one is possible
 pub going_has_move : (d : Device) (port slot left clears : ℕ) → HasDisks d port → (going : IsInProgress d port slot (suc left) clears) → HasMove d port slot going.fetched_command
@@ -362,21 +357,21 @@ going_has_clear d port slot clears has going =
 
 -- what a clear that is possible says of the command
 pub clear_fits : (h : Hardware) (o : AllMedia) (d : Device) (port slot most : ℕ) (t : FetchedCommand) → device_of h o ≡ d → HasClear d port slot most t →
-    (r : TakenCommand) × WorksOnIn (slice_index_or h.ports port blank_port) slot r × CanClear r most × (t ≡ taken_of r)
+    (r : TakenCommand) × WorksOnIn (slice_index_or h.ports port reset_port_without_disk) slot r × IsMovedTrimWithSectorsLeftAtLeast r most × (t ≡ taken_of r)
 clear_fits h o d port slot most t same clear =
     let P : Device → Type 0 = λ x. HasClear x port slot most t in
     let on_port : HasClear (device_of h o) port slot most t = subst P (sym same) clear in
     let w = holds h o port slot t (subst (λ (x : Operation). WorksOn ((device_of h o).port port) slot t x) (sym on_port.trim) on_port.works) in
     let Q : FetchedCommand → Type 0 = λ x. HasClear (device_of h o) port slot most x in
     let here : HasClear (device_of h o) port slot most (taken_of w.0) = subst Q w.2 on_port in
-    (w.0, w.1, record { trim = is_trim w.0.command_kind here.trim; block_is_moved = here.block_is_moved; count_is_positive = here.count_is_positive; enough_are_left = here.enough_are_left }, w.2)
+    (w.0, w.1, record { trim = here.trim; block_is_moved = here.block_is_moved; count_is_positive = here.count_is_positive; enough_are_left = here.enough_are_left }, w.2)
 
 -- and where the hardware finds one, it is possible on a port that has disks
 pub next_has_clear : (h : Hardware) (o : AllMedia) (d : Device) (port slot most : ℕ) (r : TakenCommand) → HasDisks d port → device_of h o ≡ d →
-    WorksOnIn (slice_index_or h.ports port blank_port) slot r → CanClear r most → HasClear d port slot most (taken_of r)
+    WorksOnIn (slice_index_or h.ports port reset_port_without_disk) slot r → IsMovedTrimWithSectorsLeftAtLeast r most → HasClear d port slot most (taken_of r)
 next_has_clear h o d port slot most r has same holds can =
     let P : Device → Type 0 = λ x. HasClear x port slot most (taken_of r) in
-    let trim : operation_of_kind r.command_kind ≡ Trim = ap operation_of_kind can.trim in
+    let trim : r.operation ≡ Trim = can.trim in
     subst P same (record {
       has_disks = subst (λ (x : Device). HasDisks x port) (sym same) has;
       works = subst (λ (x : Operation). WorksOn ((device_of h o).port port) slot (taken_of r) x) trim (holds.works (o.media port));
@@ -407,7 +402,7 @@ never_past h o port slot left clears past may = by may.is_begun_or_fetchable
     d = device_of h o
 
     stopped : ((device_of h o).port port).cr ≡ true → ⊥
-    stopped runs = let off : (slice_index_or h.ports port blank_port).cr ≡ false = ap (λ (p : PortModel). p.cr) (past_last h.ports port blank_port past) in true-false runs off
+    stopped runs = let off : (slice_index_or h.ports port reset_port_without_disk).cr ≡ false = ap (λ (p : PortModel). p.cr) (past_last h.ports port reset_port_without_disk past) in true-false runs off
 
     by : WorksOn (d.port port) slot may.fetched_command may.fetched_command.meaning.operation ⊎ (Can (Fetch port slot may.fetched_command.meaning may.fetched_command.places) d × (may.fetched_command ≡ newly_fetched may.fetched_command.meaning may.fetched_command.places)) → ⊥
     by (inl works) = stopped works.working.cr_is_set

@@ -3,8 +3,8 @@ use Rattle.std.proofs.Common.{ℕ, length, Bool, zero, suc, true, false, ◌≡�
 use Rattle.std.proofs.lemmas.Bool.Decides.{eqb_tells}
 use Rattle.adapter.specs.Device.{DevicePort, Device}
 use Rattle.adapter.specs.Memory.{changed}
-use Rattle.adapter.specs.AskedSteps.{DoesSlotStep, DoesSlotSteps, SlotGoesOn}
-use Rattle.adapter.specs.Steps.{MayLinkUp, port_after_clear, port_after_done, port_with_lasting_after_operation, port_after_fetch, port_after_link_up, port_after_move, with_port, port_after_reset}
+use Rattle.adapter.specs.AskedSteps.{DoesSlotStep, DoesExactlySlotSteps, DoesAtLeastOneSlotStep}
+use Rattle.adapter.specs.Steps.{MayLinkUp, port_after_clear, port_after_done_except_lasting, port_with_lasting_after_operation, port_after_fetch, port_after_link_up, port_after_move, with_port, port_after_reset}
 use Rattle.adapter.specs.Steps.DeviceTransition.{Fall, FrFall, LinkUp}
 use Rattle.device_model.proofs.Places.{fun_ext, changed_same, changed_other, changed_each}
 use Rattle.device_model.proofs.Own.{own_none, own_on, own_one}
@@ -12,8 +12,8 @@ use Rattle.device_model.specs.WordBits.{word_bits}
 use Rattle.device_model.specs.HeldPorts.{IsPortHeld, IsPortReleased}
 use Rattle.device_model.specs.SentFises.{SendsEnd, SendsDeviceToHost, signature_fis}
 use Rattle.device_model.proofs.Posting.{end_rest}
-use Rattle.device_model.specs.ModelOwnSteps.{LeadsBySteps, Settles, SettlesPort, IsSettled, IsSettledPort}
-use Rattle.device_model.specs.PortView.{Media, port_of, blank_port}
+use Rattle.device_model.specs.ModelOwnSteps.{LeadsBySteps, Settles, PortChangesBySettlingSteps, IsSettled, IsSettledPort}
+use Rattle.device_model.specs.PortView.{Media, port_of, reset_port_without_disk}
 use Rattle.device_model.specs.declared.port.PortModel.{PortModel}
 use Rattle.device_model.proofs.NewModel.{zero_bit}
 
@@ -34,10 +34,10 @@ with_twice d port a b =
           ∙ (changed_other d.port port a k differ.1 ∙ sym (changed_other d.port port b k differ.1))
     ]))
 
-pub goes_nowhere : (p : DevicePort) → SettlesPort p p
+pub goes_nowhere : (p : DevicePort) → PortChangesBySettlingSteps p p
 goes_nowhere p held d port loose is = let P : Device → Type 0 = λ x. LeadsBySteps (Settles held) d x in subst P (sym (with_same d port p is)) (own_none (Settles held) d)
 
-pub goes_on : (a b c : DevicePort) → SettlesPort a b → SettlesPort b c → SettlesPort a c
+pub goes_on : (a b c : DevicePort) → PortChangesBySettlingSteps a b → PortChangesBySettlingSteps b c → PortChangesBySettlingSteps a c
 goes_on a b c first then held d port loose is =
     let P : Device → Type 0 = λ x. LeadsBySteps (Settles held) (with_port d port b) x in
     own_on (Settles held) d (with_port d port b) (with_port d port c) (first held d port loose is)
@@ -46,7 +46,7 @@ goes_on a b c first then held d port loose is =
 abbrev fallen : DevicePort → DevicePort
 fallen p = record p { cr = false; taken = λ _. None }
 
-pub goes_fallen : (old new : DevicePort) → old.st ≡ false → old.cr ≡ true → new ≡ fallen old → SettlesPort old new
+pub goes_fallen : (old new : DevicePort) → old.st ≡ false → old.cr ≡ true → new ≡ fallen old → PortChangesBySettlingSteps old new
 goes_fallen old new st cr is held d port loose here =
     own_one (Settles held) (Fall port) d _ (loose, tt) (ap (λ (p : DevicePort). p.st) here ∙ st, ap (λ (p : DevicePort). p.cr) here ∙ cr)
     (ap (λ (p : DevicePort). with_port d port p) (is ∙ ap fallen (sym here)))
@@ -54,7 +54,7 @@ goes_fallen old new st cr is held d port loose here =
 abbrev area_fallen : DevicePort → DevicePort
 area_fallen p = record p { fr = false }
 
-pub goes_area_fallen : (old new : DevicePort) → old.fre ≡ false → old.cr ≡ false → old.fr ≡ true → new ≡ area_fallen old → SettlesPort old new
+pub goes_area_fallen : (old new : DevicePort) → old.fre ≡ false → old.cr ≡ false → old.fr ≡ true → new ≡ area_fallen old → PortChangesBySettlingSteps old new
 goes_area_fallen old new fre cr fr is held d port loose here =
     own_one (Settles held) (FrFall port) d _ (loose, tt)
     (ap (λ (p : DevicePort). p.fre) here ∙ fre, ap (λ (p : DevicePort). p.cr) here ∙ cr, ap (λ (p : DevicePort). p.fr) here ∙ fr)
@@ -87,10 +87,10 @@ linked_settled settled was linked m same fallen area due engine received =
 pub no_bits : word_bits 0 ≡ (λ _. false)
 no_bits = fun_ext zero_bit
 
-pub blank_reset : (m : Media) → port_after_reset (port_of blank_port m) ≡ port_of blank_port m
-blank_reset m = λ i. record (port_of blank_port m) { ci = sym no_bits i; sact = sym no_bits i; is = sym no_bits i }
+pub blank_reset : (m : Media) → port_after_reset (port_of reset_port_without_disk m) ≡ port_of reset_port_without_disk m
+blank_reset m = λ i. record (port_of reset_port_without_disk m) { ci = sym no_bits i; sact = sym no_bits i; is = sym no_bits i }
 
-pub blank_settled : (m : Media) → IsSettledPort (port_of blank_port m)
+pub blank_settled : (m : Media) → IsSettledPort (port_of reset_port_without_disk m)
 blank_settled m = record { cr_is_clear_without_st = λ _ cr. cc; fr_is_clear_without_fre_and_cr = λ _ _ fr. cc; no_link_may_come = λ sig may. let e : false ≡ true = may.present in cc }
 
 -- ---- a command goes on, and what the model does by itself stays done
@@ -122,7 +122,7 @@ settled_with old new port p hr is same held settled =
             present = sym same.present ∙ may.present;
             no_comreset = sym same.det ∙ may.no_comreset;
             link_is_due = sym same.due ∙ may.link_is_due;
-            sig_fits = may.sig_fits;
+            sig_is_32_bit = may.sig_is_32_bit;
           }))
           (λ q may. settled.link_may_come_up_only_where_held q sig n may) k;
     }
@@ -144,16 +144,16 @@ one_settled port slot old new (inr (inr (inr (most, c)))) =
     (same _ _ refl refl refl refl refl refl refl)
 one_settled port slot old new (inr (inr (inl e))) =
     let rest = end_rest port slot e.done.cause_bit e.done.fetched_command.meaning.operation e.after_end new e.posts in
-    settled_with old new port (port_with_lasting_after_operation (port_after_done (old.port port) slot e.done.cause_bit e.done.fetched_command.meaning.operation) e.done.fetched_command.meaning.operation (length old.tape))
+    settled_with old new port (port_with_lasting_after_operation (port_after_done_except_lasting (old.port port) slot e.done.cause_bit e.done.fetched_command.meaning.operation) e.done.fetched_command.meaning.operation (length old.tape))
     (ap (λ (d : Device). d.hr) rest ∙ ap (λ (d : Device). d.hr) e.done.effect)
     (ap (λ (d : Device). d.port) rest ∙ ap (λ (d : Device). d.port) e.done.effect) (same _ _ refl refl refl refl refl refl refl)
 
-some_settled : (n port slot : ℕ) (old new : Device) → DoesSlotSteps (SendsEnd slot) n port slot old new → (held : List Bool) → IsSettled held old → IsSettled held new
+some_settled : (n port slot : ℕ) (old new : Device) → DoesExactlySlotSteps (SendsEnd slot) n port slot old new → (held : List Bool) → IsSettled held old → IsSettled held new
 some_settled zero port slot old new e held settled = let P : Device → Type 0 = λ d. IsSettled held d in subst P (sym e) settled
 some_settled (suc n) port slot old new s held settled = one_settled port slot s.0 new s.2 held (some_settled n port slot old s.0 s.1 held settled)
 
 -- a command went on, or didn't
-pub gone_settled : (port slot : ℕ) (did : Bool) (old new : Device) → (did ≡ true → SlotGoesOn (SendsEnd slot) port slot old new) → (did ≡ false → new ≡ old) →
+pub gone_settled : (port slot : ℕ) (did : Bool) (old new : Device) → (did ≡ true → DoesAtLeastOneSlotStep (SendsEnd slot) port slot old new) → (did ≡ false → new ≡ old) →
     (held : List Bool) → IsSettled held old → IsSettled held new
 gone_settled port slot true old new went stayed held settled = let g = went refl in some_settled (suc g.0) port slot old new g.1 held settled
 gone_settled port slot false old new went stayed held settled = let P : Device → Type 0 = λ d. IsSettled held d in subst P (sym (stayed refl)) settled

@@ -10,7 +10,7 @@ use Rattle.device_model.specs.ModelState.{IsNewMedia, HasFirstGivenDiskOrNone, H
 use Rattle.device_model.specs.declared.disks.Disks.{Disks}
 use Rattle.device_model.specs.declared.disks.PortDisks.{PortDisks}
 use Rattle.sector_store.specs.Stores.{AreSectors}
-use Rattle.device_model.specs.PortView.{Media, port_of, blank_port}
+use Rattle.device_model.specs.PortView.{Media, port_of, reset_port_without_disk}
 use Rattle.device_model.specs.declared.bay.Bay.{Bay}
 use Rattle.device_model.specs.declared.port.PortModel.{PortModel}
 
@@ -34,7 +34,7 @@ IsIdleModel p = (m : Media) → IsIdlePort (port_of p m)
 abbrev pub IsResetModel : PortModel → Type 0
 IsResetModel p = (m : Media) → HasInitialValues (port_of p m)
 
-pub blank_idle : IsIdleModel blank_port
+pub blank_idle : IsIdleModel reset_port_without_disk
 blank_idle = λ m. record {
   st_is_clear = refl;
   cr_is_clear = refl;
@@ -46,8 +46,8 @@ blank_idle = λ m. record {
 }
 
 -- what holds of four ports, each at its place, holds at each place, if past them it holds of a blank one
-pub ports_are : (P : ℕ → PortModel → Type 0) (a b c d : PortModel) → P 0 a → P 1 b → P 2 c → P 3 d → (k : ℕ) → (4 ≤ k → P k blank_port) →
-    P k (slice_index_or (a ∷ b ∷ c ∷ d ∷ []) k blank_port)
+pub ports_are : (P : ℕ → PortModel → Type 0) (a b c d : PortModel) → P 0 a → P 1 b → P 2 c → P 3 d → (k : ℕ) → (4 ≤ k → P k reset_port_without_disk) →
+    P k (slice_index_or (a ∷ b ∷ c ∷ d ∷ []) k reset_port_without_disk)
 ports_are P a b c d pa pb pc pd zero past = pa
 ports_are P a b c d pa pb pc pd (suc zero) past = pb
 ports_are P a b c d pa pb pc pd (suc (suc zero)) past = pc

@@ -8,7 +8,7 @@ use Rattle.std.proofs.lemmas.Cmp.{ranked}
 use Rattle.std.proofs.lemmas.List.Sorted.{IsNonDecreasingBy-from_default}
 use Rattle.std.proofs.lemmas.List.Edits.{length-insert, get_or-insert_below, get_or-insert_at, get_or-insert_above}
 use Rattle.std.proofs.lemmas.Bool.Decides.{nat_tests}
-use Rattle.device_model.specs.OldSectors.{AreRising, IsGapFor, IsOldAt, AddsOldSector, no_old_sector, old_number_at, old_bytes_of}
+use Rattle.device_model.specs.OldSectors.{AreRising, IsGapFor, IsOldAt, SetsOldBytesOfSector, no_old_sector, old_number_at, old_bytes_of}
 use Rattle.device_model.specs.declared.old_sectors.OldSector.{OldSector}
 
 -- none before this place has this number
@@ -35,7 +35,7 @@ present_some (o ∷ olds) sector (suc place) is none =
     grind (arith, nat_tests, none 0 (omega arith), present_some olds sector place (at_after_first o olds sector place is) (none_after_first o olds sector place none))
 
 -- a new one before any with its number gives its bytes
-insert_keeps : (olds : List OldSector) (new : OldSector) (place : ℕ) → NoneBefore olds new.sector place → AddsOldSector olds (insert olds place new) new.sector new.bytes
+insert_keeps : (olds : List OldSector) (new : OldSector) (place : ℕ) → NoneBefore olds new.sector place → SetsOldBytesOfSector olds (insert olds place new) new.sector new.bytes
 insert_keeps olds new zero none k = refl
 insert_keeps [] new (suc place) none k = refl
 insert_keeps (o ∷ olds) new (suc place) none k =
@@ -80,7 +80,7 @@ module _ (olds : List OldSector) (sector place : ℕ) (gap : IsGapFor olds secto
     abbrev new : OldSector
     new = record { sector = sector; bytes = bytes }
 
-    pub gap_keeps : AddsOldSector olds (insert olds place new) sector bytes
+    pub gap_keeps : SetsOldBytesOfSector olds (insert olds place new) sector bytes
     gap_keeps = insert_keeps olds new place (λ k lt same. let low = gap.lower k lt in omega (arith, low, same))
 
     -- each number is one below the gap, or the new one, or one moved up by a place

@@ -3,18 +3,17 @@ use Rattle.std.proofs.Common.{ℕ, length, Bool, zero, suc, true, false, ◌≡�
 use Rattle.std.proofs.lemmas.Bool.Decides.{eqb_tells}
 use Rattle.std.proofs.lemmas.List.Elements.{All-append, All-nil}
 use Rattle.std.specs.Prelude.{if◌then◌else◌, slice_index_or}
-use Rattle.adapter.specs.AskedSteps.{DoesFatal, DoesSlotStep, DoesSlotSteps, FailsAndPosts, SlotGoesOn, fatal_bit}
-use Rattle.adapter.specs.Commands.{Meaning, is_queued}
+use Rattle.adapter.specs.AskedSteps.{DoesFatal, DoesSlotStep, DoesExactlySlotSteps, FailsAndPosts, DoesAtLeastOneSlotStep, fatal_bit}
+use Rattle.adapter.specs.Commands.{Meaning, is_queued, sends_page}
 use Rattle.adapter.specs.Device.{DevicePort, Device, FetchedCommand}
 use Rattle.adapter.specs.Memory.{changed}
 use Rattle.adapter.specs.declared.access.FatalError.{FatalError}
 use Rattle.adapter.specs.declared.command.Operation.{Operation}
 use Rattle.device_model.proofs.Absurd.{some-none, some_one, true-false}
 use Rattle.device_model.proofs.Places.{changed_other, changed_same}
-use Rattle.adapter.specs.Steps.{DeviceTransition, Can, Steps, device_after, newly_fetched, block_after, port_after_clear, port_after_done, port_with_lasting_after_operation, port_after_fault, port_after_fetch, port_after_move}
+use Rattle.adapter.specs.Steps.{DeviceTransition, Can, Steps, device_after, newly_fetched, block_after, port_after_clear, port_after_done_except_lasting, port_with_lasting_after_operation, port_after_fault, port_after_fetch, port_after_move}
 use Rattle.adapter.proofs.Runs.{Steps-one, Steps-refl, Steps-trans}
 use Rattle.adapter.specs.Steps.DeviceTransition.{Fetch, FetchFault, Move, Clear, Done, Fault, Fatal, Fall, FrFall, LinkUp, Unplug, Plug, ResetEnds, Scribble}
-use Rattle.device_model.specs.Finishing.{sends_page}
 use Rattle.device_model.specs.HeldPorts.{IsPortHeld, IsPortReleased}
 use Rattle.device_model.specs.SentFises.{SendsFisAfterTransition, SendsEnd, SendsFaultOfOperation, SendsFault}
 use Rattle.device_model.specs.ModelOwnSteps.{DoesSpontaneousSteps, EndsPendingResetUnlessAllHeld, SendsPages, IsSpontaneousStep, LeadsBySteps, LeadsByStepsWithFises}
@@ -75,7 +74,7 @@ one_keeps_present q port slot old new (inr (inr (inr (most, c)))) =
     ap (λ (d : Device). (d.port q).present) c.effect ∙ present_with q old.port port (port_after_clear (old.port port) slot c.fetched_command c.first c.count) refl
 one_keeps_present q port slot old new (inr (inr (inl e))) =
     ap (λ (d : Device). (d.port q).present) (end_rest port slot e.done.cause_bit e.done.fetched_command.meaning.operation e.after_end new e.posts)
-    ∙ (ap (λ (d : Device). (d.port q).present) e.done.effect ∙ present_with q old.port port (port_with_lasting_after_operation (port_after_done (old.port port) slot e.done.cause_bit e.done.fetched_command.meaning.operation) e.done.fetched_command.meaning.operation (length old.tape)) refl)
+    ∙ (ap (λ (d : Device). (d.port q).present) e.done.effect ∙ present_with q old.port port (port_with_lasting_after_operation (port_after_done_except_lasting (old.port port) slot e.done.cause_bit e.done.fetched_command.meaning.operation) e.done.fetched_command.meaning.operation (length old.tape)) refl)
 
 pub fault_keeps_present : (q : ℕ) (port slot error kept : ℕ) (old new : Device) → FailsAndPosts SendsFaultOfOperation port slot error kept old new → (new.port q).present ≡ (old.port q).present
 fault_keeps_present q port slot error kept old new f =
@@ -93,7 +92,7 @@ pub senseless_keeps_present : (q : ℕ) (port slot : ℕ) (old new : Device) →
 senseless_keeps_present q port slot old new sends =
     ap (λ (d : Device). (d.port q).present) (fault_rest false port (device_after (FetchFault port slot false 0) old) new sends) ∙ present_with q old.port port (port_after_fault (old.port port) false 4 0) refl
 
-pub some_keep_present : (q : ℕ) (n port slot : ℕ) (old new : Device) → DoesSlotSteps (SendsEnd slot) n port slot old new → (new.port q).present ≡ (old.port q).present
+pub some_keep_present : (q : ℕ) (n port slot : ℕ) (old new : Device) → DoesExactlySlotSteps (SendsEnd slot) n port slot old new → (new.port q).present ≡ (old.port q).present
 some_keep_present q zero port slot old new same = ap (λ (d : Device). (d.port q).present) same
 some_keep_present q (suc n) port slot old new s = one_keeps_present q port slot s.0 new s.2 ∙ some_keep_present q n port slot old s.0 s.1
 
@@ -126,7 +125,7 @@ module _ (P : Operation → List ℕ → Type 0) (is_plain : (o : Operation) (pl
       (only.taken m.fetched_command m.can.works.taken)
   only_by_one old new (inr (inr (inl e))) only =
       let t : FetchedCommand = e.done.fetched_command in
-      let p : DevicePort = port_with_lasting_after_operation (port_after_done (old.port port) slot e.done.cause_bit t.meaning.operation) t.meaning.operation (length old.tape) in
+      let p : DevicePort = port_with_lasting_after_operation (port_after_done_except_lasting (old.port port) slot e.done.cause_bit t.meaning.operation) t.meaning.operation (length old.tape) in
       let there : new.port port ≡ p =
       ap (λ (d : Device). d.port port) (end_rest port slot e.done.cause_bit t.meaning.operation e.after_end new e.posts)
       ∙ (ap (λ (d : Device). d.port port) e.done.effect ∙ changed_same old.port port p) in
@@ -142,12 +141,12 @@ module _ (P : Operation → List ℕ → Type 0) (is_plain : (o : Operation) (pl
       only_with new p u (ap (λ (d : Device). d.port port) c.effect ∙ changed_same old.port port p) (changed_same (old.port port).taken slot (Some u))
       (only.taken c.fetched_command c.can.works.taken)
 
-  only_by_some : (n : ℕ) (old new : Device) → DoesSlotSteps (SendsEnd slot) n port slot old new → IsOnly P old port slot → IsOnly P new port slot
+  only_by_some : (n : ℕ) (old new : Device) → DoesExactlySlotSteps (SendsEnd slot) n port slot old new → IsOnly P old port slot → IsOnly P new port slot
   only_by_some zero old new e only = let Q : Device → Type 0 = λ d. IsOnly P d port slot in subst Q (sym e) only
   only_by_some (suc n) old new s only = only_by_one s.0 new s.2 (only_by_some n old s.0 s.1 only)
 
   -- a command went on, or didn't
-  pub only_gone : (did : Bool) (old new : Device) → (did ≡ true → SlotGoesOn (SendsEnd slot) port slot old new) → (did ≡ false → new ≡ old) → IsOnly P old port slot →
+  pub only_gone : (did : Bool) (old new : Device) → (did ≡ true → DoesAtLeastOneSlotStep (SendsEnd slot) port slot old new) → (did ≡ false → new ≡ old) → IsOnly P old port slot →
       IsOnly P new port slot
   only_gone true old new went same only = let g = went refl in only_by_some (suc g.0) old new g.1 only
   only_gone false old new went same only = only_by_some zero old new (same refl) only
@@ -170,7 +169,7 @@ module _ (P : Operation → List ℕ → Type 0) (is_page : (o : Operation) (pla
   own_by_one old new (inr (inr (inr (most, c)))) only =
       true-false (is_page _ _ (only.taken c.fetched_command c.can.works.taken)) (ap sends_page c.can.trim)
 
-  pub own_by_some : (n : ℕ) (old new : Device) → DoesSlotSteps (SendsEnd slot) n port slot old new → IsOnly P old port slot → LeadsBySteps (SendsPages held) old new × IsOnly P new port slot
+  pub own_by_some : (n : ℕ) (old new : Device) → DoesExactlySlotSteps (SendsEnd slot) n port slot old new → IsOnly P old port slot → LeadsBySteps (SendsPages held) old new × IsOnly P new port slot
   own_by_some zero old new e only =
       let Q : Device → Type 0 = λ d. LeadsBySteps (SendsPages held) old d × IsOnly P d port slot in
       subst Q (sym e) (own_none (SendsPages held) old, only)
@@ -181,7 +180,7 @@ module _ (P : Operation → List ℕ → Type 0) (is_page : (o : Operation) (pla
       )
 
   -- a command went on, or didn't
-  pub own_gone : (did : Bool) (old new : Device) → (did ≡ true → SlotGoesOn (SendsEnd slot) port slot old new) → (did ≡ false → new ≡ old) → IsOnly P old port slot →
+  pub own_gone : (did : Bool) (old new : Device) → (did ≡ true → DoesAtLeastOneSlotStep (SendsEnd slot) port slot old new) → (did ≡ false → new ≡ old) → IsOnly P old port slot →
       LeadsBySteps (SendsPages held) old new × IsOnly P new port slot
   own_gone true old new went same only = let g = went refl in own_by_some (suc g.0) old new g.1 only
   own_gone false old new went same only = own_by_some zero old new (same refl) only

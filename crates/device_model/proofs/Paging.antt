@@ -3,13 +3,13 @@ use Rattle.std.proofs.Common.{ℕ, length, Bool, zero, suc, true, false, ◌≡�
 use Rattle.std.specs.Prelude.{◌&&◌, not, if◌then◌else◌, is_some, option_map}
 use Rattle.std.proofs.lemmas.Bool.Decides.{eqb_tells}
 use Rattle.adapter.specs.Access.{notes_after_reading, device_after_reading}
-use Rattle.adapter.specs.AskedSteps.{DoesFetch, DoesSlotStep, DoesSlotSteps, SlotGoesOn}
-use Rattle.adapter.specs.Commands.{Meaning, is_queued, is_ranged}
+use Rattle.adapter.specs.AskedSteps.{DoesFetch, DoesSlotStep, DoesExactlySlotSteps, DoesAtLeastOneSlotStep}
+use Rattle.adapter.specs.Commands.{Meaning, is_queued, is_ranged, sends_page}
 use Rattle.adapter.specs.Device.{Notes, DevicePort, Device, FetchedCommand}
 use Rattle.adapter.specs.Memory.{changed}
 use Rattle.adapter.specs.OneCommand.{IsFreeSlot}
 use Rattle.adapter.specs.Decoding.{DecodesTo}
-use Rattle.adapter.specs.Steps.{Can, IsFetchable, IsWorking, IsUnmixed, WorksOn, newly_fetched, port_after_clear, port_after_done, port_with_lasting_after_operation, port_after_fetch, port_after_move}
+use Rattle.adapter.specs.Steps.{Can, IsFetchable, IsWorking, IsUnmixed, WorksOn, newly_fetched, port_after_clear, port_after_done_except_lasting, port_with_lasting_after_operation, port_after_fetch, port_after_move}
 use Rattle.adapter.specs.Steps.DeviceTransition.{Fetch}
 use Rattle.adapter.specs.declared.command.Operation.{Operation}
 use Rattle.device_model.proofs.Absurd.{some-none, some_one, true-false}
@@ -22,11 +22,11 @@ use Rattle.ata_types.specs.declared.Slot.{Slot}
 use Rattle.adapter.specs.declared.access.DeviceStep.TheVariants as asked
 use Rattle.sector_store.specs.declared.store.Failures.{Failures}
 use Rattle.device_model.specs.StepEffects.{AnswersStep, HasSectorMovesOrClearsLeft, MayAskStore, Completes, DidStep, StepFails, FailsToClear, FailsToMove}
-use Rattle.device_model.specs.Finishing.{PiecesInside, HasFinishablePageCommand, FindsPageCommandAndWhetherItCanEnd, HasTakenCommand, HasMovesLeftInMemory, MayFinish, MayTakePageCommand, sends_page}
+use Rattle.device_model.specs.Finishing.{PiecesInside, HasFinishablePageCommand, FindsPageCommandAndWhetherItCanEnd, HasTakenCommand, HasMovesLeftInMemory, MayFinish, MayTakePageCommand}
 use Rattle.device_model.specs.ModelState.{device_at}
 use Rattle.device_model.specs.SentFises.{SendsEnd}
 use Rattle.device_model.specs.Slots.{IsNextMove}
-use Rattle.device_model.specs.PortView.{operation_of_kind, taken_of}
+use Rattle.device_model.specs.PortView.{taken_of}
 use Rattle.device_model.specs.Disks.{disk_in_bay, numbered_disk}
 use Rattle.device_model.specs.WholeAdapter.{HasDisks, AllMedia, device_of}
 use Rattle.device_model.specs.declared.bay.Bay.{Bay}
@@ -35,7 +35,6 @@ use Rattle.device_model.specs.declared.hardware.Hardware.{Hardware}
 use Rattle.device_model.specs.declared.bay.PageSource.{PageSource}
 use Rattle.device_model.specs.declared.model.Model.{Model}
 use Rattle.device_model.specs.declared.port.TakenCommand.{TakenCommand}
-use Rattle.device_model.specs.declared.port.CommandKind.{CommandKind}
 use Rattle.device_model.specs.declared.steps.NextMove.{NextMove}
 use Rattle.adapter.proofs.Going.{goes_one}
 use Rattle.device_model.proofs.Finishing.{fetched_goes, next_has_move}
@@ -80,7 +79,7 @@ pub has_only : (d : Device) (port slot : ℕ) → HasFinishablePageCommand d por
 has_only d port slot has = only_of IsPage d port slot has.moves_left 0 has.may_finish (has.sends_page, has.addresses_are_low)
 
 -- nor afterwards
-pub page_taken : (port slot : ℕ) (did : Bool) (old new : Device) → (did ≡ true → SlotGoesOn (SendsEnd slot) port slot old new) → (did ≡ false → new ≡ old) →
+pub page_taken : (port slot : ℕ) (did : Bool) (old new : Device) → (did ≡ true → DoesAtLeastOneSlotStep (SendsEnd slot) port slot old new) → (did ≡ false → new ≡ old) →
     HasFinishablePageCommand old port slot → (t : FetchedCommand) → (new.port port).taken slot ≡ Some t → IsPage t.meaning.operation t.places
 page_taken port slot did old new went same has t is =
     (only_gone IsPage (λ o places page. page_plain o page.0) port slot did old new went same (has_only old port slot has)).taken t is
@@ -117,11 +116,11 @@ page_whole : (p : Port) (s : Slot) (cached : Bool) (was now : Option Failures) (
     StepFails (asked.Finish p s) cached was now says later old new → ⊥
 page_whole p s cached was now says later old new has (mid, before, fails) = by before fails
   where
-    page : (mid ≡ old) ⊎ SlotGoesOn (SendsEnd s.0) p.0 s.0 old mid → (t : FetchedCommand) → (mid.port p.0).taken s.0 ≡ Some t → IsPage t.meaning.operation t.places
+    page : (mid ≡ old) ⊎ DoesAtLeastOneSlotStep (SendsEnd s.0) p.0 s.0 old mid → (t : FetchedCommand) → (mid.port p.0).taken s.0 ≡ Some t → IsPage t.meaning.operation t.places
     page (inl same) = page_taken p.0 s.0 false old mid (λ never. absurd (let no : false ≡ true = never in cc)) (λ _. same) has
     page (inr went) = page_taken p.0 s.0 true old mid (λ _. went) (λ never. absurd (let no : true ≡ false = never in cc)) has
 
-    by : (mid ≡ old) ⊎ SlotGoesOn (SendsEnd s.0) p.0 s.0 old mid →
+    by : (mid ≡ old) ⊎ DoesAtLeastOneSlotStep (SendsEnd s.0) p.0 s.0 old mid →
         FailsToMove cached p.0 s.0 was now says later mid new ⊎ FailsToClear cached p.0 s.0 was now says later mid new → ⊥
     by gone (inl moves) = true-false moves.ranged (page_unranged _ (page gone moves.fetched_command moves.has_move.works.taken).0)
     by gone (inr clears) = true-false (page gone clears.fetched_command clears.has_clear.works.taken).0 (ap sends_page clears.has_clear.trim)
@@ -145,7 +144,7 @@ finish_keeps {S} size told failures old new p s false a has q w = each_port (opt
 
 -- a Move of what a Finish has begun asks for one only where the Finish does
 pub finish_moves : (p : Port) (s : Slot) (did : Bool) (old new : Device) (left clears : ℕ) → HasDisks old p.0 → 1 ≤ left →
-    (did ≡ true → SlotGoesOn (SendsEnd s.0) p.0 s.0 old new) → (did ≡ false → new ≡ old) → MayFinish old p.0 s.0 left clears →
+    (did ≡ true → DoesAtLeastOneSlotStep (SendsEnd s.0) p.0 s.0 old new) → (did ≡ false → new ≡ old) → MayFinish old p.0 s.0 left clears →
     MayAskStore (asked.Move p s) new → MayAskStore (asked.Finish p s) old
 finish_moves p s did old new left clears here some went stayed may moves = by (is_ranged may.fetched_command.meaning.operation) refl
   where
@@ -163,20 +162,20 @@ finish_clears p s old left clears here small some ready = (here, small, left, cl
 
 -- what the hardware moves next is a sector only where a Move moves one
 pub next_moves : (h : Hardware) (o : AllMedia) (d : Device) (p : Port) (s : Slot) (next : NextMove) (r : TakenCommand) → HasDisks d p.0 → s.0 < 32 →
-    device_of h o ≡ d → IsNextMove h p.0 s.0 next r → is_ranged (operation_of_kind next.command_kind) ≡ true → MayAskStore (asked.Move p s) d
+    device_of h o ≡ d → IsNextMove h p.0 s.0 next r → is_ranged next.operation ≡ true → MayAskStore (asked.Move p s) d
 next_moves h o d p s next r here small same is ranged = (
   small,
   taken_of r,
   next_has_move h o d p.0 s.0 next r here same is,
-  ap (λ (k : CommandKind). is_ranged (operation_of_kind k)) (sym is.kind_is) ∙ ranged,
+  ap is_ranged (sym is.operation_is) ∙ ranged,
 )
 
 -- and else it is none
 pub next_unranged : (h : Hardware) (o : AllMedia) (d : Device) (p : Port) (s : Slot) (next : NextMove) (r : TakenCommand) → HasDisks d p.0 → s.0 < 32 →
-    device_of h o ≡ d → IsNextMove h p.0 s.0 next r → (MayAskStore (asked.Move p s) d → ⊥) → is_ranged (operation_of_kind next.command_kind) ≡ false
-next_unranged h o d p s next r here small same is none = by (is_ranged (operation_of_kind next.command_kind)) refl
+    device_of h o ≡ d → IsNextMove h p.0 s.0 next r → (MayAskStore (asked.Move p s) d → ⊥) → is_ranged next.operation ≡ false
+next_unranged h o d p s next r here small same is none = by (is_ranged next.operation) refl
   where
-    by : (b : Bool) → is_ranged (operation_of_kind next.command_kind) ≡ b → is_ranged (operation_of_kind next.command_kind) ≡ false
+    by : (b : Bool) → is_ranged next.operation ≡ b → is_ranged next.operation ≡ false
     by true e = absurd (none (next_moves h o d p s next r here small same is e))
     by false e = e
 
@@ -364,18 +363,18 @@ one_elsewhere port slot old new (inr (inr (inr (most, c)))) k ne =
     let p : DevicePort = port_after_clear (old.port port) slot c.fetched_command c.first c.count in
     weight_with old new port p k (ap (λ (d : Device). d.port port) c.effect ∙ changed_same old.port port p) refl (changed_other (old.port port).taken slot _ k ne)
 one_elsewhere port slot old new (inr (inr (inl e))) k ne =
-    let p : DevicePort = port_with_lasting_after_operation (port_after_done (old.port port) slot e.done.cause_bit e.done.fetched_command.meaning.operation) e.done.fetched_command.meaning.operation (length old.tape) in
+    let p : DevicePort = port_with_lasting_after_operation (port_after_done_except_lasting (old.port port) slot e.done.cause_bit e.done.fetched_command.meaning.operation) e.done.fetched_command.meaning.operation (length old.tape) in
     weight_with old new port p k
     (ap (λ (d : Device). d.port port) (end_rest port slot e.done.cause_bit e.done.fetched_command.meaning.operation e.after_end new e.posts)
     ∙ (ap (λ (d : Device). d.port port) e.done.effect ∙ changed_same old.port port p))
     (kept_other (is_queued e.done.fetched_command.meaning.operation) (old.port port).ci slot k ne) (changed_other (old.port port).taken slot None k ne)
 
-some_elsewhere : (n port slot : ℕ) (old new : Device) → DoesSlotSteps (SendsEnd slot) n port slot old new → (k : ℕ) → k ≢ slot → weight new port k ≡ weight old port k
+some_elsewhere : (n port slot : ℕ) (old new : Device) → DoesExactlySlotSteps (SendsEnd slot) n port slot old new → (k : ℕ) → k ≢ slot → weight new port k ≡ weight old port k
 some_elsewhere zero port slot old new e k ne = ap (λ (d : Device). weight d port k) e
 some_elsewhere (suc n) port slot old new s k ne = one_elsewhere port slot s.0 new s.2 k ne ∙ some_elsewhere n port slot old s.0 s.1 k ne
 
 -- one that was done is neither issued nor taken
-pub fewer_left : (port slot : ℕ) (old new : Device) → slot < 32 → HasFinishablePageCommand old port slot → SlotGoesOn (SendsEnd slot) port slot old new → IsFreeSlot (new.port port) slot →
+pub fewer_left : (port slot : ℕ) (old new : Device) → slot < 32 → HasFinishablePageCommand old port slot → DoesAtLeastOneSlotStep (SendsEnd slot) port slot old new → IsFreeSlot (new.port port) slot →
     total (weight new port) 32 < total (weight old port) 32
 fewer_left port slot old new small has went free =
     total_less (weight new port) (weight old port) slot 32 small (some_elsewhere (suc went.0) port slot old new went.1) (less has.may_finish.is_begun_or_fetchable)
@@ -416,17 +415,17 @@ one_apart port slot old new (inr (inr (inl e))) =
       λ q ne.
           ap (λ (d : Device). d.port q) rest
           ∙ (ap (λ (d : Device). d.port q) e.done.effect
-          ∙ changed_other old.port port (port_with_lasting_after_operation (port_after_done (old.port port) slot e.done.cause_bit e.done.fetched_command.meaning.operation) e.done.fetched_command.meaning.operation (length old.tape)) q ne),
+          ∙ changed_other old.port port (port_with_lasting_after_operation (port_after_done_except_lasting (old.port port) slot e.done.cause_bit e.done.fetched_command.meaning.operation) e.done.fetched_command.meaning.operation (length old.tape)) q ne),
     )
 
-some_apart : (n port slot : ℕ) (old new : Device) → DoesSlotSteps (SendsEnd slot) n port slot old new → (new.memory_size ≡ old.memory_size) × ((q : ℕ) → q ≢ port → new.port q ≡ old.port q)
+some_apart : (n port slot : ℕ) (old new : Device) → DoesExactlySlotSteps (SendsEnd slot) n port slot old new → (new.memory_size ≡ old.memory_size) × ((q : ℕ) → q ≢ port → new.port q ≡ old.port q)
 some_apart zero port slot old new e = (ap (λ (d : Device). d.memory_size) e, λ q ne. ap (λ (d : Device). d.port q) e)
 some_apart (suc n) port slot old new s =
     let first = some_apart n port slot old s.0 s.1 in
     let last = one_apart port slot s.0 new s.2 in
     (last.0 ∙ first.0, λ q ne. last.1 q ne ∙ first.1 q ne)
 
-pub gone_apart : (port slot : ℕ) (old new : Device) → SlotGoesOn (SendsEnd slot) port slot old new → (new.memory_size ≡ old.memory_size) × ((q : ℕ) → q ≢ port → new.port q ≡ old.port q)
+pub gone_apart : (port slot : ℕ) (old new : Device) → DoesAtLeastOneSlotStep (SendsEnd slot) port slot old new → (new.memory_size ≡ old.memory_size) × ((q : ℕ) → q ≢ port → new.port q ≡ old.port q)
 gone_apart port slot old new went = some_apart (suc went.0) port slot old new went.1
 
 pub fetched_apart : (port slot : ℕ) (did : Bool) (old new : Device) → (did ≡ true → DoesFetch port slot old new) → (did ≡ false → new ≡ old) →

@@ -15,15 +15,15 @@ use Rattle.hba_regs.specs.declared.reg.Reg.TheVariants.{Cap, Ghc, Is, Pi, Vs, Ca
 use Rattle.device_model.specs.FetchedBytes.{bytes_of}
 use Rattle.device_model.specs.HeldPorts.{IsPortHeld, IsPortReleased}
 use Rattle.device_model.specs.SentFises.{SendsDeviceToHost, signature_fis}
-use Rattle.device_model.specs.ModelOwnSteps.{LeadsBySteps, Settles, SettlesPort, IsSettled}
-use Rattle.device_model.specs.PortView.{Media, port_of, blank_port}
+use Rattle.device_model.specs.ModelOwnSteps.{LeadsBySteps, Settles, PortChangesBySettlingSteps, IsSettled}
+use Rattle.device_model.specs.PortView.{Media, port_of, reset_port_without_disk}
 use Rattle.device_model.specs.WholeAdapter.{AllMedia, device_of, HasRegister}
 use Rattle.device_model.specs.declared.port.PortModel.{PortModel}
 use Rattle.device_model.specs.declared.hardware.Hardware.{Hardware}
 use Rattle.device_model.proofs.GoingOn.{own_linked, with_same}
 
 abbrev ports_of : List PortModel → AllMedia → ℕ → DevicePort
-ports_of ports o = λ port. port_of (slice_index_or ports port blank_port) (o.media port)
+ports_of ports o = λ port. port_of (slice_index_or ports port reset_port_without_disk) (o.media port)
 
 ports_set : (ports : List PortModel) (o after : AllMedia) (p : ℕ) (new : PortModel) → p < length ports →
     ((k : ℕ) → k ≢ p → after.media k ≡ o.media k) → (k : ℕ) →
@@ -32,11 +32,11 @@ ports_set ports o after p new small others k =
     elim (eqb_tells k p) [
       | inl same ↦
           rw same.1
-          (ap (λ (m : PortModel). port_of m (after.media p)) (get_or-set_same ports p new blank_port small)
+          (ap (λ (m : PortModel). port_of m (after.media p)) (get_or-set_same ports p new reset_port_without_disk small)
           ∙ sym (changed_same (ports_of ports o) p (port_of new (after.media p))))
       | inr differ ↦
-          ap (λ (m : PortModel). port_of m (after.media k)) (get_or-set_other ports p k new blank_port differ.1)
-          ∙ (ap (λ (m : Media). port_of (slice_index_or ports k blank_port) m) (others k differ.1)
+          ap (λ (m : PortModel). port_of m (after.media k)) (get_or-set_other ports p k new reset_port_without_disk differ.1)
+          ∙ (ap (λ (m : Media). port_of (slice_index_or ports k reset_port_without_disk) m) (others k differ.1)
           ∙ sym (changed_other (ports_of ports o) p (port_of new (after.media p)) k differ.1))
     ]
 
@@ -79,7 +79,7 @@ has_port_write Bohc v d may = tt
 
 -- one port that isn't held did what it does by itself
 pub port_settles : (h : Hardware) (o : AllMedia) (p : ℕ) (new : PortModel) (held : List Bool) → p < length h.ports → IsPortReleased held p →
-    SettlesPort (port_of (slice_index_or h.ports p blank_port) (o.media p)) (port_of new (o.media p)) →
+    PortChangesBySettlingSteps (port_of (slice_index_or h.ports p reset_port_without_disk) (o.media p)) (port_of new (o.media p)) →
     LeadsBySteps (Settles held) (device_of h o) (device_of (record h { ports = slice_set h.ports p new }) o)
 port_settles h o p new held small loose goes =
     let P : Device → Type 0 = λ d. LeadsBySteps (Settles held) (device_of h o) d in
@@ -87,20 +87,20 @@ port_settles h o p new held small loose goes =
 
 -- its link came up, and the disk's first FIS was sent
 pub port_links : (h : Hardware) (o : AllMedia) (p : ℕ) (linked : PortModel) (held : List Bool) (new : Device) → p < length h.ports → IsPortReleased held p →
-    MayLinkUp (port_of (slice_index_or h.ports p blank_port) (o.media p)) 0x101 →
-    port_of linked (o.media p) ≡ port_after_link_up (port_of (slice_index_or h.ports p blank_port) (o.media p)) 0x101 true →
+    MayLinkUp (port_of (slice_index_or h.ports p reset_port_without_disk) (o.media p)) 0x101 →
+    port_of linked (o.media p) ≡ port_after_link_up (port_of (slice_index_or h.ports p reset_port_without_disk) (o.media p)) 0x101 true →
     SendsDeviceToHost p (signature_fis ((device_of (record h { ports = slice_set h.ports p linked }) o).port p)) (device_of (record h { ports = slice_set h.ports p linked }) o) new →
     LeadsBySteps (Settles held) (device_of h o) new
 port_links h o p linked held new small loose may is sends =
-    own_linked held (device_of h o) (device_of (record h { ports = slice_set h.ports p linked }) o) new p (port_of (slice_index_or h.ports p blank_port) (o.media p)) loose refl may
+    own_linked held (device_of h o) (device_of (record h { ports = slice_set h.ports p linked }) o) new p (port_of (slice_index_or h.ports p reset_port_without_disk) (o.media p)) loose refl may
     (set_port h o p linked _ small is) sends
 
 -- one port is as it was
-pub port_same : (h : Hardware) (o : AllMedia) (p : ℕ) (new : PortModel) → p < length h.ports → new ≡ slice_index_or h.ports p blank_port →
+pub port_same : (h : Hardware) (o : AllMedia) (p : ℕ) (new : PortModel) → p < length h.ports → new ≡ slice_index_or h.ports p reset_port_without_disk →
     device_of (record h { ports = slice_set h.ports p new }) o ≡ device_of h o
 port_same h o p new small is =
-    set_port h o p new (port_of (slice_index_or h.ports p blank_port) (o.media p)) small (ap (λ (x : PortModel). port_of x (o.media p)) is)
-    ∙ with_same (device_of h o) p (port_of (slice_index_or h.ports p blank_port) (o.media p)) refl
+    set_port h o p new (port_of (slice_index_or h.ports p reset_port_without_disk) (o.media p)) small (ap (λ (x : PortModel). port_of x (o.media p)) is)
+    ∙ with_same (device_of h o) p (port_of (slice_index_or h.ports p reset_port_without_disk) (o.media p)) refl
 
 -- one port is changed, and the tape has one more entry
 pub set_port_recorded : (h : Hardware) (o : AllMedia) (p : ℕ) (new : PortModel) (state : DevicePort) (tape : Vec Entry) (entry : Entry) →
@@ -139,7 +139,7 @@ noted_settled (Px q r) v d held s =
       fr_may_fall_only_where_held = changed_each d.port q.0 new (λ k p. (p.fre ≡ false) × (p.cr ≡ false) × (p.fr ≡ true) → IsPortHeld held k) (s.fr_may_fall_only_where_held q.0) s.fr_may_fall_only_where_held;
       link_may_come_up_only_where_held = λ port sig n may.
           changed_each d.port q.0 new (λ k p. MayLinkUp p sig → IsPortHeld held k)
-          (λ m. s.link_may_come_up_only_where_held q.0 sig n (record { present = m.present; no_comreset = m.no_comreset; link_is_due = m.link_is_due; sig_fits = m.sig_fits })) (λ k m. s.link_may_come_up_only_where_held k sig n m) port may;
+          (λ m. s.link_may_come_up_only_where_held q.0 sig n (record { present = m.present; no_comreset = m.no_comreset; link_is_due = m.link_is_due; sig_is_32_bit = m.sig_is_32_bit })) (λ k m. s.link_may_come_up_only_where_held k sig n m) port may;
     }
 noted_settled Cap v d held s = s
 noted_settled Ghc v d held s = s

@@ -11,7 +11,7 @@ use Rattle.adapter.proofs.Runs.{Steps-refl, Steps-trans}
 use Rattle.sector_store.specs.declared.store.Failures.{Failures}
 use Rattle.device_model.specs.StepEffects.{AnswersStep}
 use Rattle.device_model.specs.ModelState.{device_at}
-use Rattle.device_model.specs.Queue.{BeginsAccess, due_steps, later_steps, AnswersEachStep}
+use Rattle.device_model.specs.Queue.{BeginsAccess, steps_due_by_access, later_steps, AnswersEachStep}
 use Rattle.device_model.specs.declared.model.Model.{Model}
 use Rattle.device_model.specs.declared.model.QueuedStep.{QueuedStep}
 use Rattle.device_model.proofs.Doing.{answers_steps}
@@ -34,7 +34,7 @@ module _ {S : Type 0} (size : S → ℕ) (told : S → Option (ℕ → List ℕ)
       Steps-trans (answers_steps size told failures s old d.1 d.0 d.2) (each_steps done d.1 new d.3)
 
   pub begins_steps : (old new : Model S) → BeginsAccess size told failures old new → Steps (device_at size told old) (device_at size told new)
-  begins_steps old new b = each_steps (due_steps new.accesses.saturating_count old.queue.items) (record old { accesses = new.accesses; queue = new.queue }) new b.does_due_steps
+  begins_steps old new b = each_steps (steps_due_by_access new.accesses.saturating_count old.queue.items) (record old { accesses = new.accesses; queue = new.queue }) new b.does_due_steps
 
 -- these steps lead from the one model to the other, whatever is queued in both
 abbrev pub DoneSo : {S : Type 0} → (S → ℕ) → (S → Option (ℕ → List ℕ)) → (S → Option Failures) → Model S → Model S → List DeviceStep → Type 0
@@ -52,7 +52,7 @@ pub record IsAt (access : ℕ) (queue now : List QueuedStep) (place left : ℕ) 
   pub place_is : length kept ≡ place
   pub left_is : length rest ≡ left
   pub keeps : later_steps access queue ≡ kept ++ later_steps access rest
-  pub does : due_steps access queue ≡ done ++ due_steps access rest
+  pub does : steps_due_by_access access queue ≡ done ++ steps_due_by_access access rest
   pub did : DidStep done
 
 pub at_start : (access : ℕ) (queue : List QueuedStep) (DidStep : List DeviceStep → Type 0) → DidStep [] → IsAt access queue queue 0 (length queue) DidStep
@@ -98,7 +98,7 @@ module _ (access : ℕ) (queue now : List QueuedStep) (place left : ℕ) (Was Di
       let e : slice_index_or now place d ≡ x = there x after n.2 in
       let here : access < x.access = let P : QueuedStep → Type 0 = λ q. access < q.access in subst P e late in
       let kept : later_steps access (x ∷ after) ≡ x ∷ later_steps access after = rw (lt-ltb access x.access here) refl in
-      let passed : due_steps access (x ∷ after) ≡ due_steps access after = rw (lt-leb x.access access here) refl in
+      let passed : steps_due_by_access access (x ∷ after) ≡ steps_due_by_access access after = rw (lt-leb x.access access here) refl in
       record {
         kept = a.kept ++ x ∷ [];
         rest = after;
@@ -107,7 +107,7 @@ module _ (access : ℕ) (queue now : List QueuedStep) (place left : ℕ) (Was Di
         place_is = let l = length-append a.kept (x ∷ []) in omega (arith, l, a.place_is);
         left_is = n.3;
         keeps = a.keeps ∙ (ap (λ l. a.kept ++ later_steps access l) n.2 ∙ (ap (λ l. a.kept ++ l) kept ∙ sym (append_assoc a.kept (x ∷ []) (later_steps access after))));
-        does = a.does ∙ (ap (λ l. a.done ++ due_steps access l) n.2 ∙ ap (λ l. a.done ++ l) passed);
+        does = a.does ∙ (ap (λ l. a.done ++ steps_due_by_access access l) n.2 ∙ ap (λ l. a.done ++ l) passed);
         did = same a.done a.did;
       }
 
@@ -121,7 +121,7 @@ module _ (access : ℕ) (queue now : List QueuedStep) (place left : ℕ) (Was Di
       let e : slice_index_or now place d ≡ x = there x after n.2 in
       let here : x.access ≤ access = let P : QueuedStep → Type 0 = λ q. q.access ≤ access in subst P e early in
       let passed : later_steps access (x ∷ after) ≡ later_steps access after = rw (le-ltb access x.access here) refl in
-      let taken : due_steps access (x ∷ after) ≡ x.step ∷ due_steps access after = rw (le-leb x.access access here) refl in
+      let taken : steps_due_by_access access (x ∷ after) ≡ x.step ∷ steps_due_by_access access after = rw (le-leb x.access access here) refl in
       let Q : QueuedStep → Type 0 = λ q. DidStep (a.done ++ q.step ∷ []) in
       let here_from : place ≤ place = omega arith in
       let none : place - place ≡ 0 = omega arith in
@@ -135,7 +135,7 @@ module _ (access : ℕ) (queue now : List QueuedStep) (place left : ℕ) (Was Di
         place_is = a.place_is;
         left_is = n.3;
         keeps = a.keeps ∙ (ap (λ l. a.kept ++ later_steps access l) n.2 ∙ ap (λ l. a.kept ++ l) passed);
-        does = a.does ∙ (ap (λ l. a.done ++ due_steps access l) n.2 ∙ (ap (λ l. a.done ++ l) taken ∙ sym (append_assoc a.done (x.step ∷ []) (due_steps access after))));
+        does = a.does ∙ (ap (λ l. a.done ++ steps_due_by_access access l) n.2 ∙ (ap (λ l. a.done ++ l) taken ∙ sym (append_assoc a.done (x.step ∷ []) (steps_due_by_access access after))));
         did = subst Q e (one a.done a.did);
       }
 
@@ -150,8 +150,8 @@ module _ (access : ℕ) (queue now : List QueuedStep) (place : ℕ) (DidStep : L
       let none : a.rest ≡ [] = none_left a.rest a.left_is in
       a.is ∙ (ap (λ l. a.kept ++ l) none ∙ sym (a.keeps ∙ ap (λ l. a.kept ++ later_steps access l) none))
 
-  pub at_end_did : DidStep (due_steps access queue)
+  pub at_end_did : DidStep (steps_due_by_access access queue)
   at_end_did =
       let none : a.rest ≡ [] = none_left a.rest a.left_is in
-      let all : due_steps access queue ≡ a.done = a.does ∙ (ap (λ l. a.done ++ due_steps access l) none ∙ append-nil a.done) in
+      let all : steps_due_by_access access queue ≡ a.done = a.does ∙ (ap (λ l. a.done ++ steps_due_by_access access l) none ∙ append-nil a.done) in
       subst DidStep (sym all) a.did

@@ -6,7 +6,7 @@ use Rattle.std.specs.Prelude.{IfSome}
 use Rattle.std.specs.Option.{SomeIff}
 use Rattle.std.specs.Vec.{vec_len}
 use Rattle.adapter.specs.AskedSteps.{DoesFetch}
-use Rattle.adapter.specs.Commands.{Meaning}
+use Rattle.adapter.specs.Commands.{Meaning, sends_page}
 use Rattle.adapter.specs.Device.{Device, DevicePort, FetchedCommand}
 use Rattle.adapter.specs.Decoding.{DecodesTo, pieces, piece_addresses}
 use Rattle.adapter.specs.Steps.{Can, IsUnmixed, WorksOn, admits, newly_fetched, port_after_fetch}
@@ -15,13 +15,13 @@ use Rattle.adapter.specs.declared.command.Operation.{Operation}
 use Rattle.adapter.specs.declared.command.Prd.{Prd}
 use Rattle.device_model.proofs.Absurd.{some-none, some_one, true-false}
 use Rattle.adapter.proofs.SaysLemmas.{says_meaning, says_places, cut_length, cut_index}
-use Rattle.device_model.specs.Finishing.{HasFinishablePageCommand, FindsPageCommandAndWhetherItCanEnd, IsInside, PiecesInside, HasMovesLeftInMemory, HasMovesAndTrimRunsLeft, MayFinish, MayTakePageCommand, sends_page}
+use Rattle.device_model.specs.Finishing.{HasFinishablePageCommand, FindsPageCommandAndWhetherItCanEnd, IsInside, PiecesInside, HasMovesLeftInMemory, HasMovesAndTrimRunsLeft, MayFinish, MayTakePageCommand}
 use Rattle.device_model.specs.FetchedBytes.{IsNewlyTaken, bytes_of}
 use Rattle.device_model.specs.WriteCaches.{HasRoomForOldSectors}
 use Rattle.device_model.specs.Trims.{HasClearsLeft, sectors_left_to_change}
 use Rattle.device_model.specs.Slots.{AdmitsBesideTaken, MayTakeIfDecoded, HasIssuedUntakenOnWorkingPort, WorksOnIn}
 use Rattle.device_model.specs.WordBits.{word_bits}
-use Rattle.device_model.specs.PortView.{Media, halt_of, taken_in, operation_of_kind, port_of, taken_of, blank_port}
+use Rattle.device_model.specs.PortView.{Media, halt_of, taken_in, port_of, taken_of, reset_port_without_disk}
 use Rattle.device_model.specs.WholeAdapter.{AllMedia, device_of}
 use Rattle.device_model.specs.declared.port.PortModel.{PortModel}
 use Rattle.device_model.specs.declared.port.TakenCommand.{TakenCommand}
@@ -108,16 +108,16 @@ MayTakeNone p slot = (m : Media) (operation : Operation) → MayTakeIfDecoded (p
 
 -- this command may be taken beside those that are
 abbrev pub IsBeside : PortModel → TakenCommand → Type 0
-IsBeside p r = AdmitsBesideTaken p (operation_of_kind r.command_kind)
+IsBeside p r = AdmitsBesideTaken p r.operation
 
 pub may_be_taken : (p : PortModel) (slot : ℕ) (r : TakenCommand) → HasIssuedUntakenOnWorkingPort p slot → IsBeside p r → (m : Media) →
-    MayTakeIfDecoded (port_of p m) slot (operation_of_kind r.command_kind)
+    MayTakeIfDecoded (port_of p m) slot r.operation
 may_be_taken p slot r may beside m =
-    let w = may m (operation_of_kind r.command_kind) beside.0 in record { fetchable = w.0; working = w.1; is_unmixed = beside.1 m }
+    let w = may m r.operation beside.0 in record { fetchable = w.0; working = w.1; is_unmixed = beside.1 m }
 
 module _ (h : Hardware) (o : AllMedia) (p port slot left clears : ℕ) (e : p ≡ port) (ready : MayFinish (device_of h o) port slot left clears) where
   abbrev state : PortModel
-  state = slice_index_or h.ports p blank_port
+  state = slice_index_or h.ports p reset_port_without_disk
 
   pub ready_fetch : HasIssuedUntakenOnWorkingPort state slot →
       Can (Fetch port slot ready.fetched_command.meaning ready.fetched_command.places) (device_of h o) × (ready.fetched_command ≡ newly_fetched ready.fetched_command.meaning ready.fetched_command.places)
@@ -139,19 +139,19 @@ module _ (h : Hardware) (o : AllMedia) (p port slot left clears : ℕ) (e : p �
           ⊎ (Can (Fetch port slot ready.fetched_command.meaning ready.fetched_command.places) (device_of h o) × (ready.fetched_command ≡ newly_fetched ready.fetched_command.meaning ready.fetched_command.places)) →
           (r : TakenCommand) × WorksOnIn state slot r × (ready.fetched_command ≡ taken_of r)
       by (inl works) =
-          let P : ℕ → Type 0 = λ q. (r : TakenCommand) × WorksOnIn (slice_index_or h.ports q blank_port) slot r × (ready.fetched_command ≡ taken_of r) in
+          let P : ℕ → Type 0 = λ q. (r : TakenCommand) × WorksOnIn (slice_index_or h.ports q reset_port_without_disk) slot r × (ready.fetched_command ≡ taken_of r) in
           subst P (sym e) (holds h o port slot ready.fetched_command works)
       by (inr begins) = absurd (never (o.media p) ready.fetched_command.meaning.operation (fetch_takes h o p port slot ready.fetched_command.meaning ready.fetched_command.places e begins.0))
 
 module _ (h : Hardware) (p port slot : ℕ) (r : TakenCommand) (e : p ≡ port) where
   -- a command that may be taken is ready
   pub ready_to_take : (left clears : ℕ) → HasMovesAndTrimRunsLeft r h.memory.items left clears → IsNewlyTaken r →
-      HasIssuedUntakenOnWorkingPort (slice_index_or h.ports p blank_port) slot → IsBeside (slice_index_or h.ports p blank_port) r →
-      DecodesTo (bytes_of h.memory.items) (slice_index_or h.ports p blank_port).addresses.clb slot (taken_of r).meaning (taken_of r).places →
+      HasIssuedUntakenOnWorkingPort (slice_index_or h.ports p reset_port_without_disk) slot → IsBeside (slice_index_or h.ports p reset_port_without_disk) r →
+      DecodesTo (bytes_of h.memory.items) (slice_index_or h.ports p reset_port_without_disk).addresses.clb slot (taken_of r).meaning (taken_of r).places →
       (o : AllMedia) → MayFinish (device_of h o) port slot left clears
   ready_to_take left clears rest new may beside says o =
       let P : ℕ → Type 0 = λ q. MayFinish (device_of h o) q slot left clears in
-      let m = may (o.media p) (operation_of_kind r.command_kind) beside.0 in
+      let m = may (o.media p) r.operation beside.0 in
       subst P e
       (record {
         fetched_command = taken_of r;
@@ -161,7 +161,7 @@ module _ (h : Hardware) (p port slot : ℕ) (r : TakenCommand) (e : p ≡ port) 
       })
 
   -- and so is one that is taken
-  pub ready_to_go : (left clears : ℕ) → HasMovesAndTrimRunsLeft r h.memory.items left clears → WorksOnIn (slice_index_or h.ports p blank_port) slot r →
+  pub ready_to_go : (left clears : ℕ) → HasMovesAndTrimRunsLeft r h.memory.items left clears → WorksOnIn (slice_index_or h.ports p reset_port_without_disk) slot r →
       (o : AllMedia) → MayFinish (device_of h o) port slot left clears
   ready_to_go left clears rest here o =
       let P : ℕ → Type 0 = λ q. MayFinish (device_of h o) q slot left clears in
@@ -176,40 +176,40 @@ module _ (h : Hardware) (p port slot : ℕ) (r : TakenCommand) (e : p ≡ port) 
       (subst Q same ready.has_moves_left, subst R same ready.has_trim_runs_left)
 
   -- where a command may be taken, one that is ready is the one that its slot's bytes say
-  pub ready_is_one : HasIssuedUntakenOnWorkingPort (slice_index_or h.ports p blank_port) slot → IsNewlyTaken r →
-      DecodesTo (bytes_of h.memory.items) (slice_index_or h.ports p blank_port).addresses.clb slot (taken_of r).meaning (taken_of r).places →
+  pub ready_is_one : HasIssuedUntakenOnWorkingPort (slice_index_or h.ports p reset_port_without_disk) slot → IsNewlyTaken r →
+      DecodesTo (bytes_of h.memory.items) (slice_index_or h.ports p reset_port_without_disk).addresses.clb slot (taken_of r).meaning (taken_of r).places →
       (o : AllMedia) (left clears : ℕ) (ready : MayFinish (device_of h o) port slot left clears) → ready.fetched_command ≡ taken_of r
   ready_is_one may new says o left clears ready =
       let t : FetchedCommand = ready.fetched_command in
       let memory = bytes_of h.memory.items in
-      let list = (slice_index_or h.ports p blank_port).addresses.clb in
+      let list = (slice_index_or h.ports p reset_port_without_disk).addresses.clb in
       let there = ready_said h o p port slot left clears e ready may in
       let meaning = says_meaning memory list slot t.meaning (taken_of r).meaning t.places (taken_of r).places there says in
       let places = says_places memory list slot t.meaning (taken_of r).meaning t.places (taken_of r).places there says in
       (ready_fetch h o p port slot left clears e ready may).1 ∙ ((λ i. newly_fetched (meaning i) (places i)) ∙ sym (new_begun r new))
 
-  pub ready_is_said : HasIssuedUntakenOnWorkingPort (slice_index_or h.ports p blank_port) slot → IsNewlyTaken r →
-      DecodesTo (bytes_of h.memory.items) (slice_index_or h.ports p blank_port).addresses.clb slot (taken_of r).meaning (taken_of r).places →
+  pub ready_is_said : HasIssuedUntakenOnWorkingPort (slice_index_or h.ports p reset_port_without_disk) slot → IsNewlyTaken r →
+      DecodesTo (bytes_of h.memory.items) (slice_index_or h.ports p reset_port_without_disk).addresses.clb slot (taken_of r).meaning (taken_of r).places →
       (o : AllMedia) (left clears : ℕ) → MayFinish (device_of h o) port slot left clears → HasMovesAndTrimRunsLeft r h.memory.items left clears
   ready_is_said may new says o left clears ready =
       rest_back left clears o ready (ready_is_one may new says o left clears ready)
 
   -- one that may not be taken beside those that are isn't ready
-  pub ready_beside : HasIssuedUntakenOnWorkingPort (slice_index_or h.ports p blank_port) slot → IsNewlyTaken r →
-      DecodesTo (bytes_of h.memory.items) (slice_index_or h.ports p blank_port).addresses.clb slot (taken_of r).meaning (taken_of r).places →
+  pub ready_beside : HasIssuedUntakenOnWorkingPort (slice_index_or h.ports p reset_port_without_disk) slot → IsNewlyTaken r →
+      DecodesTo (bytes_of h.memory.items) (slice_index_or h.ports p reset_port_without_disk).addresses.clb slot (taken_of r).meaning (taken_of r).places →
       (o : AllMedia) (left clears : ℕ) → MayFinish (device_of h o) port slot left clears →
-      (admits (halt_of (slice_index_or h.ports p blank_port).halting) (operation_of_kind r.command_kind) ≡ true)
-      × IsUnmixed (port_of (slice_index_or h.ports p blank_port) (o.media p)) (operation_of_kind r.command_kind)
+      (admits (halt_of (slice_index_or h.ports p reset_port_without_disk).halting) r.operation ≡ true)
+      × IsUnmixed (port_of (slice_index_or h.ports p reset_port_without_disk) (o.media p)) r.operation
   ready_beside may new says o left clears ready =
       let same = ready_is_one may new says o left clears ready in
       let P : ℕ → Type 0 = λ q. (admits ((device_of h o).port q).halt ready.fetched_command.meaning.operation ≡ true) × IsUnmixed ((device_of h o).port q) ready.fetched_command.meaning.operation in
       let can = (ready_fetch h o p port slot left clears e ready may).0 in
       let both = subst P (sym e) (can.working.admitted, can.is_unmixed) in
-      subst (λ (t : FetchedCommand). (admits (halt_of (slice_index_or h.ports p blank_port).halting) t.meaning.operation ≡ true)
-      × IsUnmixed (port_of (slice_index_or h.ports p blank_port) (o.media p)) t.meaning.operation) same both
+      subst (λ (t : FetchedCommand). (admits (halt_of (slice_index_or h.ports p reset_port_without_disk).halting) t.meaning.operation ≡ true)
+      × IsUnmixed (port_of (slice_index_or h.ports p reset_port_without_disk) (o.media p)) t.meaning.operation) same both
 
   -- where it is taken, the one that its slot holds
-  pub ready_is_held : WorksOnIn (slice_index_or h.ports p blank_port) slot r → MayTakeNone (slice_index_or h.ports p blank_port) slot →
+  pub ready_is_held : WorksOnIn (slice_index_or h.ports p reset_port_without_disk) slot r → MayTakeNone (slice_index_or h.ports p reset_port_without_disk) slot →
       (o : AllMedia) (left clears : ℕ) → MayFinish (device_of h o) port slot left clears → HasMovesAndTrimRunsLeft r h.memory.items left clears
   ready_is_held here never o left clears ready =
       let w = ready_held h o p port slot left clears e ready never in
@@ -218,7 +218,7 @@ module _ (h : Hardware) (p port slot : ℕ) (r : TakenCommand) (e : p ≡ port) 
 
 -- what a command is going to change is what is left of the one that is ready
 pub ahead_is : (h : Hardware) (o : AllMedia) (cache : Cache) (port slot left changes n m : ℕ) (r : TakenCommand) (may : MayFinish (device_of h o) port slot n m) → may.fetched_command ≡ taken_of r →
-    left ≡ n → changes ≡ sectors_left_to_change (operation_of_kind r.command_kind) (bytes_of h.memory.items) (taken_of r) left →
+    left ≡ n → changes ≡ sectors_left_to_change r.operation (bytes_of h.memory.items) (taken_of r) left →
     HasRoomForOldSectors cache (sectors_left_to_change may.fetched_command.meaning.operation (bytes_of h.memory.items) may.fetched_command n) → HasRoomForOldSectors cache changes
 ahead_is h o cache port slot left changes n m r may same number is =
     let memory = bytes_of h.memory.items in
@@ -227,7 +227,7 @@ ahead_is h o cache port slot left changes n m r may same number is =
 
 -- and of the one that is taken
 pub ahead_of : (cache : Cache) (memory : ℕ → ℕ) (left changes : ℕ) (r : TakenCommand) (t : FetchedCommand) → taken_of r ≡ t →
-    changes ≡ sectors_left_to_change (operation_of_kind r.command_kind) memory (taken_of r) left → HasRoomForOldSectors cache changes → HasRoomForOldSectors cache (sectors_left_to_change t.meaning.operation memory t left)
+    changes ≡ sectors_left_to_change r.operation memory (taken_of r) left → HasRoomForOldSectors cache changes → HasRoomForOldSectors cache (sectors_left_to_change t.meaning.operation memory t left)
 ahead_of cache memory left changes r t same is =
     let there : changes ≡ sectors_left_to_change t.meaning.operation memory t left = is ∙ (λ i. sectors_left_to_change (same i).meaning.operation memory (same i) left) in
     subst (HasRoomForOldSectors cache) there
@@ -249,7 +249,7 @@ fetched_is port slot old new r f fresh says t taken =
 
 module _ (h : Hardware) (port slot size : ℕ) (sized : size ≡ vec_len h.memory) where
   abbrev here : PortModel
-  here = slice_index_or h.ports port blank_port
+  here = slice_index_or h.ports port reset_port_without_disk
 
   memory_size : size ≡ length h.memory.items
   memory_size = let ok = h.memory.ok.0 in omega (arith, sized, ok)
@@ -261,8 +261,8 @@ module _ (h : Hardware) (port slot size : ℕ) (sized : size ≡ vec_len h.memor
   covers_back r left covered = let P : ℕ → Type 0 = λ n. HasMovesLeftInMemory (taken_of r) n left in subst P (sym memory_size) covered
 
   -- it clears nothing
-  clears : (r : TakenCommand) → sends_page (operation_of_kind r.command_kind) ≡ true → HasClearsLeft (operation_of_kind r.command_kind) (bytes_of h.memory.items) (taken_of r) 0
-  clears r kind = page_clears (operation_of_kind r.command_kind) (bytes_of h.memory.items) (taken_of r) kind
+  clears : (r : TakenCommand) → sends_page r.operation ≡ true → HasClearsLeft r.operation (bytes_of h.memory.items) (taken_of r) 0
+  clears r kind = page_clears r.operation (bytes_of h.memory.items) (taken_of r) kind
 
   -- a command that can be done to its end
   abbrev pub Ends : TakenCommand → Type 0
@@ -270,9 +270,9 @@ module _ (h : Hardware) (port slot size : ℕ) (sized : size ≡ vec_len h.memor
 
   -- one that may be taken
   pub page_said : (r : TakenCommand) → IsNewlyTaken r → DecodesTo (bytes_of h.memory.items) here.addresses.clb slot (taken_of r).meaning (taken_of r).places →
-      sends_page (operation_of_kind r.command_kind) ≡ true → HasIssuedUntakenOnWorkingPort here slot → IsBeside here r → Ends r → (o : AllMedia) → HasFinishablePageCommand (device_of h o) port slot
+      sends_page r.operation ≡ true → HasIssuedUntakenOnWorkingPort here slot → IsBeside here r → Ends r → (o : AllMedia) → HasFinishablePageCommand (device_of h o) port slot
   page_said r new says kind may beside ends o =
-      let m = may (o.media port) (operation_of_kind r.command_kind) beside.0 in
+      let m = may (o.media port) r.operation beside.0 in
       record {
         moves_left = ends.0;
         may_finish = record {
@@ -301,7 +301,7 @@ module _ (h : Hardware) (port slot size : ℕ) (sized : size ≡ vec_len h.memor
       (subst (λ (t : FetchedCommand). PiecesInside (2 ^ 32) t.places) same has.addresses_are_low)
 
   -- one that is taken
-  pub page_held : (r : TakenCommand) → WorksOnIn here slot r → sends_page (operation_of_kind r.command_kind) ≡ true → Ends r → (o : AllMedia) → HasFinishablePageCommand (device_of h o) port slot
+  pub page_held : (r : TakenCommand) → WorksOnIn here slot r → sends_page r.operation ≡ true → Ends r → (o : AllMedia) → HasFinishablePageCommand (device_of h o) port slot
   page_held r held kind ends o = record {
     moves_left = ends.0;
     may_finish = record {
@@ -314,7 +314,7 @@ module _ (h : Hardware) (port slot size : ℕ) (sized : size ≡ vec_len h.memor
     addresses_are_low = ends.2;
   }
 
-  pub page_unheld : ((r : TakenCommand) → WorksOnIn here slot r → sends_page (operation_of_kind r.command_kind) ≡ true → Ends r → ⊥) → MayTakeNone here slot → (o : AllMedia) →
+  pub page_unheld : ((r : TakenCommand) → WorksOnIn here slot r → sends_page r.operation ≡ true → Ends r → ⊥) → MayTakeNone here slot → (o : AllMedia) →
       HasFinishablePageCommand (device_of h o) port slot → ⊥
   page_unheld none never o has =
       let w = ready_held h o port port slot has.moves_left 0 refl has.may_finish never in
@@ -329,13 +329,13 @@ finds d port slot false has may = may refl
 
 module _ (h : Hardware) (port slot : ℕ) where
   abbrev first : PortModel
-  first = slice_index_or h.ports port blank_port
+  first = slice_index_or h.ports port reset_port_without_disk
 
   -- one that its slot's bytes say may be taken
   pub may_page : (r : TakenCommand) → DecodesTo (bytes_of h.memory.items) first.addresses.clb slot (taken_of r).meaning (taken_of r).places →
-      sends_page (operation_of_kind r.command_kind) ≡ true → HasIssuedUntakenOnWorkingPort first slot → IsBeside first r → (o : AllMedia) → MayTakePageCommand (device_of h o) port slot
+      sends_page r.operation ≡ true → HasIssuedUntakenOnWorkingPort first slot → IsBeside first r → (o : AllMedia) → MayTakePageCommand (device_of h o) port slot
   may_page r says kind may beside o =
-      let m = may (o.media port) (operation_of_kind r.command_kind) beside.0 in
+      let m = may (o.media port) r.operation beside.0 in
       record {
         meaning = (taken_of r).meaning;
         places = (taken_of r).places;
@@ -354,13 +354,13 @@ module _ (h : Hardware) (port slot : ℕ) where
 
   -- none may be beside others that are taken
   pub page_crowded : (r : TakenCommand) → DecodesTo (bytes_of h.memory.items) first.addresses.clb slot (taken_of r).meaning (taken_of r).places →
-      ((m : Media) → admits (halt_of first.halting) (operation_of_kind r.command_kind) ≡ true → IsUnmixed (port_of first m) (operation_of_kind r.command_kind) → ⊥) → (o : AllMedia) →
+      ((m : Media) → admits (halt_of first.halting) r.operation ≡ true → IsUnmixed (port_of first m) r.operation → ⊥) → (o : AllMedia) →
       MayTakePageCommand (device_of h o) port slot → ⊥
   page_crowded r says crowded o may =
       let memory = bytes_of h.memory.items in
       let there = fetch_says h o port port slot may.meaning may.places refl may.can in
       let meaning = says_meaning memory first.addresses.clb slot may.meaning (taken_of r).meaning may.places (taken_of r).places there says in
-      let same : may.meaning.operation ≡ operation_of_kind r.command_kind = ap (λ (x : Meaning). x.operation) meaning in
+      let same : may.meaning.operation ≡ r.operation = ap (λ (x : Meaning). x.operation) meaning in
       crowded (o.media port) (subst (λ (x : Operation). admits (halt_of first.halting) x ≡ true) same may.can.working.admitted)
       (subst (λ (x : Operation). IsUnmixed (port_of first (o.media port)) x) same may.can.is_unmixed)
 
@@ -375,8 +375,8 @@ module _ (h : Hardware) (port slot : ℕ) where
       never (o.media port) may.meaning.operation (fetch_takes h o port port slot may.meaning may.places refl may.can)
 
 -- nothing is issued or taken there
-pub page_unused : (h : Hardware) (port slot : ℕ) → word_bits (slice_index_or h.ports port blank_port).ci slot ≡ false → taken_in (slice_index_or h.ports port blank_port).taken slot ≡ None →
+pub page_unused : (h : Hardware) (port slot : ℕ) → word_bits (slice_index_or h.ports port reset_port_without_disk).ci slot ≡ false → taken_in (slice_index_or h.ports port reset_port_without_disk).taken slot ≡ None →
     (o : AllMedia) → FindsPageCommandAndWhetherItCanEnd (device_of h o) port slot None
 page_unused h port slot unissued untaken o =
-    let never : MayTakeNone (slice_index_or h.ports port blank_port) slot = λ m operation may. true-false may.fetchable.issued unissued in
+    let never : MayTakeNone (slice_index_or h.ports port reset_port_without_disk) slot = λ m operation may. true-false may.fetchable.issued unissued in
     (page_barred h port slot never o, page_unheld h port slot _ refl (λ r held kind ends. some-none held.is_taken untaken) never o)

@@ -10,7 +10,7 @@ use Rattle.device_model.proofs.SlotLemmas.{held_list, held_on, held_room, held_s
 use Rattle.device_model.specs.PortView.{taken_in}
 use Rattle.device_model.specs.TakenBlocks.{BlockIsOfTakenTrim, taken_in_slot, taken_list_from}
 use Rattle.device_model.specs.declared.port.TakenCommand.{TakenCommand}
-use Rattle.device_model.specs.declared.port.CommandKind.TheVariants.{Trim}
+use Rattle.adapter.specs.declared.command.Operation.TheVariants.{Trim}
 
 -- the command that is taken in a slot stands in this room
 pub record IsInRoom (filled : ℕ) (rooms : List TakenCommand) (taken : List (Option TakenCommand)) (room slot : ℕ) (now : TakenCommand) : Type 0 where
@@ -61,15 +61,15 @@ module _ {filled : ℕ} {rooms : List TakenCommand} {taken : List (Option TakenC
       ∙ (held_on filled rooms room new is.small is.set ∙ (λ i. changed (is.was i) (is.at i) (Some new)))
 
   -- the port has the block that it had
-  pub room_keeps : (block : List ℕ) → BlockIsOfTakenTrim (taken_in_slot filled rooms) block → (new : TakenCommand) → new.command_kind ≡ now.command_kind → new.first ≡ now.first →
+  pub room_keeps : (block : List ℕ) → BlockIsOfTakenTrim (taken_in_slot filled rooms) block → (new : TakenCommand) → new.operation ≡ now.operation → new.first ≡ now.first →
       new.block ≡ now.block → BlockIsOfTakenTrim (taken_in_slot filled (slice_set rooms room new)) block
   room_keeps block has new kind number same =
       subst (λ f. BlockIsOfTakenTrim f block) (sym (held_on filled rooms room new is.small is.set))
       (block_on (taken_in_slot filled rooms) block room has now new is.there kind number same)
 
   -- or the one that its trim has brought
-  pub room_brings : (block bytes : List ℕ) → BlockIsOfTakenTrim (taken_in_slot filled rooms) block → (new : TakenCommand) → new.command_kind ≡ now.command_kind → new.first ≡ now.first →
-      now.command_kind ≡ Trim → new.block ≡ Some (snapshot_of_bytes bytes) → BlockIsOfTakenTrim (taken_in_slot filled (slice_set rooms room new)) bytes
+  pub room_brings : (block bytes : List ℕ) → BlockIsOfTakenTrim (taken_in_slot filled rooms) block → (new : TakenCommand) → new.operation ≡ now.operation → new.first ≡ now.first →
+      now.operation ≡ Trim → new.block ≡ Some (snapshot_of_bytes bytes) → BlockIsOfTakenTrim (taken_in_slot filled (slice_set rooms room new)) bytes
   room_brings block bytes has new kind number trim brought =
       subst (λ f. BlockIsOfTakenTrim f bytes) (sym (held_on filled rooms room new is.small is.set))
       (block_moved (taken_in_slot filled rooms) block room has now new is.there kind number bytes trim brought)

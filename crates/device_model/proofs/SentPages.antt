@@ -3,7 +3,7 @@ use Rattle.std.proofs.Common.{ℕ, Bool, true, false, ◌≡◌, ◌≢◌, ◌<
 use Rattle.std.specs.Prelude.{if◌then◌else◌, is_some}
 use Rattle.std.proofs.lemmas.List.{length-set}
 use Rattle.std.proofs.lemmas.Bool.Decides.{eqb_tells}
-use Rattle.adapter.specs.AskedSteps.{SlotGoesOn}
+use Rattle.adapter.specs.AskedSteps.{DoesAtLeastOneSlotStep}
 use Rattle.adapter.specs.Device.{Device, DevicePort}
 use Rattle.adapter.specs.OneCommand.{IsFreeSlot}
 use Rattle.adapter.specs.declared.access.DeviceStep.TheVariants as asked
@@ -15,7 +15,7 @@ use Rattle.device_model.specs.StepEffects.{AnswersStep, Completes, OwnStepsKeep}
 use Rattle.device_model.specs.Finishing.{FindsPageCommandAndWhetherItCanEnd, HasFinishablePageCommand, TapeHasRoom, HasTakenCommand, MayTakePageCommand}
 use Rattle.device_model.specs.HeldPorts.{IsPortHeld, IsPortReleased}
 use Rattle.device_model.specs.ModelState.{device_at}
-use Rattle.device_model.specs.PageTaking.{TakesPageCommand}
+use Rattle.device_model.specs.PageTaking.{TakesPageCommandUnlessOneIsTaken}
 use Rattle.device_model.specs.SentFises.{SendsEnd}
 use Rattle.device_model.specs.ModelOwnSteps.{IsSettled, LeadsBySteps, LeavesPageWithoutMemory, PageCommandWaitsOnlyIfHeldOrStarved, SendsPages}
 use Rattle.device_model.specs.WholeAdapter.{HasDisks}
@@ -131,7 +131,7 @@ module _ {S : Type 0} (size : S → ℕ) (told : S → Option (ℕ → List ℕ)
       completes : answer ≡ true → Completes size told failures (asked.Finish p s) m new
       completes e = page_completes size told failures m new p s (did_it size told failures (asked.Finish p s) m new answer answers e) has
 
-      went : answer ≡ true → SlotGoesOn (SendsEnd s.0) p.0 s.0 old_device (device_at size told new)
+      went : answer ≡ true → DoesAtLeastOneSlotStep (SendsEnd s.0) p.0 s.0 old_device (device_at size told new)
       went e = (completes e).does_asked_step
 
       same : answer ≡ false → device_at size told new ≡ old_device
@@ -180,7 +180,7 @@ module _ {S : Type 0} (size : S → ℕ) (told : S → Option (ℕ → List ℕ)
       -- ---- one that lacks memory is taken, and no more
 
       pub so_far_lacking : (last : Model S) → lacks ≡ false → answer ≡ false → (new.hardware.starved ≡ true) × (TapeHasRoom new.hardware (has.moves_left + 1) → ⊥) →
-          TakesPageCommand size told p.0 s.0 new last → IsSoFar first last (slice_set left_out p.0 true) true
+          TakesPageCommandUnlessOneIsTaken size told p.0 s.0 new last → IsSoFar first last (slice_set left_out p.0 true) true
       so_far_lacking last fed left missed t =
           let P : Device → Type 0 = λ d. (there : HasFinishablePageCommand d p.0 s.0) × (TapeHasRoom new.hardware (there.moves_left + 1) → ⊥) in
           let one = subst P (sym (same left)) (has, missed.1) in
@@ -218,7 +218,7 @@ module _ {S : Type 0} (size : S → ℕ) (told : S → Option (ℕ → List ℕ)
 
     -- ---- one that can't be done to its end, or for which no memory is looked for, is taken
 
-    pub so_far_taken : (new : Model S) → TakesPageCommand size told p.0 s.0 m new → (lacks ≡ false → (MayTakePageCommand old_device p.0 s.0) × (HasFinishablePageCommand old_device p.0 s.0 → ⊥)) →
+    pub so_far_taken : (new : Model S) → TakesPageCommandUnlessOneIsTaken size told p.0 s.0 m new → (lacks ≡ false → (MayTakePageCommand old_device p.0 s.0) × (HasFinishablePageCommand old_device p.0 s.0 → ⊥)) →
         IsSoFar first new (slice_set left_out p.0 true) lacks
     so_far_taken new t stuck =
         let long : p.0 < length left_out = subst (λ (n : ℕ). p.0 < n) (sym is.long) small in

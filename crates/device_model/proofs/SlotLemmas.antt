@@ -16,7 +16,7 @@ use Rattle.device_model.proofs.Places.{fun_ext, changed_same, changed_other}
 use Rattle.device_model.specs.WordBits.{word_bits}
 use Rattle.device_model.specs.TakenBlocks.{brought, taken_in_slot, taken_list_from}
 use Rattle.device_model.specs.FetchedBytes.{IsNewlyTaken}
-use Rattle.device_model.specs.PortView.{taken_in, taken_commands_by_slot, taken_of, blank_port}
+use Rattle.device_model.specs.PortView.{taken_in, taken_commands_by_slot, taken_of, reset_port_without_disk}
 use Rattle.device_model.specs.declared.port.PortModel.{PortModel}
 use Rattle.device_model.specs.declared.port.TakenCommand.{TakenCommand}
 
@@ -208,5 +208,5 @@ none_slot None e = refl
 none_slot (Some r) e = absurd (cc e)
 
 -- a port that is there, whatever would stand for one that isn't
-pub at_port : (ports : List PortModel) (p : ℕ) (any : PortModel) → p < length ports → slice_index_or ports p any ≡ slice_index_or ports p blank_port
-at_port ports p any there = get_or_default ports p any blank_port there
+pub at_port : (ports : List PortModel) (p : ℕ) (any : PortModel) → p < length ports → slice_index_or ports p any ≡ slice_index_or ports p reset_port_without_disk
+at_port ports p any there = get_or_default ports p any reset_port_without_disk there

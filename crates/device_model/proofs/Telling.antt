@@ -12,16 +12,14 @@ use Rattle.adapter.specs.declared.tape.Move.{Move}
 use Rattle.hba_regs.specs.declared.reg.Reg.{Reg}
 use Rattle.hba_regs.specs.declared.reg.Reg.TheVariants.{Cap, Ghc, Is, Pi, Vs, Cap2, Bohc, Px}
 use Rattle.device_model.specs.Disks.{bay_of, identity, identity_of, page_source_of}
-use Rattle.device_model.specs.DiskPages.{BringsPageOfPortIfAny, GainsOwnPages, IsSentLog, IsSentIdentify}
+use Rattle.device_model.specs.DiskPages.{HasDiskAndBringsOwnPageIfAny, GainsOwnPages, IsSentLog, IsSentIdentify}
 use Rattle.device_model.specs.SentFises.{SendsEnd}
-use Rattle.device_model.specs.PortView.{operation_of_kind}
 use Rattle.device_model.specs.WholeAdapter.{AllMedia, device_of}
 use Rattle.device_model.specs.declared.bay.Bay.{Bay}
 use Rattle.device_model.specs.declared.model.Model.{Model}
-use Rattle.device_model.specs.declared.port.CommandKind.{CommandKind}
+use Rattle.adapter.specs.declared.command.Operation.{Operation}
 use Rattle.device_model.proofs.Posting.{end_rest}
-use Rattle.device_model.proofs.Transfers.{is_identify, is_log}
-use Rattle.device_model.specs.declared.port.CommandKind.TheVariants as command_kind
+use Rattle.adapter.specs.declared.command.Operation.TheVariants as operation
 
 -- a reading and a write leave the tape
 pub noted_tape : (r : Reg) (v : ℕ) (d : Device) → (device_after_reading r v d).tape ≡ d.tape
@@ -41,7 +39,7 @@ all_one P x here (suc k) d small = absurd (omega (arith, small))
 module _ {S : Type 0} (size : S → ℕ) where
   -- an entry is no page, or one of the disk that was in
   abbrev pub Tells : Model S → Entry → Type 0
-  Tells old e = (m : Move) → e ≡ entry.Move m → BringsPageOfPortIfAny (identity_of size old m.port.0) (page_source_of old m.port.0) m
+  Tells old e = (m : Move) → e ≡ entry.Move m → HasDiskAndBringsOwnPageIfAny (identity_of size old m.port.0) (page_source_of old m.port.0) m
 
   pub gains_none : (old new : Model S) → new.hardware.tape.items ≡ old.hardware.tape.items → GainsOwnPages size old new
   gains_none old new same = record {
@@ -52,7 +50,7 @@ module _ {S : Type 0} (size : S → ℕ) where
 
   -- one more entry, which is no page or the disk's
   pub gains_one : (old new : Model S) (e : Entry) → new.hardware.tape.items ≡ old.hardware.tape.items ++ e ∷ [] →
-      ((m : Move) → e ≡ entry.Move m → BringsPageOfPortIfAny (identity_of size old m.port.0) (page_source_of old m.port.0) m) → GainsOwnPages size old new
+      ((m : Move) → e ≡ entry.Move m → HasDiskAndBringsOwnPageIfAny (identity_of size old m.port.0) (page_source_of old m.port.0) m) → GainsOwnPages size old new
   gains_one old new e more here = record {
     new_entries = e ∷ [];
     tape_grows = more;
@@ -66,24 +64,24 @@ module _ {S : Type 0} (size : S → ℕ) where
     tape_grows = then.tape_grows ∙ (ap (λ (t : List Entry). t ++ then.new_entries) first.tape_grows ∙ append_assoc a.hardware.tape.items first.new_entries then.new_entries);
     pages_are_own = All-append (Tells a) first.new_entries then.new_entries first.pages_are_own
         (λ k d small m e.
-        subst (λ x. BringsPageOfPortIfAny x (page_source_of a m.port.0) m) (disks m.port.0)
-        (subst (λ x. BringsPageOfPortIfAny (identity_of size b m.port.0) x m) (says m.port.0) (then.pages_are_own k d small m e)));
+        subst (λ x. HasDiskAndBringsOwnPageIfAny x (page_source_of a m.port.0) m) (disks m.port.0)
+        (subst (λ x. HasDiskAndBringsOwnPageIfAny (identity_of size b m.port.0) x m) (says m.port.0) (then.pages_are_own k d small m e)));
   }
 
   -- a move was noted, of a port that has these disks
-  pub gains_moved : (old new : Model S) (bay : Bay S) (k : CommandKind) (m : Move) → bay_of old m.port.0 ≡ Some bay →
-      new.hardware.tape.items ≡ old.hardware.tape.items ++ entry.Move m ∷ [] → m.operation ≡ operation_of_kind k →
-      (k ≡ command_kind.Identify → IsSentIdentify (identity size bay.disk) bay.page_source m.bytes.value) → (k ≡ command_kind.ReadLog → IsSentLog bay.page_source m.bytes.value) →
+  pub gains_moved : (old new : Model S) (bay : Bay S) (k : Operation) (m : Move) → bay_of old m.port.0 ≡ Some bay →
+      new.hardware.tape.items ≡ old.hardware.tape.items ++ entry.Move m ∷ [] → m.operation ≡ k →
+      (k ≡ operation.Identify → IsSentIdentify (identity size bay.disk) bay.page_source m.bytes.value) → (k ≡ operation.ReadLog → IsSentLog bay.page_source m.bytes.value) →
       GainsOwnPages size old new
   gains_moved old new bay k m was more named page log =
       gains_one old new (entry.Move m) more
       (λ x e.
       let same : m ≡ x = cc in
-      let its : BringsPageOfPortIfAny (Some (identity size bay.disk)) (Some bay.page_source) m =
-      record { identify_page_is_sent = λ is. page (is_identify k (sym named ∙ is)); log_page_is_sent = λ is. log (is_log k (sym named ∙ is)) } in
-      let here : BringsPageOfPortIfAny (identity_of size old m.port.0) (page_source_of old m.port.0) m =
-      subst (λ b. BringsPageOfPortIfAny (option_map (λ (y : Bay S). identity size y.disk) b) (option_map (λ (y : Bay S). y.page_source) b) m) (sym was) its in
-      subst (λ (y : Move). BringsPageOfPortIfAny (identity_of size old y.port.0) (page_source_of old y.port.0) y) same here)
+      let its : HasDiskAndBringsOwnPageIfAny (Some (identity size bay.disk)) (Some bay.page_source) m =
+      record { identify_page_is_sent = λ is. page (sym named ∙ is); log_page_is_sent = λ is. log (sym named ∙ is) } in
+      let here : HasDiskAndBringsOwnPageIfAny (identity_of size old m.port.0) (page_source_of old m.port.0) m =
+      subst (λ b. HasDiskAndBringsOwnPageIfAny (option_map (λ (y : Bay S). identity size y.disk) b) (option_map (λ (y : Bay S). y.page_source) b) m) (sym was) its in
+      subst (λ (y : Move). HasDiskAndBringsOwnPageIfAny (identity_of size old y.port.0) (page_source_of old y.port.0) y) same here)
 
   -- a command ended
   pub gains_done : (o later : AllMedia) (port slot : ℕ) (old new : Model S) → EndsAndPosts (SendsEnd slot) port slot (device_of old.hardware o) (device_of new.hardware later) →

@@ -5,12 +5,11 @@ use Rattle.std.proofs.lemmas.Bool.{cases_lt, le-ltb, lt-ltb}
 use Rattle.std.proofs.lemmas.List.{take_all}
 use Rattle.adapter.specs.Device.{Disk, FetchedCommand}
 use Rattle.adapter.specs.Memory.{bytes_at, patched}
-use Rattle.adapter.specs.Commands.{reads_memory}
+use Rattle.adapter.specs.Commands.{reads_memory, sends_page}
 use Rattle.adapter.specs.Steps.{MayBring, block_after, next_place}
 use Rattle.adapter.specs.Trim.{consecutive, trim_sectors}
 use Rattle.adapter.specs.declared.command.Operation.{Operation}
 use Rattle.adapter.specs.declared.command.Operation.TheVariants.{Identify, Read, ReadQueued, Write, WriteQueued, Flush, Trim, ReadLog}
-use Rattle.device_model.specs.Finishing.{sends_page}
 use Rattle.device_model.specs.Trims.{HasRunsLeft, HasClearsLeft, trim_block_after_moves, sectors_left_to_change, sectors_left_to_clear, sectors_left_to_write, next_uncleared, first_run_length, run_count_of, next_run_length, uncleared}
 use Rattle.device_model.proofs.Runs.{drop_twice, no_runs, one_less, run_long, some_runs, take_run}
 

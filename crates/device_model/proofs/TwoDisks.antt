@@ -11,7 +11,7 @@ use Rattle.sector_store.specs.declared.store.Failures.{Failures}
 use Rattle.device_model.specs.Disks.{bay_of, disk_in_bay, disk_number, numbered_disk, disk_over, bay_failures, disk_failures, has_cache, identity, identity_of, is_same_index, lasting_of, page_source_of, disk_index_of}
 use Rattle.device_model.specs.StepEffects.{NoCallFailed, StepKeeps}
 use Rattle.device_model.specs.ModelState.{all_bay_stores_are_known, device_at, media_of, all_media_at, tells}
-use Rattle.device_model.specs.PortView.{Media, media_after_move, media_after_clear, operation_of_kind, taken_of}
+use Rattle.device_model.specs.PortView.{Media, media_after_move, media_after_clear, taken_of}
 use Rattle.device_model.specs.WholeAdapter.{HasDisks, all_media_after_move, all_media_after_clear}
 use Rattle.device_model.specs.declared.bay.Bay.{Bay}
 use Rattle.device_model.specs.declared.bay.PageSource.{PageSource}
@@ -300,19 +300,19 @@ module _ {S : Type 0} where
           ∙ (ap (λ (d : Disk). record { disk = d; plugged = was_put; lasting = lasting_of told a }) is ∙ ap (λ x. media_after_clear (media_of size told x) first count) (sym was)))
 
       -- a piece was moved
-      pub outside_moved : (next : NextMove) (r : TakenCommand) (bytes : List ℕ) → lasting_of told b ≡ lasting_of told a → next.command_kind ≡ r.command_kind → next.sector ≡ next_sector (taken_of r) →
+      pub outside_moved : (next : NextMove) (r : TakenCommand) (bytes : List ℕ) → lasting_of told b ≡ lasting_of told a → next.operation ≡ r.operation → next.sector ≡ next_sector (taken_of r) →
           disk_over a.which (size b.disk.store) (told b.disk.store)
-          ≡ disk_after (operation_of_kind next.command_kind) (disk_over a.which (size a.disk.store) (told a.disk.store)) next.sector bytes →
+          ≡ disk_after next.operation (disk_over a.which (size a.disk.store) (told a.disk.store)) next.sector bytes →
           all_media_at size told new ≡ all_media_after_move (all_media_at size told m) port (taken_of r) bytes
       outside_moved next r bytes lasts kind sector is =
-          seated_outside m new port a b was items size told _ (store_tells (ap (λ (d : Disk). is_some d.sectors) is_after ∙ still_tells r.command_kind old (next_sector (taken_of r)) bytes))
+          seated_outside m new port a b was items size told _ (store_tells (ap (λ (d : Disk). is_some d.sectors) is_after ∙ still_tells r.operation old (next_sector (taken_of r)) bytes))
           (store_media lasts ∙ (ap (λ (d : Disk). record { disk = d; plugged = was_put; lasting = lasting_of told a }) is_after ∙ ap (λ x. media_after_move (media_of size told x) (taken_of r) bytes) (sym was)))
         where
           old : Disk
           old = disk_over a.which (size a.disk.store) (told a.disk.store)
 
-          is_after : disk_over a.which (size b.disk.store) (told b.disk.store) ≡ disk_after (operation_of_kind r.command_kind) old (next_sector (taken_of r)) bytes
-          is_after = is ∙ (λ i. disk_after (operation_of_kind (kind i)) old (sector i) bytes)
+          is_after : disk_over a.which (size b.disk.store) (told b.disk.store) ≡ disk_after r.operation old (next_sector (taken_of r)) bytes
+          is_after = is ∙ (λ i. disk_after ((kind i)) old (sector i) bytes)
 
       -- the store tells what it told
       pub outside_kept : size b.disk.store ≡ size a.disk.store → told b.disk.store ≡ told a.disk.store → lasting_of told b ≡ lasting_of told a →

@@ -3,7 +3,7 @@ use Rattle.std.proofs.Common.{ℕ, zero, suc, Bool, true, false, ◌≡◌, ◌�
 use Rattle.std.proofs.lemmas.Bool.Decides.{eqb_tells}
 use Rattle.std.proofs.lemmas.List.Elements.{All-head, All-tail}
 use Rattle.std.specs.Prelude.{if◌then◌else◌, nat_eq, option_map}
-use Rattle.adapter.specs.AskedSteps.{DoesPlug, DoesUnplug, DoesAskedStep, SlotGoesOn, bsy_mask}
+use Rattle.adapter.specs.AskedSteps.{DoesPlug, DoesUnplug, DoesAskedStep, DoesAtLeastOneSlotStep, bsy_mask}
 use Rattle.adapter.specs.Device.{Device, DevicePort, FetchedCommand}
 use Rattle.adapter.specs.Steps.{Can, WorksOn, newly_fetched}
 use Rattle.adapter.specs.Steps.DeviceTransition.{Fetch}
@@ -111,7 +111,7 @@ still_failed q (asked.Clear p s most) cached was now says later old new empty (m
     by (inr did) = one_keeps_present q p.0 s.0 old mid (inr (inr (inr (most, did.0))))
 still_failed q (asked.Finish p s) cached was now says later old new empty (mid, before, f) = by f ∙ (went before ∙ empty)
   where
-    went : (mid ≡ old) ⊎ SlotGoesOn (SendsEnd s.0) p.0 s.0 old mid → (mid.port q).present ≡ (old.port q).present
+    went : (mid ≡ old) ⊎ DoesAtLeastOneSlotStep (SendsEnd s.0) p.0 s.0 old mid → (mid.port q).present ≡ (old.port q).present
     went (inl same) = ap (λ (d : Device). (d.port q).present) same
     went (inr did) = some_keep_present q (suc did.0) p.0 s.0 old mid did.1
 

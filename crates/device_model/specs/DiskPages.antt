@@ -42,9 +42,9 @@ pub record BringsOwnPageIfAny (disk : DiskIdentity) (says : PageSource) (m : Mov
   pub log_page_is_sent : m.operation ≡ ReadLog → IsSentLog says m.bytes.value
 
 -- the same of what is in a port; where there are no disks, nothing is moved
-abbrev pub BringsPageOfPortIfAny : Option DiskIdentity → Option PageSource → Move → Type 0
-BringsPageOfPortIfAny (Some disk) (Some says) m = BringsOwnPageIfAny disk says m
-BringsPageOfPortIfAny _ _ m = ⊥
+abbrev pub HasDiskAndBringsOwnPageIfAny : Option DiskIdentity → Option PageSource → Move → Type 0
+HasDiskAndBringsOwnPageIfAny (Some disk) (Some says) m = BringsOwnPageIfAny disk says m
+HasDiskAndBringsOwnPageIfAny _ _ m = ⊥
 
 -- The tape has gained entries, of which each page is that of the disk that was in its port, as it says of itself, or of
 -- its log.
@@ -52,7 +52,7 @@ pub record GainsOwnPages {S : Type 0} (size : S → ℕ) (old new : Model S) : T
   pub new_entries : List Entry
   pub tape_grows : new.hardware.tape.items ≡ old.hardware.tape.items ++ new_entries
   pub pages_are_own : All (λ e. (m : Move) → e ≡ entry.Move m
-      → BringsPageOfPortIfAny (identity_of size old m.port.0) (page_source_of
+      → HasDiskAndBringsOwnPageIfAny (identity_of size old m.port.0) (page_source_of
       old m.port.0)
       m) new_entries
 

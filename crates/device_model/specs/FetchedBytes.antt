@@ -19,7 +19,7 @@ abbrev pub no_prd : Prd
 no_prd = record { address = 0; bytes = 0 }
 
 -- so many PRDs of whole pieces stand at an address, and these have their pieces
-pub record HavePiecesOfPrds (memory : ℕ → ℕ) (at number : ℕ) (prds : List Prd) : Type 0 where
+pub record HaveSamePiecesAsStoredPrds (memory : ℕ → ℕ) (at number : ℕ) (prds : List Prd) : Type 0 where
   pub stored_prds : List Prd
   pub prd_count_is : length stored_prds ≡ number
   pub prds_are_encoded : HasPrds memory at stored_prds

@@ -2,17 +2,16 @@
 use Rattle.std.specs.Prelude.{ℕ, Bool, true, false, ◌≡◌, ◌+◌, ◌*◌, ◌/◌, ◌^◌, ◌<◌, ◌≤◌, ◌⊎◌, List, Option, None, Some, length, slice_index}
 use Rattle.std.specs.Vec.{vec_len, vec_capacity}
 use Rattle.adapter.specs.AskedSteps.{DoesFetch}
-use Rattle.adapter.specs.Commands.{Meaning, is_ranged}
+use Rattle.adapter.specs.Commands.{Meaning, is_ranged, sends_page}
 use Rattle.adapter.specs.Device.{FetchedCommand, Device}
 use Rattle.adapter.specs.Steps.{Can, WorksOn, newly_fetched, next_place}
 use Rattle.adapter.specs.Steps.DeviceTransition.{Fetch}
 use Rattle.adapter.specs.declared.command.Operation.{Operation}
-use Rattle.adapter.specs.declared.command.Operation.TheVariants.{Identify, ReadLog}
 use Rattle.adapter.specs.declared.command.Prd.{Prd}
 use Rattle.device_model.specs.WriteCaches.{HasRoomForOldSectors}
 use Rattle.device_model.specs.Trims.{HasClearsLeft, sectors_left_to_change}
 use Rattle.device_model.specs.FetchedBytes.{bytes_of}
-use Rattle.device_model.specs.PortView.{operation_of_kind, taken_of}
+use Rattle.device_model.specs.PortView.{taken_of}
 use Rattle.device_model.specs.WholeAdapter.{HasDisks, AllMedia, device_of}
 use Rattle.device_model.specs.declared.cache.Cache.{Cache}
 use Rattle.device_model.specs.declared.hardware.Hardware.{Hardware}
@@ -42,8 +41,8 @@ pub record HasMovesLeftInMemory (t : FetchedCommand) (size left : ℕ) : Type 0 
   pub pieces_are_inside : PiecesInside size t.places
 
 -- the port has disks, or the command names sectors, of which a port without disks has none
-abbrev pub HasDisksOrIsRanged : Device → ℕ → Operation → Type 0
-HasDisksOrIsRanged d port operation = HasDisks d port ⊎ (is_ranged operation ≡ true)
+abbrev pub HasDisksOrOperationIsRanged : Device → ℕ → Operation → Type 0
+HasDisksOrOperationIsRanged d port operation = HasDisks d port ⊎ (is_ranged operation ≡ true)
 
 -- the port, which has disks, works on this command, and its next piece has a place in the memory
 pub record HasMove (d : Device) (port slot : ℕ) (t : FetchedCommand) : Type 0 where
@@ -68,14 +67,8 @@ pub record MayFinish (d : Device) (port slot moves_left clears_left : ℕ) : Typ
       ⊎ (Can (Fetch port slot fetched_command.meaning fetched_command.places) d
       × (fetched_command ≡ newly_fetched fetched_command.meaning fetched_command.places))
 
--- IDENTIFY DEVICE or READ LOG EXT, which send a page to the driver itself
-abbrev pub sends_page : Operation → Bool
-sends_page Identify = true
-sends_page ReadLog = true
-sends_page _ = false
-
--- the port has such a command in this slot, taken or not, which can be done to its end; its pieces have addresses of 32
--- bits
+-- the port has a command that sends a page in this slot, taken or not, which can be done to its end; its pieces have
+-- addresses of 32 bits
 pub record HasFinishablePageCommand (d : Device) (port slot : ℕ) : Type 0 where
   pub moves_left : ℕ
   pub may_finish : MayFinish d port slot moves_left 0
@@ -113,7 +106,7 @@ CacheHasRoomForRestOfCommand cache port slot left d = (t : FetchedCommand) → (
 abbrev pub HasMovesAndTrimRunsLeft : TakenCommand → List ℕ → (left clears : ℕ) → Type 0
 HasMovesAndTrimRunsLeft t memory left clears =
     HasMovesLeftInMemory (taken_of t) (length memory) left
-    × HasClearsLeft (operation_of_kind t.command_kind) (bytes_of memory) (taken_of t)
+    × HasClearsLeft t.operation (bytes_of memory) (taken_of t)
     clears
 
 -- It is begun: so many moves and clears are left of it, each possible, and there is room for them and the end; it is

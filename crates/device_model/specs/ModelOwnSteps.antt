@@ -1,9 +1,10 @@
 -- What a model does by itself before a register is read (this project's own).
 use Rattle.std.specs.Prelude.{ℕ, Bool, true, false, ◌≡◌, ◌≢◌, ◌+◌, ◌<◌, ◌⊎◌, List, [], ◌∷◌, All, length}
+use Rattle.adapter.specs.Commands.{sends_page}
 use Rattle.adapter.specs.Device.{DevicePort, Device}
 use Rattle.adapter.specs.Steps.{DeviceTransition, Can, MayLinkUp, device_after, with_port}
 use Rattle.adapter.specs.Steps.DeviceTransition.{Fetch, Move, Done, Fall, FrFall, LinkUp, ResetEnds}
-use Rattle.device_model.specs.Finishing.{HasFinishablePageCommand, TapeHasRoom, MayTakePageCommand, sends_page}
+use Rattle.device_model.specs.Finishing.{HasFinishablePageCommand, TapeHasRoom, MayTakePageCommand}
 use Rattle.device_model.specs.HeldPorts.{IsPortHeld, IsPortReleased, all_held, none_held}
 use Rattle.device_model.specs.SentFises.{SendsFisAfterTransition}
 use Rattle.device_model.specs.WholeAdapter.{HasDisks}
@@ -18,26 +19,26 @@ IsSpontaneousStep held (LinkUp port sig n) = IsPortReleased held port × (sig �
 IsSpontaneousStep held (Fetch port slot meaning places) = IsPortReleased held port
     × (sends_page meaning.operation ≡ true)
 IsSpontaneousStep held (Move port slot t bytes) = IsPortReleased held port × (sends_page t.meaning.operation ≡ true)
-IsSpontaneousStep held (Done port slot flag t) = IsPortReleased held port × (sends_page t.meaning.operation ≡ true)
+IsSpontaneousStep held (Done port slot cause_bit t) = IsPortReleased held port × (sends_page t.meaning.operation ≡ true)
 IsSpontaneousStep held step = ⊥
 
 -- CR or FR falls, or the link comes up
-abbrev pub IsSettling : DeviceTransition → Type 0
-IsSettling (Fall port) = Unit {0}
-IsSettling (FrFall port) = Unit {0}
-IsSettling (LinkUp port sig n) = Unit {0}
-IsSettling step = ⊥
+abbrev pub IsCrFallFrFallOrLinkUp : DeviceTransition → Type 0
+IsCrFallFrFallOrLinkUp (Fall port) = Unit {0}
+IsCrFallFrFallOrLinkUp (FrFall port) = Unit {0}
+IsCrFallFrFallOrLinkUp (LinkUp port sig n) = Unit {0}
+IsCrFallFrFallOrLinkUp step = ⊥
 
 -- IDENTIFY DEVICE or READ LOG EXT is taken, moved or ended
 abbrev pub IsFetchMoveOrDone : DeviceTransition → Type 0
 IsFetchMoveOrDone (Fetch port slot meaning places) = Unit {0}
 IsFetchMoveOrDone (Move port slot t bytes) = Unit {0}
-IsFetchMoveOrDone (Done port slot flag t) = Unit {0}
+IsFetchMoveOrDone (Done port slot cause_bit t) = Unit {0}
 IsFetchMoveOrDone step = ⊥
 
 -- such a step of the model's own
 abbrev pub Settles : List Bool → DeviceTransition → Type 0
-Settles held step = IsSpontaneousStep held step × IsSettling step
+Settles held step = IsSpontaneousStep held step × IsCrFallFrFallOrLinkUp step
 
 -- or such a one
 abbrev pub SendsPages : List Bool → DeviceTransition → Type 0
@@ -71,8 +72,9 @@ EndsPendingResetUnlessAllHeld was held old new =
 
 -- in each device, and on each port that isn't held, such steps lead from the one state of the port to the other, and
 -- change nothing else
-abbrev pub SettlesPort : DevicePort → DevicePort → Type 0
-SettlesPort old new = (held : List Bool) (d : Device) (port : ℕ) → IsPortReleased held port → d.port port ≡ old
+abbrev pub PortChangesBySettlingSteps : DevicePort → DevicePort → Type 0
+PortChangesBySettlingSteps old new = (held : List Bool) (d : Device) (port : ℕ) → IsPortReleased held port
+    → d.port port ≡ old
     → LeadsBySteps (Settles held) d (with_port d port new)
 
 -- CR and FR have fallen where ST and FRE are zero, and no link is left that may come up

@@ -31,9 +31,9 @@ abbrev pub old_bytes_of : List OldSector → ℕ → Option (List ℕ)
 old_bytes_of [] sector = None
 old_bytes_of (old ∷ rest) sector = if nat_eq old.sector sector then Some old.bytes else old_bytes_of rest sector
 
--- one more sector has these old bytes, and the others have what they had
-abbrev pub AddsOldSector : (was now : List OldSector) → (sector : ℕ) → List ℕ → Type 0
-AddsOldSector was now sector bytes = (k : ℕ) → old_bytes_of now k ≡ (if nat_eq sector k then Some bytes else
+-- the sector has these old bytes, and the others have what they had
+abbrev pub SetsOldBytesOfSector : (was now : List OldSector) → (sector : ℕ) → List ℕ → Type 0
+SetsOldBytesOfSector was now sector bytes = (k : ℕ) → old_bytes_of now k ≡ (if nat_eq sector k then Some bytes else
     old_bytes_of was k)
 
 -- the sectors of a disk, each as it was before it was changed

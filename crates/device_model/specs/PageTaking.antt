@@ -13,7 +13,7 @@ use Rattle.device_model.specs.declared.model.Model.{Model}
 -- taken already. If that of the slot could be done to its end, it still can, with as much left. If it may be taken, a
 -- command of the port can be done to its end only if that one could. Nothing of another port is another, nor of the
 -- disks, and the tape has no more room than it had.
-pub record TakesPageCommand {S : Type 0} (size : S → ℕ) (told : S → Option (ℕ → List ℕ)) (port slot : ℕ)
+pub record TakesPageCommandUnlessOneIsTaken {S : Type 0} (size : S → ℕ) (told : S → Option (ℕ → List ℕ)) (port slot : ℕ)
     (old new : Model S) : Type 0 where
   pub by_own_steps : (held : List Bool) → IsPortReleased held port
       → LeadsBySteps (SendsPages held) (device_at size told old) (device_at size told new)

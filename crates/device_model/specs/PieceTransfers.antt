@@ -10,10 +10,9 @@ use Rattle.device_model.specs.Disks.{disk_over, identity, lasting_of}
 use Rattle.device_model.specs.FetchedBytes.{bytes_of}
 use Rattle.device_model.specs.DiskPages.{IsSentLog, IsSentIdentify}
 use Rattle.device_model.specs.Trims.{sectors_left_to_write}
-use Rattle.device_model.specs.PortView.{operation_of_kind}
 use Rattle.device_model.specs.declared.bay.Bay.{Bay}
 use Rattle.device_model.specs.declared.hardware.Hardware.{Hardware}
-use Rattle.device_model.specs.declared.port.CommandKind.TheVariants.{Identify, ReadLog}
+use Rattle.adapter.specs.declared.command.Operation.TheVariants.{Identify, ReadLog}
 use Rattle.device_model.specs.declared.steps.NextMove.{NextMove}
 
 -- the bytes of memory that it moves
@@ -25,41 +24,42 @@ pub record IsTransferred (old new : Hardware) (next : NextMove) : Type 0 where
   pub rest_is_kept : new ≡ record old { memory = new.memory }
   pub memory_size_is_kept : length new.memory.items ≡ length old.memory.items
   pub memory_is : bytes_of new.memory.items
-      ≡ (if reads_memory (operation_of_kind next.command_kind) then bytes_of old.memory.items
+      ≡ (if reads_memory next.operation then bytes_of old.memory.items
       else patched (bytes_of old.memory.items) next.address (piece_of new next))
 
 -- Bytes of memory, as they were and as they are now. The disk that is in has given them: the sector of a read, or its
 -- page. Or it has taken them as a write's sector, or they are a trim's block. Or the store has failed: it tells what it
 -- told, and the bytes are as they were. What is lasting of the disk stays so.
-pub record TransfersPiece {S : Type 0} (size : S → ℕ) (told : S → Option (ℕ → List ℕ)) (failures : S → Option Failures)
+pub record TransfersPieceOrFails {S : Type 0} (size : S → ℕ) (told : S → Option (ℕ → List ℕ))
+    (failures : S → Option Failures)
     (old new : Bay S) (next : NextMove) (before after : List ℕ) (done : Bool) : Type 0 where
-  pub done_sector_is_on_disk : done ≡ true → is_ranged (operation_of_kind next.command_kind) ≡ true
+  pub done_sector_is_on_disk : done ≡ true → is_ranged next.operation ≡ true
       → next.sector < size old.disk.store
   pub bytes_are_sector : IsValidSector after
-  pub read_gives_told : done ≡ true → is_ranged (operation_of_kind next.command_kind) ≡ true →
-      reads_memory (operation_of_kind next.command_kind) ≡ false →
+  pub read_gives_told : done ≡ true → is_ranged next.operation ≡ true →
+      reads_memory next.operation ≡ false →
       IfSome (told old.disk.store) (λ told. after ≡ told next.sector)
-  pub write_keeps_bytes : reads_memory (operation_of_kind next.command_kind) ≡ true → after ≡ before
+  pub write_keeps_bytes : reads_memory next.operation ≡ true → after ≡ before
   pub failure_keeps_bytes : done ≡ false → after ≡ before
-  pub identify_page_is_sent : done ≡ true → next.command_kind ≡ Identify
+  pub identify_page_is_sent : done ≡ true → next.operation ≡ Identify
       → IsSentIdentify (identity size old.disk) old.page_source after
-  pub log_page_is_sent : done ≡ true → next.command_kind ≡ ReadLog → IsSentLog old.page_source after
-  pub unranged_keeps_bay : is_ranged (operation_of_kind next.command_kind) ≡ false → new ≡ old
+  pub log_page_is_sent : done ≡ true → next.operation ≡ ReadLog → IsSentLog old.page_source after
+  pub unranged_keeps_bay : is_ranged next.operation ≡ false → new ≡ old
   pub disk_is : done ≡ true → disk_over old.which (size new.disk.store) (told new.disk.store)
-      ≡ disk_after (operation_of_kind next.command_kind) (disk_over old.which (size old.disk.store) (told
+      ≡ disk_after next.operation (disk_over old.which (size old.disk.store) (told
       old.disk.store))
       next.sector after
   pub told_is_kept : done ≡ false → told new.disk.store ≡ told old.disk.store
   pub size_is_kept : size new.disk.store ≡ size old.disk.store
   pub no_call_failed : done ≡ true → failures new.disk.store ≡ failures old.disk.store
-  pub only_ranged_fails : done ≡ false → is_ranged (operation_of_kind next.command_kind) ≡ true
+  pub only_ranged_fails : done ≡ false → is_ranged next.operation ≡ true
   pub failure_is_noted : done ≡ false → next.sector < size old.disk.store →
-      CallFails old.cache.is_on (reads_memory (operation_of_kind next.command_kind)) next.sector (failures
+      CallFails old.cache.is_on (reads_memory next.operation) next.sector (failures
       old.disk.store)
       (failures new.disk.store)
   pub lasting_is_kept : lasting_of told new ≡ lasting_of told old
   pub cache_mode_is_kept : new.cache.is_on ≡ old.cache.is_on
   pub cache_has_room : (n : ℕ) → HasRoomForOldSectors old.cache
-      (sectors_left_to_write (operation_of_kind next.command_kind) 1 + n)
+      (sectors_left_to_write next.operation 1 + n)
       → HasRoomForOldSectors new.cache n
   pub rest_is_kept : new ≡ record old { disk = record old.disk { store = new.disk.store }; cache = new.cache }

@@ -16,8 +16,7 @@ use Rattle.device_model.specs.declared.halt.Halting.TheVariants as halting
 use Rattle.device_model.specs.declared.port.Addresses.{Addresses}
 use Rattle.device_model.specs.declared.port.Readings.{Readings}
 use Rattle.device_model.specs.declared.port.TakenCommand.{TakenCommand}
-use Rattle.device_model.specs.declared.port.CommandKind.{CommandKind}
-use Rattle.device_model.specs.declared.port.CommandKind.TheVariants as command_kind
+use Rattle.adapter.specs.declared.command.Operation.TheVariants as operation
 use Rattle.device_model.specs.declared.port.PortModel.{PortModel}
 
 abbrev pub bases_of : Addresses → Bases
@@ -49,23 +48,13 @@ notes_of r =
       acknowledged = r.acknowledged;
     }
 
-abbrev pub operation_of_kind : CommandKind → Operation
-operation_of_kind command_kind.Read = Read
-operation_of_kind command_kind.Write = Write
-operation_of_kind command_kind.ReadQueued = ReadQueued
-operation_of_kind command_kind.WriteQueued = WriteQueued
-operation_of_kind command_kind.Identify = Identify
-operation_of_kind command_kind.Flush = Flush
-operation_of_kind command_kind.Trim = Trim
-operation_of_kind command_kind.ReadLog = ReadLog
-
 -- the cause in PxIS that its end sets: PSS where its data go by PIO, SDBS where it was queued, and else DHRS (AHCI
 -- 1.3.1, 3.3.5)
-abbrev pub cause_of : CommandKind → ℕ
-cause_of command_kind.Identify = 1
-cause_of command_kind.ReadLog = 1
-cause_of command_kind.ReadQueued = 3
-cause_of command_kind.WriteQueued = 3
+abbrev pub cause_of : Operation → ℕ
+cause_of operation.Identify = 1
+cause_of operation.ReadLog = 1
+cause_of operation.ReadQueued = 3
+cause_of operation.WriteQueued = 3
 cause_of _ = 0
 
 -- which of BSY and DRQ a command that failed has left set: BSY, where its disk is left busy
@@ -82,7 +71,7 @@ halt_of halting.LogOnly = LogOnly
 abbrev pub taken_of : TakenCommand → FetchedCommand
 taken_of t =
     record {
-      meaning = record { operation = operation_of_kind t.command_kind; first = t.first; count = t.count };
+      meaning = record { operation = t.operation; first = t.first; count = t.count };
       places = pieces t.prds;
       moved = t.moved;
       block = brought t.block;
@@ -157,8 +146,8 @@ abbrev pub port_after_hba_is_bits : ℕ → ℕ → DevicePort → DevicePort
 port_after_hba_is_bits value port p = if bit value port then port_after_hba_is_write p else p
 
 -- a port that isn't there, as after a reset
-abbrev pub blank_port : PortModel
-blank_port =
+abbrev pub reset_port_without_disk : PortModel
+reset_port_without_disk =
     record {
       addresses = record { clb = 0; fb = 0; clb_set = false; clbu_set = false; fb_set = false; fbu_set = false };
       st = false;

@@ -16,8 +16,8 @@ use Rattle.device_model.specs.declared.model.Model.{Model}
 use Rattle.device_model.specs.declared.model.QueuedStep.{QueuedStep}
 
 -- the steps that are due by this access, in their order
-abbrev pub due_steps : ℕ → List QueuedStep → List DeviceStep
-due_steps access queue = map (λ q. q.step) (filter (λ q. nat_le q.access access) queue)
+abbrev pub steps_due_by_access : ℕ → List QueuedStep → List DeviceStep
+steps_due_by_access access queue = map (λ q. q.step) (filter (λ q. nat_le q.access access) queue)
 
 -- those that are not due yet, in their order
 abbrev pub later_steps : ℕ → List QueuedStep → List QueuedStep
@@ -39,7 +39,8 @@ pub record BeginsAccess {S : Type 0} (size : S → ℕ) (told : S → Option (�
   pub access_is_counted : new.accesses.saturating_count ≡ min (old.accesses.saturating_count + 1) (2 ^ 64 - 1)
   pub made_is : new.accesses.count.made ≡ old.accesses.count.made + 1
   pub queue_is : new.queue.items ≡ later_steps new.accesses.saturating_count old.queue.items
-  pub does_due_steps : AnswersEachStep size told failures (due_steps new.accesses.saturating_count old.queue.items)
+  pub does_due_steps : AnswersEachStep size told failures (steps_due_by_access
+      new.accesses.saturating_count old.queue.items)
       (record old { accesses = new.accesses; queue = new.queue }) new
 
 -- An access that changes the hardware alone: it begins so, and then changes the device so. The rest of the model stays,

@@ -63,17 +63,17 @@ signature_fis p = record {
 
 -- ---- where it comes
 
--- The port receives FISes, and its area is in the memory.
-abbrev pub receives_fis : DevicePort → ℕ → Bool
-receives_fis p size = p.fre && nat_le (p.bases.fb + RECEIVED_FIS_BYTES) size
+-- FRE is set, and the received FIS area is in the memory.
+abbrev pub fre_is_set_and_area_fits : DevicePort → ℕ → Bool
+fre_is_set_and_area_fits p size = p.fre && nat_le (p.bases.fb + RECEIVED_FIS_BYTES) size
 
 -- The bytes stand at this place of the port's received FIS area, and nothing else is another; or they are lost, where
 -- the port doesn't receive them.
 pub record IsSentOrLost (port place : ℕ) (bytes : List ℕ) (old new : Device) : Type 0 where
-  pub is_posted_if_received : receives_fis (old.port port) old.memory_size ≡ true
+  pub is_posted_if_received : fre_is_set_and_area_fits (old.port port) old.memory_size ≡ true
       → IsPosted port ((old.port port).bases.fb + place) bytes old
       new
-  pub is_lost : receives_fis (old.port port) old.memory_size ≡ false → new ≡ old
+  pub is_lost : fre_is_set_and_area_fits (old.port port) old.memory_size ≡ false → new ≡ old
 
 -- where a PIO Setup FIS, a Register FIS and a Set Device Bits FIS stand in the area (AHCI 1.3.1, 4.2.1)
 abbrev pub SendsPioSetup : ℕ → PioSetup → Device → Device → Type 0
@@ -93,14 +93,16 @@ SendsSetDeviceBits port fis old new = (bytes : List ℕ) × EncodesSetDeviceBits
 -- one a Set Device Bits FIS, which SDBS tells; and of the others that the model takes a Register FIS, which DHRS tells
 -- (AHCI 1.3.1, 3.3.5). A disk sends a Register FIS as it takes a queued command, and a DMA Setup FIS, too: nobody may
 -- look there meanwhile, and the last FIS covers them.
-abbrev pub SendsEnd : (slot port flag : ℕ) → Operation → Device → Device → Type 0
-SendsEnd slot port flag Identify old new = (flag ≡ 1) × SendsPioSetup port (page_setup_fis (old.port port)) old new
-SendsEnd slot port flag ReadLog old new = (flag ≡ 1) × SendsPioSetup port (page_setup_fis (old.port port)) old new
-SendsEnd slot port flag ReadQueued old new = (flag ≡ 3)
+abbrev pub SendsEnd : (slot port cause_bit : ℕ) → Operation → Device → Device → Type 0
+SendsEnd slot port cause_bit Identify old new = (cause_bit ≡ 1)
+    × SendsPioSetup port (page_setup_fis (old.port port)) old new
+SendsEnd slot port cause_bit ReadLog old new = (cause_bit ≡ 1)
+    × SendsPioSetup port (page_setup_fis (old.port port)) old new
+SendsEnd slot port cause_bit ReadQueued old new = (cause_bit ≡ 3)
     × SendsSetDeviceBits port (ended_tag_fis slot (old.port port)) old new
-SendsEnd slot port flag WriteQueued old new = (flag ≡ 3)
+SendsEnd slot port cause_bit WriteQueued old new = (cause_bit ≡ 3)
     × SendsSetDeviceBits port (ended_tag_fis slot (old.port port)) old new
-SendsEnd slot port flag _ old new = (flag ≡ 0) × SendsDeviceToHost port (end_fis (old.port port)) old new
+SendsEnd slot port cause_bit _ old new = (cause_bit ≡ 0) × SendsDeviceToHost port (end_fis (old.port port)) old new
 
 -- As a command fails, with TFES of PxIS: of a queued one a Set Device Bits FIS, and of another one, or of what means
 -- none, a Register FIS (TFES: AHCI 1.3.1, 3.3.5).
@@ -108,11 +110,11 @@ abbrev pub SendsFault : (queued : Bool) → (port : ℕ) → Device → Device �
 SendsFault true port old new = SendsSetDeviceBits port (queued_failure_fis (old.port port)) old new
 SendsFault false port old new = SendsDeviceToHost port (end_fis (old.port port)) old new
 
-abbrev pub SendsFaultOfOperation : (port flag : ℕ) → Operation → Device → Device → Type 0
-SendsFaultOfOperation port flag operation old new = SendsFault (is_queued operation) port old new
+abbrev pub SendsFaultOfOperation : (port cause_bit : ℕ) → Operation → Device → Device → Type 0
+SendsFaultOfOperation port cause_bit operation old new = SendsFault (is_queued operation) port old new
 
 -- as the command of the slot that a step names ends or fails
-abbrev pub SendsFisOfAskedStep : DeviceStep → (port flag : ℕ) → Operation → Device → Device → Type 0
+abbrev pub SendsFisOfAskedStep : DeviceStep → (port cause_bit : ℕ) → Operation → Device → Device → Type 0
 SendsFisOfAskedStep (asked.Done p s) = SendsEnd s.0
 SendsFisOfAskedStep (asked.Finish p s) = SendsEnd s.0
 SendsFisOfAskedStep (asked.Fault p s error) = SendsFaultOfOperation
@@ -121,6 +123,6 @@ SendsFisOfAskedStep step = PostsNone
 
 -- after a step that the model does by itself: as a command ends, and as the link comes up
 abbrev pub SendsFisAfterTransition : DeviceTransition → Device → Device → Type 0
-SendsFisAfterTransition (Done port slot flag t) old new = SendsEnd slot port flag t.meaning.operation old new
+SendsFisAfterTransition (Done port slot cause_bit t) old new = SendsEnd slot port cause_bit t.meaning.operation old new
 SendsFisAfterTransition (LinkUp port sig n) old new = SendsDeviceToHost port (signature_fis (old.port port)) old new
 SendsFisAfterTransition step old new = new ≡ old

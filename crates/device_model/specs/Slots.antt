@@ -5,13 +5,13 @@ use Rattle.adapter.specs.Device.{DevicePort}
 use Rattle.adapter.specs.Decoding.{pieces}
 use Rattle.adapter.specs.Steps.{IsFetchable, IsWorking, IsUnmixed, WorksOn, admits, next_sector}
 use Rattle.adapter.specs.declared.command.Operation.{Operation}
-use Rattle.device_model.specs.PortView.{Media, halt_of, taken_in, port_of, operation_of_kind, taken_of, blank_port}
+use Rattle.device_model.specs.PortView.{Media, halt_of, taken_in, port_of, taken_of, reset_port_without_disk}
 use Rattle.device_model.specs.declared.port.TakenCommand.{TakenCommand}
 use Rattle.device_model.specs.declared.port.PortModel.{PortModel}
 use Rattle.device_model.specs.declared.hardware.Hardware.{Hardware}
 use Rattle.device_model.specs.declared.steps.NextMove.{NextMove}
 use Rattle.device_model.specs.declared.clearing.SectorExtent.{SectorExtent}
-use Rattle.device_model.specs.declared.port.CommandKind.TheVariants.{Trim}
+use Rattle.adapter.specs.declared.command.Operation.TheVariants.{Trim}
 use Rattle.device_model.specs.Trims.{next_uncleared, next_run_length, uncleared}
 
 -- a command of this operation in this slot may be taken, if its bytes say one
@@ -35,20 +35,19 @@ AdmitsBesideTaken p operation = (admits (halt_of p.halting) operation ≡ true) 
 -- the port works on this command, which it has taken in this slot
 pub record WorksOnIn (p : PortModel) (slot : ℕ) (t : TakenCommand) : Type 0 where
   pub is_taken : taken_in p.taken slot ≡ Some t
-  pub works : (m : Media) → WorksOn (port_of p m) slot (taken_of t) (operation_of_kind t.command_kind)
+  pub works : (m : Media) → WorksOn (port_of p m) slot (taken_of t) t.operation
 
--- so many of the next sectors of this command can be cleared: a trim whose block was moved, and of which as many are
--- left, one at least
-pub record CanClear (t : TakenCommand) (most : ℕ) : Type 0 where
-  pub trim : t.command_kind ≡ Trim
+-- a trim whose block was moved, and of which at least so many sectors, one or more, are left to clear
+pub record IsMovedTrimWithSectorsLeftAtLeast (t : TakenCommand) (most : ℕ) : Type 0 where
+  pub trim : t.operation ≡ Trim
   pub block_is_moved : t.moved ≡ length (pieces t.prds)
   pub count_is_positive : 1 ≤ most
   pub enough_are_left : most ≤ length (uncleared (taken_of t))
 
 -- these sectors of it are cleared at once
 pub record IsNextRun (h : Hardware) (port slot most : ℕ) (run : SectorExtent) (t : TakenCommand) : Type 0 where
-  pub works_on : WorksOnIn (slice_index_or h.ports port blank_port) slot t
-  pub can_clear : CanClear t most
+  pub works_on : WorksOnIn (slice_index_or h.ports port reset_port_without_disk) slot t
+  pub can_clear : IsMovedTrimWithSectorsLeftAtLeast t most
   pub first_is : run.first ≡ next_uncleared (taken_of t)
   pub count_is : run.count ≡ next_run_length most (taken_of t)
   pub cleared_fits : t.cleared + run.count < 2 ^ 32
@@ -62,14 +61,14 @@ pub record PiecesFollow (size : ℕ) (next : NextMove) (t : TakenCommand) : Type
   pub inside : next.address + 512 * next.pieces_following + 512 ≤ size
   pub addresses_fit : next.address + 512 * next.pieces_following < 2 ^ 32
   pub sectors_fit : next.sector + next.pieces_following < 2 ^ 64
-  pub is_ranged_if_any : 1 ≤ next.pieces_following → is_ranged (operation_of_kind t.command_kind) ≡ true
+  pub is_ranged_if_any : 1 ≤ next.pieces_following → is_ranged t.operation ≡ true
 
 -- the next piece of this command goes to or from this address, and is this sector, if it is one
 pub record IsNextMove (h : Hardware) (port slot : ℕ) (next : NextMove) (t : TakenCommand) : Type 0 where
-  pub works_on : WorksOnIn (slice_index_or h.ports port blank_port) slot t
+  pub works_on : WorksOnIn (slice_index_or h.ports port reset_port_without_disk) slot t
   pub piece_is_left : t.moved < length (pieces t.prds)
   pub moved_fits : t.moved + 1 < 2 ^ 32
-  pub kind_is : next.command_kind ≡ t.command_kind
+  pub operation_is : next.operation ≡ t.operation
   pub sector_is : next.sector ≡ next_sector (taken_of t)
   pub address_is : next.address ≡ slice_index (pieces t.prds) t.moved
   pub inside : next.address + 512 ≤ length h.memory.items

@@ -1,7 +1,7 @@
 -- What a model makes of a step that it is told: when the step is possible, what it changes where it is done, and what
 -- stays where it is left (this project's own).
 use Rattle.std.specs.Prelude.{ℕ, Bool, true, false, ◌≡◌, ◌≢◌, ◌+◌, ◌-◌, min, ◌^◌, ◌<◌, ◌≤◌, ◌⊎◌, List, [], ◌∷◌, ◌++◌, Option, None, Some, if◌then◌else◌, nat_eq, option_map, IfSome}
-use Rattle.adapter.specs.AskedSteps.{DoesClear, DoesAskedStep, SlotGoesOn, bsy_mask, fatal_bit}
+use Rattle.adapter.specs.AskedSteps.{DoesClear, DoesAskedStep, DoesAtLeastOneSlotStep, bsy_mask, fatal_bit}
 use Rattle.adapter.specs.Commands.{Meaning, is_queued, is_ranged, reads_memory}
 use Rattle.adapter.specs.Device.{Device, FetchedCommand}
 use Rattle.adapter.specs.Steps.{Can, device_after, done_entry, next_sector}
@@ -50,7 +50,8 @@ abbrev pub IsPossible : DeviceStep → Device → Type 0
 IsPossible (asked.Fetch p s) d = (p.0 < 4) × (s.0 < 32) × MayBeFetchedOrAborted d p.0 s.0
 IsPossible (asked.Move p s) d = (s.0 < 32) × (t : FetchedCommand) × HasMove d p.0 s.0 t
 IsPossible (asked.Clear p s most) d = (s.0 < 32) × (t : FetchedCommand) × HasClear d p.0 s.0 most t
-IsPossible (asked.Done p s) d = (p.0 < 4) × (s.0 < 32) × (flag : ℕ) × (t : FetchedCommand) × Can (Done p.0 s.0 flag t) d
+IsPossible (asked.Done p s) d = (p.0 < 4) × (s.0 < 32) × (cause_bit : ℕ) × (t : FetchedCommand)
+    × Can (Done p.0 s.0 cause_bit t) d
 IsPossible (asked.Finish p s) d = HasDisks d p.0 × (s.0 < 32) × (left clears : ℕ) × MayFinish d p.0 s.0 left clears
 IsPossible (asked.Fault p s error) d = (p.0 < 4) × (s.0 < 32) × (t : FetchedCommand) × Can (Fault p.0 s.0 error 0 t) d
 IsPossible (asked.FaultBusy p s error) d = (p.0 < 4) × (s.0 < 32) × (t : FetchedCommand)
@@ -191,8 +192,9 @@ pub record StepKeeps {S : Type 0} (size : S → ℕ) (old new : Model S) : Type 
 -- Why a command fails on a sector, with this error (ACS-3, 6.2): the sector is past the disk (10h, ID not found); or
 -- one more call on the store of the disk has failed, that for this sector, or for what a cache keeps of it (40h,
 -- uncorrectable data).
-abbrev pub IsSectorFault : (cached writes : Bool) (sector size error : ℕ) → (was now : Option Failures) → Type 0
-IsSectorFault cached writes sector size error was now =
+abbrev pub SectorIsPastDiskOrStoreFails : (cached writes : Bool) (sector size error : ℕ) → (was now : Option Failures)
+    → Type 0
+SectorIsPastDiskOrStoreFails cached writes sector size error was now =
     ((size ≤ sector) × (error ≡ 0x10) × (now ≡ was))
     ⊎ ((sector < size) × (error ≡ 0x40) × CallFails cached writes sector was now)
 
@@ -212,7 +214,8 @@ pub record FailsToMove (cached : Bool) (port slot : ℕ) (was now : Option Failu
   pub has_move : HasMove old port slot fetched_command
   pub ranged : is_ranged fetched_command.meaning.operation ≡ true
   pub error : ℕ
-  pub cause : IsSectorFault cached (reads_memory fetched_command.meaning.operation) (next_sector fetched_command)
+  pub cause : SectorIsPastDiskOrStoreFails cached (reads_memory fetched_command.meaning.operation)
+      (next_sector fetched_command)
       (old.port port).disk.sector_count error was now
   pub can : Can (Fault port slot error 0 fetched_command) old
   pub sends : SendsFault (is_queued fetched_command.meaning.operation) port
@@ -226,15 +229,17 @@ pub record FailsToClear (cached : Bool) (port slot : ℕ) (was now : Option Fail
   pub fetched_command : FetchedCommand
   pub has_clear : HasClear old port slot 1 fetched_command
   pub error : ℕ
-  pub cause : IsSectorFault cached true (next_uncleared fetched_command) (old.port port).disk.sector_count error was now
+  pub cause : SectorIsPastDiskOrStoreFails cached true (next_uncleared fetched_command)
+      (old.port port).disk.sector_count error was now
   pub can : Can (Fault port slot error 0 fetched_command) old
   pub sends : SendsFault (is_queued fetched_command.meaning.operation) port
       (device_after (Fault port slot error 0 fetched_command) old) new
   pub page_source_after_is : after_it ≡ says
 
 -- after some of what a step asks, or nothing of it
-abbrev pub FailsAfterPart : (Part FailsAndPosts : Device → Device → Type 0) → Device → Device → Type 0
-FailsAfterPart Part FailsAndPosts old new = (mid : Device) × ((mid ≡ old) ⊎ Part old mid) × FailsAndPosts mid new
+abbrev pub FailsAtOnceOrAfterPart : (Part FailsAndPosts : Device → Device → Type 0) → Device → Device → Type 0
+FailsAtOnceOrAfterPart Part FailsAndPosts old new = (mid : Device) × ((mid ≡ old) ⊎ Part old mid)
+    × FailsAndPosts mid new
 
 -- fewer sectors of the slot's trim were cleared than so many
 abbrev pub ClearsFewer : (port slot most : ℕ) → Device → Device → Type 0
@@ -251,9 +256,10 @@ StepFails (asked.Move p s) cached was now source_before source_after old new = F
     source_before source_after old
     new
 StepFails (asked.Clear p s most) cached was now source_before source_after old new =
-    FailsAfterPart (ClearsFewer p.0 s.0 most) (FailsToClear cached p.0 s.0 was now source_before source_after) old new
+    FailsAtOnceOrAfterPart (ClearsFewer p.0 s.0 most)
+    (FailsToClear cached p.0 s.0 was now source_before source_after) old new
 StepFails (asked.Finish p s) cached was now source_before source_after old new =
-    FailsAfterPart (SlotGoesOn (SendsEnd s.0) p.0 s.0)
+    FailsAtOnceOrAfterPart (DoesAtLeastOneSlotStep (SendsEnd s.0) p.0 s.0)
     (λ mid last. FailsToMove cached p.0 s.0 was now source_before source_after mid
     last
     ⊎ FailsToClear cached p.0 s.0 was now source_before source_after mid last) old new
@@ -270,11 +276,12 @@ abbrev pub is_cache_loss : DeviceStep → Bool
 is_cache_loss (asked.LosePlug p) = true
 is_cache_loss step = false
 
--- What was in the cache of the disk that is put in again is lost.
-abbrev pub LosesCacheIn : {S : Type 0} → (S → ℕ) → (S → Option (ℕ → List ℕ)) → (S → Option Failures) → Option (Bay S)
+-- The port has a bay before and after, and what was in its disk's cache, if it has one, is lost.
+abbrev pub HasBayAndLosesCache : {S : Type 0} → (S → ℕ) → (S → Option (ℕ → List ℕ)) → (S → Option Failures)
+    → Option (Bay S)
     → Option (Bay S) → Type 0
-LosesCacheIn size told failures (Some old) (Some new) = LosesCache size told failures old new
-LosesCacheIn size told failures _ _ = ⊥
+HasBayAndLosesCache size told failures (Some old) (Some new) = LosesCache size told failures old new
+HasBayAndLosesCache size told failures _ _ = ⊥
 
 -- The slot's command has ended since this state, just now, as the tape tells last: it is taken no more, and its bit is
 -- clear, of PxSACT if it was queued, and else of PxCI. A queued one has its bit of PxCI clear, too, if it was taken
@@ -321,13 +328,13 @@ pub record Completes {S : Type 0} (size : S → ℕ) (told : S → Option (ℕ �
       → EndsIfFinishAndClearsRunIfClear s (device_at size told old) (device_at size told
       new)
   pub lose_plug_loses_cache : is_cache_loss s ≡ true
-      → LosesCacheIn size told failures (bay_of old (asked_port s)) (bay_of new (asked_port s))
+      → HasBayAndLosesCache size told failures (bay_of old (asked_port s)) (bay_of new (asked_port s))
 
 -- its command fails
-abbrev pub CommandFails : {S : Type 0} → (S → ℕ) → (S → Option (ℕ → List ℕ)) → (S → Option Failures) → DeviceStep
+abbrev pub CommandOfStepFails : {S : Type 0} → (S → ℕ) → (S → Option (ℕ → List ℕ)) → (S → Option Failures) → DeviceStep
     → Model S
     → Model S → Type 0
-CommandFails size told failures s old new =
+CommandOfStepFails size told failures s old new =
     StepFails s (port_has_cache old (asked_port s)) (disk_failures failures old (asked_port s))
     (disk_failures failures new (asked_port s))
     (page_source_of old (asked_port s)) (page_source_of new (asked_port s))
@@ -340,7 +347,7 @@ CommandFails size told failures s old new =
 -- was.
 pub record DidStep {S : Type 0} (size : S → ℕ) (told : S → Option (ℕ → List ℕ)) (failures : S → Option Failures)
     (s : DeviceStep) (old new : Model S) : Type 0 where
-  pub completes_or_fails : Completes size told failures s old new ⊎ CommandFails size told failures s old new
+  pub completes_or_fails : Completes size told failures s old new ⊎ CommandOfStepFails size told failures s old new
   pub held_ports_are : new.held ≡ held_after s old.held
   pub disk_index_is : disk_index_of new (asked_port s) ≡ disk_index_after s (disk_index_of old (asked_port s))
   pub other_bays_are_kept : (port : ℕ) → port ≢ asked_port s → bay_of new port ≡ bay_of old port

@@ -5,7 +5,7 @@ use Rattle.std.specs.List.{slice_get}
 use Rattle.std.specs.declared.snapshot.Snapshot.{Snapshot}
 use Rattle.hba_regs.specs.Bits.{bit}
 use Rattle.device_model.specs.declared.port.TakenCommand.{TakenCommand}
-use Rattle.device_model.specs.declared.port.CommandKind.TheVariants.{Trim}
+use Rattle.adapter.specs.declared.command.Operation.TheVariants.{Trim}
 
 -- its bytes, where it was moved
 abbrev pub brought : Option (Snapshot (List ℕ)) → List ℕ
@@ -26,7 +26,7 @@ taken_list_from slot filled (room ∷ rooms) = (if bit filled slot then Some roo
 -- command has a number of 48 bits.
 pub record BlockIsOfTakenTrim (taken : ℕ → Option TakenCommand) (block : List ℕ) : Type 0 where
   pub trim_is_alone : (slot other : ℕ) (t u : TakenCommand) → taken slot ≡ Some t → taken other ≡ Some u →
-      t.command_kind ≡ Trim → other ≡ slot
+      t.operation ≡ Trim → other ≡ slot
   pub block_is : (slot : ℕ) (t : TakenCommand) (b : Snapshot (List ℕ)) → taken slot ≡ Some t → t.block ≡ Some b →
-      (t.command_kind ≡ Trim) × (b.value ≡ block)
+      (t.operation ≡ Trim) × (b.value ≡ block)
   pub first_in_range : (slot : ℕ) (t : TakenCommand) → taken slot ≡ Some t → t.first < 2 ^ 48

@@ -5,7 +5,7 @@ use Rattle.adapter.specs.Memory.{changed}
 use Rattle.adapter.specs.declared.command.Operation.{Operation}
 use Rattle.hba_regs.specs.declared.reg.Reg.{Reg}
 use Rattle.hba_regs.specs.declared.reg.Reg.TheVariants.{Px}
-use Rattle.device_model.specs.PortView.{Media, media_after_move, media_after_clear, media_after_end, port_of, blank_port}
+use Rattle.device_model.specs.PortView.{Media, media_after_move, media_after_clear, media_after_end, port_of, reset_port_without_disk}
 use Rattle.device_model.specs.declared.hardware.Hardware.{Hardware}
 
 -- what is outside the hardware: what is behind each port, and whether all disks tell their sectors
@@ -39,7 +39,7 @@ device_of h o =
       hr = h.hr;
       ae = h.ae;
       ie = h.ie;
-      port = λ port. port_of (slice_index_or h.ports port blank_port) (o.media port);
+      port = λ port. port_of (slice_index_or h.ports port reset_port_without_disk) (o.media port);
       tape = h.tape.items;
     }
 

@@ -1,16 +1,15 @@
 // The disks of a port, as a model has them.
 ghost use Rattle.std.specs.Prelude.{◌≡◌, ◌<◌, ◌≤◌, ◌+◌, ◌++◌, ◌∷◌, [], ℕ, List, Option, None, true, false, length, if◌then◌else◌, IfSome};
 ghost use Rattle.adapter.specs.{Commands.{is_ranged, reads_memory}, Device.{Disk, IsValidSector}, Steps.{disk_after, disk_cleared}};
-ghost use Rattle.device_model.specs.{WriteCaches.{CallFails, HasRoomForOldSectors, KeepsSameOldSectors, lasting_in}, Disks.{OnlyEndsCommand, BayEndsCommand, LosesCache, OnlyChangesPageSource, SelectsDisk, disk_over, identity, lasting_of, plugged_as}, PieceTransfers.{TransfersPiece, IsTransferred, piece_of}, Finishing.{CacheHasRoomForRestOfCommand, IsCommandBegun, NoneMayFinishOrLacksRoom}, ModelState.{AreNewDisks}};
-ghost use Rattle.device_model.specs.{DiskPages.{IsSentLog, IsSentIdentify, HasBitsFlipped, with_lie, with_logged_error, without_lies}, Trims.{sectors_left_to_write}, PortView.{operation_of_kind}, WholeAdapter.{AllMedia, device_of}, ZeroedSectors.{MakesZero}};
+ghost use Rattle.device_model.specs.{WriteCaches.{CallFails, HasRoomForOldSectors, KeepsSameOldSectors, lasting_in}, Disks.{OnlyEndsCommand, BayEndsCommand, LosesCache, OnlyChangesPageSource, SelectsDisk, disk_over, identity, lasting_of, plugged_as}, PieceTransfers.{TransfersPieceOrFails, IsTransferred, piece_of}, Finishing.{CacheHasRoomForRestOfCommand, IsCommandBegun, NoneMayFinishOrLacksRoom}, ModelState.{AreNewDisks}};
+ghost use Rattle.device_model.specs.{DiskPages.{IsSentLog, IsSentIdentify, HasBitsFlipped, with_lie, with_logged_error, without_lies}, Trims.{sectors_left_to_write}, WholeAdapter.{AllMedia, device_of}, ZeroedSectors.{MakesZero}};
 
 use crate::cache::{Cache, put_sector, roll_back};
 use crate::clearing::SectorExtent;
 use crate::disks::{DiskIndex, ModelDisk, PluggedDisks, PortDisks};
 use crate::hardware::Hardware;
-use crate::port::CommandKind;
 use crate::steps::{BegunCommand, NextMove};
-use adapter::DiskPage;
+use adapter::{DiskPage, Operation};
 use sector_store::SectorStore;
 use sector_store::pages::{Abilities, LoggedError, log_page};
 use std::alloc::Global;
@@ -141,26 +140,26 @@ impl<S: SectorStore> Bay<S> {
     /// bytes are as they were. A read is told how many pieces of its command come right behind this one.
     #[inline(always)]
     fn transfer_bytes(&mut self, next: NextMove, ahead: u32, bytes: &mut [u8; 512]) -> bool
-        requires { HasRoomForOldSectors self.old.cache (sectors_left_to_write (operation_of_kind next.command_kind) 1) }
-        ensures { TransfersPiece S.size S.told S.failures self.old self.new next bytes.old bytes.new result }
+        requires { HasRoomForOldSectors self.old.cache (sectors_left_to_write next.operation 1) }
+        ensures { TransfersPieceOrFails S.size S.told S.failures self.old self.new next bytes.old bytes.new result }
     {
-        match next.command_kind {
-            CommandKind::Read | CommandKind::ReadQueued => {
+        match next.operation {
+            Operation::Read | Operation::ReadQueued => {
                 self.disk.store.read_ahead(next.sector, ahead, bytes)
             }
-            CommandKind::Write | CommandKind::WriteQueued => {
+            Operation::Write | Operation::WriteQueued => {
                 put_sector(&mut self.disk.store, &mut self.cache, next.sector, bytes)
             }
-            CommandKind::Identify => {
+            Operation::Identify => {
                 self.give_identity(bytes);
                 true
             }
-            CommandKind::ReadLog => {
+            Operation::ReadLog => {
                 self.give_log(bytes);
                 true
             }
             // A trim's block is in memory. A flush has no piece that could bring anything.
-            CommandKind::Trim | CommandKind::Flush => true,
+            Operation::Trim | Operation::Flush => true,
         }
     }
 
@@ -169,8 +168,8 @@ impl<S: SectorStore> Bay<S> {
     fn transfer_within(&mut self, next: NextMove, ahead: u32, piece: &mut [u8]) -> bool
         requires long { length piece.old ≡ 512 }
         requires room { HasRoomForOldSectors self.old.cache (sectors_left_to_write
-            (operation_of_kind next.command_kind) 1) }
-        ensures { TransfersPiece S.size S.told S.failures self.old self.new next piece.old piece.new result }
+            next.operation 1) }
+        ensures { TransfersPieceOrFails S.size S.told S.failures self.old self.new next piece.old piece.new result }
     {
         let Some(bytes) = piece.as_mut_array() else {
             unreachable!()
@@ -184,8 +183,8 @@ impl<S: SectorStore> Bay<S> {
     pub fn transfer_piece(&mut self, hardware: &mut Hardware, next: NextMove, ahead: u32) -> bool
         requires inside { next.address + 512 ≤ length hardware.old.memory.items }
         requires room { HasRoomForOldSectors self.old.cache (sectors_left_to_write
-            (operation_of_kind next.command_kind) 1) }
-        ensures exchanges { TransfersPiece S.size S.told S.failures self.old self.new next
+            next.operation 1) }
+        ensures exchanges { TransfersPieceOrFails S.size S.told S.failures self.old self.new next
             (piece_of hardware.old next) (piece_of hardware.new next) result }
         ensures memory { IsTransferred hardware.old hardware.new next }
         ensures stays { result ≡ false → (o : AllMedia) → device_of hardware.new o ≡ device_of hardware.old o }
@@ -270,11 +269,11 @@ impl<S: SectorStore> Bay<S> {
     }
 
     /// Such a command has ended: a flush makes lasting what the disk that is in holds.
-    pub fn end(&mut self, command_kind: CommandKind)
-        ensures { BayEndsCommand (operation_of_kind command_kind) self.old self.new }
+    pub fn end(&mut self, operation: Operation)
+        ensures { BayEndsCommand operation self.old self.new }
     {
-        match command_kind {
-            CommandKind::Flush => {
+        match operation {
+            Operation::Flush => {
                 self.lasting = Snapshot::of(&self.disk.store);
                 self.cache.forget();
             }
@@ -290,7 +289,7 @@ impl<S: SectorStore> Bay<S> {
             mem::swap(&mut self.disk, &mut self.other);
             self.which = which;
             // Of another disk all is lasting, as after a flush.
-            self.end(CommandKind::Flush);
+            self.end(Operation::Flush);
         }
     }
 
@@ -325,13 +324,13 @@ impl<S: SectorStore> Bay<S> {
 pub fn note_end_of<S: SectorStore>(
     bays: &mut Vec<Option<Bay<S>>>,
     port: usize,
-    command_kind: CommandKind,
+    operation: Operation,
 )
-    ensures { OnlyEndsCommand (operation_of_kind command_kind) port bays.old.items bays.new.items }
+    ensures { OnlyEndsCommand operation port bays.old.items bays.new.items }
 {
     if port < bays.len() {
         if let Some(bay) = &mut bays[port] {
-            bay.end(command_kind);
+            bay.end(operation);
         }
     }
 }

@@ -1,12 +1,12 @@
 // What the bytes of a slot mean, read as the device reads them. Bytes past the end of the memory are zeros.
 ghost use Rattle.std.specs.Prelude.{Bool, ◌≡◌, ◌<◌, ◌≤◌, ◌+◌, ◌*◌, ◌^◌, ◌%◌, ℕ, List, [], true, false, None, Some, All, IfSome, IsTrue, ◌↔◌, length, slice_index};
-ghost use Rattle.adapter.specs.{Commands.{IsValidMeaning, Meaning, command_of, command_with_fields}, Memory.{bytes_at}, Decoding.{HasPrds, IsWholePieces, DecodesTo, pieces}, declared.command.Command.{Command}, Encoding.{AreZero, EncodesCommand, EncodesHeader, EncodesPrd}};
+ghost use Rattle.adapter.specs.{Commands.{IsValidMeaning, Meaning, command_of, command_with_fields, sends_page}, Memory.{bytes_at}, Decoding.{HasPrds, IsWholePieces, DecodesTo, pieces}, declared.command.Command.{Command}, Encoding.{AreZero, EncodesCommand, EncodesHeader, EncodesPrd}};
 ghost use Rattle.byteorder.specs.Endian.{little_from};
-ghost use Rattle.device_model.specs.{FetchedBytes.{HavePiecesOfPrds, IsNewlyTaken, bytes_of}, Finishing.{sends_page}, PortView.{operation_of_kind, taken_of}};
+ghost use Rattle.device_model.specs.{FetchedBytes.{HaveSamePiecesAsStoredPrds, IsNewlyTaken, bytes_of}, PortView.{taken_of}};
 
-use crate::port::{CommandKind, TakenCommand};
+use crate::port::TakenCommand;
 use crate::prds::PrdTable;
-use adapter::Prd;
+use adapter::{Operation, Prd};
 use ata_types::{
     DATA_SET_MANAGEMENT, FLUSH_CACHE_EXT, HEADER_BYTES, IDENTIFY_DEVICE, MOST_REQUEST_FRAMES,
     READ_DMA_EXT, READ_FPDMA_QUEUED, READ_LOG_EXT, TABLE_ALIGNMENT, TABLE_HEAD_BYTES,
@@ -205,27 +205,27 @@ fn decode_log(bytes: &[u8]) -> Option<Sectors>
 }
 
 /// The sectors that the bytes name, if they are the FIS of such a command in this slot; none where it names none.
-fn decode_sectors(bytes: &[u8], slot: u8, command_kind: CommandKind) -> Option<Sectors>
+fn decode_sectors(bytes: &[u8], slot: u8, operation: Operation) -> Option<Sectors>
     requires size { length bytes.now ≡ 20 }
     requires slot { slot < 32 }
     ensures found { IfSome result
-        (λ s. EncodesCommand bytes.now (command_of (operation_of_kind command_kind) slot s.first s.count)) }
+        (λ s. EncodesCommand bytes.now (command_of operation slot s.first s.count)) }
     ensures meant { IfSome result
         (λ s. IsValidMeaning
-        (record { operation = operation_of_kind command_kind; first = s.first; count = s.count })) }
+        (record { operation = operation; first = s.first; count = s.count })) }
     ensures only { (s : Sectors)
-        → IsValidMeaning (record { operation = operation_of_kind command_kind; first = s.first; count = s.count }) →
-        EncodesCommand bytes.now (command_of (operation_of_kind command_kind) slot s.first s.count) → result ≡ Some s }
+        → IsValidMeaning (record { operation = operation; first = s.first; count = s.count }) →
+        EncodesCommand bytes.now (command_of operation slot s.first s.count) → result ≡ Some s }
 {
-    match command_kind {
-        CommandKind::Read => decode_range(bytes, READ_DMA_EXT),
-        CommandKind::Write => decode_range(bytes, WRITE_DMA_EXT),
-        CommandKind::ReadQueued => decode_queued(bytes, READ_FPDMA_QUEUED, slot),
-        CommandKind::WriteQueued => decode_queued(bytes, WRITE_FPDMA_QUEUED, slot),
-        CommandKind::Identify => decode_bare(bytes, IDENTIFY_DEVICE, 0),
-        CommandKind::Flush => decode_bare(bytes, FLUSH_CACHE_EXT, 0),
-        CommandKind::Trim => decode_bare(bytes, DATA_SET_MANAGEMENT, 1),
-        CommandKind::ReadLog => decode_log(bytes),
+    match operation {
+        Operation::Read => decode_range(bytes, READ_DMA_EXT),
+        Operation::Write => decode_range(bytes, WRITE_DMA_EXT),
+        Operation::ReadQueued => decode_queued(bytes, READ_FPDMA_QUEUED, slot),
+        Operation::WriteQueued => decode_queued(bytes, WRITE_FPDMA_QUEUED, slot),
+        Operation::Identify => decode_bare(bytes, IDENTIFY_DEVICE, 0),
+        Operation::Flush => decode_bare(bytes, FLUSH_CACHE_EXT, 0),
+        Operation::Trim => decode_bare(bytes, DATA_SET_MANAGEMENT, 1),
+        Operation::ReadLog => decode_log(bytes),
     }
 }
 
@@ -288,7 +288,7 @@ fn read_prds(memory: &[u8], at: usize, number: usize, prds: &mut PrdTable) -> bo
     requires low { at < 2 ^ 32 + TABLE_HEAD_BYTES }
     requires few { number ≤ MOST_REQUEST_FRAMES }
     requires empty { prds.old ≡ [] }
-    ensures found { result ≡ true → HavePiecesOfPrds (bytes_of memory.now) at number prds.new }
+    ensures found { result ≡ true → HaveSamePiecesAsStoredPrds (bytes_of memory.now) at number prds.new }
     ensures only { result ≡ false → (es : List Prd) → length es ≡ number → HasPrds (bytes_of memory.now) at es
         → All IsWholePieces es → ⊥ }
 {
@@ -369,7 +369,7 @@ fn decode_command(
     header: &[u8; 32],
     fis: &[u8; 20],
     slot: u8,
-    command_kind: CommandKind,
+    operation: Operation,
     command: &mut TakenCommand,
 ) -> bool
     requires slot { slot < 32 }
@@ -378,16 +378,16 @@ fn decode_command(
     ensures found { result ≡ true → IsNewlyTaken command.new
         × ((list : ℕ) → header.now ≡ bytes_at (bytes_of memory.now) (list + HEADER_BYTES * slot) HEADER_BYTES →
         DecodesTo (bytes_of memory.now) list slot (taken_of command.new).meaning (taken_of command.new).places) }
-    ensures kind { result ≡ true → command.new.command_kind ≡ command_kind }
+    ensures operation { result ≡ true → command.new.operation ≡ operation }
     ensures only { result ≡ false → (list : ℕ)
         → header.now ≡ bytes_at (bytes_of memory.now) (list + HEADER_BYTES * slot) HEADER_BYTES →
-        (m : Meaning) (places : List ℕ) → m.operation ≡ operation_of_kind command_kind
+        (m : Meaning) (places : List ℕ) → m.operation ≡ operation
         → DecodesTo (bytes_of memory.now) list slot m places → ⊥ }
 {
-    let Some(header) = decode_header(header, command_kind.reads_memory()) else {
+    let Some(header) = decode_header(header, operation.reads_memory()) else {
         return false;
     };
-    let Some(sectors) = decode_sectors(fis, slot, command_kind) else {
+    let Some(sectors) = decode_sectors(fis, slot, operation) else {
         return false;
     };
     let entries = usize::from(header.entries);
@@ -402,10 +402,10 @@ fn decode_command(
     {
         return false;
     }
-    if count_pieces(command.prds.as_slice()) != command_kind.pieces(sectors.count) {
+    if count_pieces(command.prds.as_slice()) != operation.pieces(sectors.count) {
         return false;
     }
-    command.command_kind = command_kind;
+    command.operation = operation;
     command.first = sectors.first;
     command.count = sectors.count;
     command.moved = 0;
@@ -423,8 +423,8 @@ pub fn may_be_page_command(memory: &[u8], list: u32, slot: u8) -> bool
 {
     let header = header_bytes(memory, header_place(list, slot));
     let fis = command_fis_bytes(memory, &header);
-    match kind_of_code(fis[2]) {
-        Some(command_kind) => command_kind.sends_page(),
+    match operation_of_code(fis[2]) {
+        Some(operation) => operation.sends_page(),
         None => false,
     }
 }
@@ -434,18 +434,18 @@ pub fn decode_page_command(memory: &[u8], list: u32, slot: u8) -> Option<TakenCo
     requires { slot < 32 }
     ensures found { IfSome result (λ t. IsNewlyTaken t × DecodesTo (bytes_of memory.now) list slot (taken_of t).meaning
         (taken_of t).places) }
-    ensures kind { IfSome result (λ t. sends_page (operation_of_kind t.command_kind) ≡ true) }
+    ensures operation { IfSome result (λ t. sends_page t.operation ≡ true) }
     ensures complete { result ≡ None → (m : Meaning) (places : List ℕ) → sends_page m.operation ≡ true
         → DecodesTo (bytes_of memory.now) list slot m places → ⊥ }
 {
     let header = header_bytes(memory, header_place(list, slot));
     let fis = command_fis_bytes(memory, &header);
-    let command_kind = kind_of_code(fis[2])?;
-    if !command_kind.sends_page() {
+    let operation = operation_of_code(fis[2])?;
+    if !operation.sends_page() {
         return None;
     }
     let mut command = TakenCommand::room();
-    if decode_command(memory, &header, &fis, slot, command_kind, &mut command) {
+    if decode_command(memory, &header, &fis, slot, operation, &mut command) {
         Some(command)
     } else {
         None
@@ -460,21 +460,21 @@ fn header_place(list: u32, slot: u8) -> usize
     list as usize + HEADER_BYTES as usize * usize::from(slot)
 }
 
-/// The kind of command that has this code (ACS-3, 7).
-fn kind_of_code(code: u8) -> Option<CommandKind>
-    ensures { (command_kind : CommandKind) (slot first count : ℕ)
-        → (command_of (operation_of_kind command_kind) slot first count).code
-        ≡ code → result ≡ Some command_kind }
+/// The operation that has this code (ACS-3, 7).
+fn operation_of_code(code: u8) -> Option<Operation>
+    ensures { (operation : Operation) (slot first count : ℕ)
+        → (command_of operation slot first count).code
+        ≡ code → result ≡ Some operation }
 {
     match code {
-        READ_DMA_EXT => Some(CommandKind::Read),
-        WRITE_DMA_EXT => Some(CommandKind::Write),
-        READ_FPDMA_QUEUED => Some(CommandKind::ReadQueued),
-        WRITE_FPDMA_QUEUED => Some(CommandKind::WriteQueued),
-        IDENTIFY_DEVICE => Some(CommandKind::Identify),
-        FLUSH_CACHE_EXT => Some(CommandKind::Flush),
-        DATA_SET_MANAGEMENT => Some(CommandKind::Trim),
-        READ_LOG_EXT => Some(CommandKind::ReadLog),
+        READ_DMA_EXT => Some(Operation::Read),
+        WRITE_DMA_EXT => Some(Operation::Write),
+        READ_FPDMA_QUEUED => Some(Operation::ReadQueued),
+        WRITE_FPDMA_QUEUED => Some(Operation::WriteQueued),
+        IDENTIFY_DEVICE => Some(Operation::Identify),
+        FLUSH_CACHE_EXT => Some(Operation::Flush),
+        DATA_SET_MANAGEMENT => Some(Operation::Trim),
+        READ_LOG_EXT => Some(Operation::ReadLog),
         _ => None,
     }
 }
@@ -492,8 +492,8 @@ pub fn decode_into(memory: &[u8], list: u32, slot: u8, command: &mut TakenComman
 {
     let header = header_bytes(memory, header_place(list, slot));
     let fis = command_fis_bytes(memory, &header);
-    match kind_of_code(fis[2]) {
-        Some(command_kind) => decode_command(memory, &header, &fis, slot, command_kind, command),
+    match operation_of_code(fis[2]) {
+        Some(operation) => decode_command(memory, &header, &fis, slot, operation, command),
         None => false,
     }
 }

@@ -1,9 +1,9 @@
 // Whether a fault has halted a port, and what goes on then (AHCI 1.3.1, 6.2.2; ACS-3, 4.15).
 ghost use Rattle.std.specs.Prelude.{◌≡◌};
 ghost use Rattle.adapter.specs.Steps.{admits, halt_after_fault, halt_after_start};
-ghost use Rattle.device_model.specs.PortView.{halt_of, operation_of_kind};
+ghost use Rattle.device_model.specs.PortView.{halt_of};
 
-use crate::port::CommandKind;
+use adapter::Operation;
 
 /// What a fault has made of a port. A fault needs no disk in, and may come to a port that is halted already: the halt
 /// is then of the kind of the last.
@@ -21,12 +21,12 @@ pub enum Halting {
 
 impl Halting {
     /// Whether such a command goes on.
-    pub fn admits(self, command_kind: CommandKind) -> bool
-        ensures { result ≡ admits (halt_of self) (operation_of_kind command_kind) }
+    pub fn admits(self, operation: Operation) -> bool
+        ensures { result ≡ admits (halt_of self) operation }
     {
         match self {
             Halting::NotHalted => true,
-            Halting::LogOnly => matches!(command_kind, CommandKind::ReadLog),
+            Halting::LogOnly => matches!(operation, Operation::ReadLog),
             Halting::HaltedPlain | Halting::HaltedQueued => false,
         }
     }

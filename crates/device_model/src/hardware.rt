@@ -1,8 +1,8 @@
 // The model without its disks.
 ghost use Rattle.std.specs.Prelude.{Bool, List, ◌≡◌, ◌≢◌, ◌+◌, ◌<◌, ◌≤◌, ◌++◌, ℕ, true, false, if◌then◌else◌, All, length, take, drop, slice_index_or};
-ghost use Rattle.adapter.specs.{Access.{Shows, is_pending, device_after_reading, device_after_write, port_after_hba_is_write}, Memory.{patched, bytes_at}, Device.{Device}, Steps.{device_after, port_after_reset}, Steps.DeviceTransition.{ResetEnds}};
+ghost use Rattle.adapter.specs.{Access.{Shows, is_ips_set, device_after_reading, device_after_write, port_after_hba_is_write}, Memory.{patched, bytes_at}, Device.{Device}, Steps.{device_after, port_after_reset}, Steps.DeviceTransition.{ResetEnds}};
 ghost use Rattle.hba_regs.specs.Bits.{bit};
-ghost use Rattle.device_model.specs.{HeldPorts.{IsPortReleased, all_held}, ModelOwnSteps.{EndsPendingResetUnlessAllHeld, IsSettled, IsSettledPort, LeadsBySteps, Settles, KeepsPortCountHrTapeAndStarved}, PortView.{Media, port_of, blank_port}, WholeAdapter.{AllMedia, device_of, HasRegister}};
+ghost use Rattle.device_model.specs.{HeldPorts.{IsPortReleased, all_held}, ModelOwnSteps.{EndsPendingResetUnlessAllHeld, IsSettled, IsSettledPort, LeadsBySteps, Settles, KeepsPortCountHrTapeAndStarved}, PortView.{Media, port_of, reset_port_without_disk}, WholeAdapter.{AllMedia, device_of, HasRegister}};
 
 use crate::bits::bit_if;
 use crate::command_room::CommandBuffer;
@@ -59,10 +59,10 @@ fn copy_from_memory(memory: &[u8], at: usize, out: &mut [u8])
 
 /// Bits of IS were written.
 fn clear_is_bit(ports: &mut [PortModel; 4], value: u32)
-    ensures { (m : Media) (port : ℕ) → port_of (slice_index_or ports.new port blank_port) m ≡
-        (if bit value port then port_after_hba_is_write (port_of (slice_index_or ports.old port blank_port) m) else
-        port_of
-        (slice_index_or ports.old port blank_port) m) }
+    ensures { (m : Media) (port : ℕ) → port_of (slice_index_or ports.new port reset_port_without_disk) m ≡
+        (if bit value port then port_after_hba_is_write
+        (port_of (slice_index_or ports.old port reset_port_without_disk) m) else
+        port_of (slice_index_or ports.old port reset_port_without_disk) m) }
 {
     for port in 0..4u32 {
         if is_set(value, port) {
@@ -74,23 +74,23 @@ fn clear_is_bit(ports: &mut [PortModel; 4], value: u32)
 /// Each port, where a reset of the adapter has ended.
 fn reset_all(ports: &mut [PortModel; 4])
     ensures size { length ports.new ≡ length ports.old }
-    ensures each { (m : Media) (port : ℕ) → port_of (slice_index_or ports.new port blank_port) m
-        ≡ port_after_reset (port_of (slice_index_or ports.old port blank_port) m) }
+    ensures each { (m : Media) (port : ℕ) → port_of (slice_index_or ports.new port reset_port_without_disk) m
+        ≡ port_after_reset (port_of (slice_index_or ports.old port reset_port_without_disk) m) }
 {
     for port in 0..4 {
-        ports[port].reset();
+        ports[port].apply_hba_reset();
     }
 }
 
 /// IS: the bits of the four ports (AHCI 1.3.1, 3.1.3).
 fn pending(ports: &[PortModel; 4]) -> u32
     ensures { (m : Media) (port : ℕ) → port < 32
-        → bit result port ≡ is_pending (port_of (slice_index_or ports.now port blank_port) m) }
+        → bit result port ≡ is_ips_set (port_of (slice_index_or ports.now port reset_port_without_disk) m) }
 {
-    bit_if(ports[0].is_pending(), 0)
-        | bit_if(ports[1].is_pending(), 1)
-        | bit_if(ports[2].is_pending(), 2)
-        | bit_if(ports[3].is_pending(), 3)
+    bit_if(ports[0].is_ips_set(), 0)
+        | bit_if(ports[1].is_ips_set(), 1)
+        | bit_if(ports[2].is_ips_set(), 2)
+        | bit_if(ports[3].is_ips_set(), 3)
 }
 
 impl Hardware {
@@ -110,15 +110,15 @@ impl Hardware {
         }
     }
 
-    /// Notes what a register showed.
-    pub fn note_reading(&mut self, r: Reg, value: u32)
+    /// Updates the notes of readings by what a register showed.
+    pub fn update_read_notes(&mut self, r: Reg, value: u32)
         requires { HasRegister r }
         ensures notes { (o : AllMedia) → device_of self.new o ≡ device_after_reading r value (device_of self.old o) }
         ensures tape { self.new.tape ≡ self.old.tape }
         ensures starved { self.new.starved ≡ self.old.starved }
     {
         if let Reg::Px(port, r) = r {
-            self.ports[usize::from(port.0)].note_reading(r, value);
+            self.ports[usize::from(port.0)].update_read_notes(r, value);
         }
     }
 
@@ -134,7 +134,7 @@ impl Hardware {
     }
 
     /// Writes a register.
-    pub fn write(&mut self, r: Reg, value: u32)
+    pub fn apply_register_write(&mut self, r: Reg, value: u32)
         requires { HasRegister r }
         ensures written { (o : AllMedia)
             → device_of self.new o ≡ device_after_write r value (device_of self.old o) }
@@ -210,16 +210,16 @@ impl Hardware {
             q }
         ensures spares { KeepsPortCountHrTapeAndStarved self.old self.new }
     {
-        self.ports[port].settle_state();
+        self.ports[port].settle_engines();
         if self.ports[port].link() {
             self.send_signature(port);
         }
     }
 
     /// What the adapter does by itself before a register is read: a pending reset ends unless all ports are held, and
-    /// ends all holds; then each port that isn't held does what it does by itself. Afterwards none of this is possible
-    /// any more.
-    pub fn settle_state(&mut self, held: &mut [bool; PORTS])
+    /// ends all holds; then, on each port that isn't held, the engines stop that may, and the link comes up if it may.
+    /// Afterwards none of this is possible any more.
+    pub fn settle_reset_engines_and_links(&mut self, held: &mut [bool; PORTS])
         ensures own { (o : AllMedia) → (reset : Device)
             × EndsPendingResetUnlessAllHeld held.old held.new (device_of self.old o) reset
             × LeadsBySteps (Settles held.new) reset (device_of self.new o) }

@@ -1,6 +1,6 @@
 // When a port's interrupt is pending (AHCI 1.3.1, 3.1.3, 3.3.5 and 3.3.6).
 ghost use Rattle.std.specs.Prelude.{ℕ, ◌≡◌, ◌<◌};
-ghost use Rattle.adapter.specs.Access.{enables_unnamed_causes, is_pending, raises_cause, raises_interrupt, shown_interrupt};
+ghost use Rattle.adapter.specs.Access.{enables_unnamed_causes, is_ips_set, raises_cause, raises_interrupt, shown_interrupt};
 ghost use Rattle.hba_regs.specs.Bits.{bit};
 ghost use Rattle.device_model.specs.PortView.{Media, port_of};
 
@@ -71,16 +71,16 @@ impl PortModel {
     }
 
     /// The port's bit of IS.
-    pub fn is_pending(&self) -> bool
-        ensures { (m : Media) → result ≡ is_pending (port_of self.now m) }
+    pub fn is_ips_set(&self) -> bool
+        ensures { (m : Media) → result ≡ is_ips_set (port_of self.now m) }
     {
         self.ips | self.raises_interrupt()
     }
     /// Causes may go: the port's bit of IS stays (AHCI 1.3.1, 3.1.3).
     pub fn latch(&mut self)
         ensures { (m : Media) → port_of self.new m ≡ record (port_of self.old m)
-            { ips_latched = is_pending (port_of self.old m) } }
+            { ips_latched = is_ips_set (port_of self.old m) } }
     {
-        self.ips = self.is_pending();
+        self.ips = self.is_ips_set();
     }
 }

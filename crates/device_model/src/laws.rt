@@ -2,15 +2,15 @@
 ghost use Rattle.std.specs.Prelude.{◌≡◌, ◌≢◌, ◌+◌, ◌<◌, ◌≤◌, ◌⊎◌, true, false, is_some, ℕ, Bool, List, Some, All};
 ghost use Rattle.ata_types.specs.{declared.Port.{Port}, declared.Slot.{Slot}};
 ghost use Rattle.adapter.specs.{Commands.{Meaning, is_queued}, Device.{Device, FetchedCommand}, Idle.{DisksAreKnownIfTelling}, Steps.{Can, IsFinished, WorksOn, next_place}, Steps.DeviceTransition.{Clear, Fetch, Move}, declared.access.DeviceStep.{DeviceStep}};
-ghost use Rattle.device_model.specs.{WriteCaches.{sector_told}, Disks.{bay_of, numbered_disk, lasting_of, disk_index_of}, StepEffects.{DidStep, IsPossible, PutsDiskIntoPort}, Finishing.{HasDisksOrIsRanged}, HeldPorts.{IsPortHeld}, ModelState.{device_at}, Queue.{AnswersEachStep}, ModelOwnSteps.{DoesSpontaneousSteps}, declared.bay.Bay.{Bay}, declared.disks.DiskIndex.{DiskIndex}};
+ghost use Rattle.device_model.specs.{WriteCaches.{sector_told}, Disks.{bay_of, numbered_disk, lasting_of, disk_index_of}, StepEffects.{DidStep, IsPossible, PutsDiskIntoPort}, Finishing.{HasDisksOrOperationIsRanged}, HeldPorts.{IsPortHeld}, ModelState.{device_at}, Queue.{AnswersEachStep}, ModelOwnSteps.{DoesSpontaneousSteps}, declared.bay.Bay.{Bay}, declared.disks.DiskIndex.{DiskIndex}};
 ghost use Rattle.adapter.specs.declared.access.DeviceStep.TheVariants as asked;
 
 use crate::Model;
 use sector_store::SectorStore;
 
-/// A model's disks tell their sectors if it is one that tells, whatever it did since it was made. Over stores that tell
-/// theirs at all times, as those in memory do, each model is one that tells.
-pub fn law_disks_tell_sectors<S: SectorStore>()
+/// The sectors of a model's disks are known if it is one that tells, whatever it did since it was made. Over stores
+/// that tell theirs at all times, as those in memory do, each model is one that tells.
+pub fn law_disk_sectors_are_known_if_telling<S: SectorStore>()
     ensures tells { (m : Model S) → DisksAreKnownIfTelling (device_at S.size S.told m) }
     ensures telling { ((store : S) → is_some (S.told store) ≡ true) → (m : Model S)
         → (device_at S.size S.told m).telling ≡ true }
@@ -18,16 +18,16 @@ pub fn law_disks_tell_sectors<S: SectorStore>()
 
 /// A move that the device may make, on a port that has a disk, is possible for a model where its piece is in the
 /// memory.
-pub fn law_moves_are_possible<S: SectorStore>()
+pub fn law_device_moves_are_model_possible<S: SectorStore>()
     ensures { (m : Model S) (p : Port) (slot : Slot) (t : FetchedCommand) (bytes : List ℕ) → slot.0 < 32
-        → HasDisksOrIsRanged (device_at S.size S.told m) p.0 t.meaning.operation →
+        → HasDisksOrOperationIsRanged (device_at S.size S.told m) p.0 t.meaning.operation →
         next_place t + 512 ≤ (device_at S.size S.told m).memory_size
         → Can (Move p.0 slot.0 t bytes) (device_at S.size S.told m)
         → IsPossible (asked.Move p slot) (device_at S.size S.told m) }
 {}
 
 /// A clear that the device may make, of a sector at least, is possible for a model.
-pub fn law_clears_are_possible<S: SectorStore>()
+pub fn law_device_clears_are_model_possible<S: SectorStore>()
     ensures { (m : Model S) (p : Port) (slot : Slot) (t : FetchedCommand) (first count : ℕ) → slot.0 < 32 → 1 ≤ count →
         Can (Clear p.0 slot.0 t first count) (device_at S.size S.told m)
         → IsPossible (asked.Clear p slot count) (device_at S.size S.told m) }

@@ -24,6 +24,7 @@ mod interrupts;
 pub mod laws;
 mod model;
 mod old_sectors;
+mod operations;
 mod port;
 mod prds;
 mod registers;

@@ -1,9 +1,9 @@
 // The model as an adapter.
 ghost use Rattle.std.specs.{Prelude.{◌≡◌, ◌≢◌, ◌↔◌, ◌<◌, ◌≤◌, ◌+◌, ◌-◌, ◌*◌, ◌^◌, ◌⊎◌, ◌++◌, ◌∷◌, [], ℕ, Bool, List, true, false, is_some, None, Some, ◌&&◌, min, max, map, length, slice_index, slice_index_or, slice_set, IsTrue, IfSome, IfOk, OnOk, OnErr}, Vec.{vec_len, vec_capacity}};
-ghost use Rattle.adapter.specs.{Commands.{is_ranged, reads_memory}, Device.{Disk, IsValidSector, FetchedCommand}, Access.{Reads, Writes, Loads, Stores, Shows, device_after_write}, Memory.{bytes_at, patched}, Rules.{MayRead, MayWrite, IsUnowned, IsStable}, Steps.{Steps, disk_after, disk_cleared, next_place}, AskedSteps.{DoesOrFailsStep}, OneCommand.{IsFreeSlot}};
+ghost use Rattle.adapter.specs.{Commands.{is_ranged, reads_memory, sends_page}, Device.{Disk, IsValidSector, FetchedCommand}, Access.{Reads, Writes, Loads, Stores, Shows, device_after_write}, Memory.{bytes_at, patched}, Rules.{MayRead, MayWrite, IsInMemoryNotOwnedByDevice, IsStable}, Steps.{Steps, disk_after, disk_cleared, next_place}, AskedSteps.{DoesOrFailsStep}, OneCommand.{IsFreeSlot}};
 ghost use Rattle.sector_store.specs.Stores.{HasOneMoreFailure};
-ghost use Rattle.device_model.specs.{FetchedBytes.{bytes_of}, Disks.{OnlyEndsCommand, ModelHasRoomForOldSectors, OnlyChangesPageSource, numbered_disk, disks_given_for, port_0_alone}, PortView.{operation_of_kind}, Finishing.{FindsPageCommandAndWhetherItCanEnd, HasFinishablePageCommand, HasMove, TapeHasRoom, HasTakenCommand, MayTakePageCommand, sends_page}, HeldPorts.{IsPortReleased}, DiskPages.{with_lie, with_logged_error, without_lies}, PageTaking.{TakesPageCommand}};
-ghost use Rattle.device_model.specs.{StepEffects.{AnswersStep, Completes, OwnStepsKeep, HasCleared, IsPossible, CommandFails, KeepsRoomForNext, is_step_not_skipped, asked_fault}, ToldDisks.{all_disks_have_known_sectors}, Queue.{BeginsAccess, DoesRead, AppliesEffect}, ModelState.{IsNewBay, IsNewMedia, IsNewModel, all_given_disks_tell, all_bay_stores_are_known, cap_of, device_at, given_disks_tell, media_of, tells}, Slots.{IsNextMove}};
+ghost use Rattle.device_model.specs.{FetchedBytes.{bytes_of}, Disks.{OnlyEndsCommand, ModelHasRoomForOldSectors, OnlyChangesPageSource, numbered_disk, disks_given_for, port_0_alone}, Finishing.{FindsPageCommandAndWhetherItCanEnd, HasFinishablePageCommand, HasMove, TapeHasRoom, HasTakenCommand, MayTakePageCommand}, HeldPorts.{IsPortReleased}, DiskPages.{with_lie, with_logged_error, without_lies}, PageTaking.{TakesPageCommandUnlessOneIsTaken}};
+ghost use Rattle.device_model.specs.{StepEffects.{AnswersStep, Completes, OwnStepsKeep, HasCleared, IsPossible, CommandOfStepFails, KeepsRoomForNext, is_step_not_skipped, asked_fault}, ToldDisks.{all_disks_have_known_sectors}, Queue.{BeginsAccess, DoesRead, AppliesEffect}, ModelState.{IsNewBay, IsNewMedia, IsNewModel, all_given_disks_tell, all_bay_stores_are_known, cap_of, device_at, given_disks_tell, media_of, tells}, Slots.{IsNextMove}};
 ghost use Rattle.device_model.specs.{declared.port.TakenCommand.{TakenCommand}, ModelOwnSteps.{SendsPages, IsSettled, LeadsBySteps, LeavesPageWithoutMemory, PageCommandWaitsOnlyIfHeldOrStarved}, Trims.{next_run_length, sectors_left_to_write}, WholeAdapter.{HasDisks, HasRegister}};
 
 use crate::bay::{Bay, PAGE_BYTES, add_lie_of, end_lies, log_failed, note_end_of};
@@ -12,10 +12,11 @@ use crate::command_room::CommandBuffer;
 use crate::config::{ModelConfig, NoMemory};
 use crate::disks::{DiskIndex, Disks, PortDisks};
 use crate::hardware::Hardware;
-use crate::port::{CommandKind, PortModel};
+use crate::operations::sectors_to_write;
+use crate::port::PortModel;
 use crate::steps::{BegunCommand, NextMove, PendingPageCommand};
 use adapter::{
-    AccessCounter, Adapter, DeviceStep, DiskNumber, DiskPage, Entry, FatalError, Stepped,
+    AccessCounter, Adapter, DeviceStep, DiskNumber, DiskPage, Entry, FatalError, Operation, Stepped,
 };
 use ata_types::{FEWEST_FRAMES, FRAME_BYTES, MOST_FRAMES, PORTS, Port, Slot};
 use hba_regs::Reg;
@@ -262,10 +263,10 @@ impl<S: SectorStore> Model<S> {
         if port.0 >= 4 || slot.0 >= 32 {
             return false;
         }
-        let Some(command_kind) = self.hardware.done(port.0, slot.0) else {
+        let Some(operation) = self.hardware.done(port.0, slot.0) else {
             return false;
         };
-        note_end_of(&mut self.bays, usize::from(port.0), command_kind);
+        note_end_of(&mut self.bays, usize::from(port.0), operation);
         true
     }
 
@@ -372,7 +373,8 @@ impl<S: SectorStore> Model<S> {
         ensures whole { result ≡ StepOutcome.Done
             → Completes S.size S.told S.failures (DeviceStep.Move port slot) self.old
             self.new }
-        ensures failed { result ≡ StepOutcome.Failed → CommandFails S.size S.told S.failures (DeviceStep.Move port slot)
+        ensures failed { result ≡ StepOutcome.Failed
+            → CommandOfStepFails S.size S.told S.failures (DeviceStep.Move port slot)
             self.old self.new }
         ensures readies { result ≡ StepOutcome.Done → KeepsRoomForNext S.size S.told port.0 slot.0 known.new self.old
             self.new }
@@ -402,7 +404,7 @@ impl<S: SectorStore> Model<S> {
             let _failed = self.fail(port, slot, PAST_THE_DISK, false);
             return StepOutcome::Failed;
         }
-        if !bay.reserve(next.command_kind.sectors_to_write(1)) {
+        if !bay.reserve(sectors_to_write(next.operation, 1)) {
             self.hardware.starved = true;
             return StepOutcome::Skipped;
         }
@@ -435,7 +437,7 @@ impl<S: SectorStore> Model<S> {
             → HasCleared (device_at S.size S.told self.old) (device_at S.size S.told self.new) port.0 slot.0 most
             × Completes S.size S.told S.failures (DeviceStep.Clear port slot most) self.old self.new }
         ensures failed { result ≡ StepOutcome.Failed
-            → CommandFails S.size S.told S.failures (DeviceStep.Clear port slot most)
+            → CommandOfStepFails S.size S.told S.failures (DeviceStep.Clear port slot most)
             self.old self.new }
         ensures left { result ≡ StepOutcome.Done → (n : ℕ) → TapeHasRoom self.old.hardware (n + 1)
             → TapeHasRoom self.new.hardware n }
@@ -536,7 +538,7 @@ impl<S: SectorStore> Model<S> {
         requires small { slot < 32 }
         requires there { MayTakePageCommand (device_at S.size S.told self.old) port slot
             ⊎ HasFinishablePageCommand (device_at S.size S.told self.old) port slot }
-        ensures { TakesPageCommand S.size S.told port slot self.old self.new }
+        ensures { TakesPageCommandUnlessOneIsTaken S.size S.told port slot self.old self.new }
     {
         let _taken = self.hardware.fetch(port, slot);
     }
@@ -729,10 +731,10 @@ impl<S: SectorStore> Adapter for Model<S> {
         ensures does_read { DoesRead S.size S.told S.failures r result self.old self.new }
     {
         self.do_queued_steps();
-        self.hardware.settle_state(&mut self.held);
+        self.hardware.settle_reset_engines_and_links(&mut self.held);
         self.send_pages();
         let value = self.hardware.shown(r);
-        self.hardware.note_reading(r, value);
+        self.hardware.update_read_notes(r, value);
         value
     }
 
@@ -743,11 +745,11 @@ impl<S: SectorStore> Adapter for Model<S> {
         ensures applies_effect { AppliesEffect S.size S.told S.failures (device_after_write r v) self.old self.new }
     {
         self.do_queued_steps();
-        self.hardware.write(r, v);
+        self.hardware.apply_register_write(r, v);
     }
 
     fn load(&mut self, addr: u32, out: &mut [u8])
-        requires { IsStable (IsUnowned addr (length out.old)) (device_at S.size S.told self.old) }
+        requires { IsStable (IsInMemoryNotOwnedByDevice addr (length out.old)) (device_at S.size S.told self.old) }
         ensures loads { Loads addr out.new (device_at S.size S.told self.old) (device_at S.size S.told self.new) }
         ensures counted { self.new.accesses.count.made ≡ self.old.accesses.count.made + 1 }
         ensures begins_access { BeginsAccess S.size S.told S.failures self.old self.new }
@@ -757,7 +759,7 @@ impl<S: SectorStore> Adapter for Model<S> {
     }
 
     fn store(&mut self, addr: u32, bytes: &[u8])
-        requires { IsStable (IsUnowned addr (length bytes.now)) (device_at S.size S.told self.old) }
+        requires { IsStable (IsInMemoryNotOwnedByDevice addr (length bytes.now)) (device_at S.size S.told self.old) }
         ensures stores { Stores addr bytes.now (device_at S.size S.told self.old) (device_at S.size S.told self.new) }
         ensures counted { self.new.accesses.count.made ≡ self.old.accesses.count.made + 1 }
         ensures applies_effect { AppliesEffect S.size S.told S.failures

@@ -1,6 +1,6 @@
 // What the sectors of a disk with a volatile write cache held before they were changed.
 ghost use Rattle.std.specs.{Prelude.{◌≡◌, ◌≤◌, ◌<◌, ◌+◌, ℕ, None, IfSome, IfOk, IfErr, [], true, false, is_some}, Vec.{vec_len, vec_capacity}};
-ghost use Rattle.device_model.specs.OldSectors.{AreRising, IsGapFor, IsOldAt, AddsOldSector, old_bytes_of};
+ghost use Rattle.device_model.specs.OldSectors.{AreRising, IsGapFor, IsOldAt, SetsOldBytesOfSector, old_bytes_of};
 
 use std::alloc::Global;
 
@@ -66,7 +66,7 @@ impl OldSectors {
     pub fn keep(&mut self, place: usize, sector: u64, bytes: &[u8; 512])
         requires gap { IsGapFor self.old.sectors.items sector place }
         requires room { vec_len self.old.sectors < vec_capacity self.old.sectors }
-        ensures keeps { AddsOldSector self.old.sectors.items self.new.sectors.items sector bytes.now }
+        ensures keeps { SetsOldBytesOfSector self.old.sectors.items self.new.sectors.items sector bytes.now }
         ensures room_is_left { (n : ℕ) → vec_len self.old.sectors + (n + 1) ≤ vec_capacity self.old.sectors
             → vec_len self.new.sectors + n ≤ vec_capacity self.new.sectors }
     {

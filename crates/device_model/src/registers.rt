@@ -1,6 +1,6 @@
 // What the registers of a port show, and what a write does.
 ghost use Rattle.std.specs.Prelude.{◌≡◌, ℕ, true, false};
-ghost use Rattle.adapter.specs.{AskedSteps.{fatal_bit}, Memory.{changed}, Access.{PortShows, notes_after_reading, port_after_write, port_after_hba_is_write, count_after_reading as count_after, link_count_after_reading as link_count_after}};
+ghost use Rattle.adapter.specs.{AskedSteps.{fatal_bit}, Memory.{changed}, Access.{PortShows, notes_after_reading, port_after_write, port_after_hba_is_write, count_after_reading as count_after, link_wait_count_full_once_linked as expected_link_wait_count}};
 ghost use Rattle.device_model.specs.PortView.{Media, port_of};
 
 use crate::bits::{bit_if, with_bit_as, without_ones};
@@ -21,9 +21,9 @@ fn count_after_reading(again: bool, count: u32) -> u32
     }
 }
 
-/// The count of SSTS after one more reading.
-fn link_count_after_reading(det: u32, count: u32) -> u32
-    ensures { result ≡ link_count_after det count }
+/// How many readings of PxSSTS showed no device, after one more: full once one showed a device.
+fn link_wait_count_full_once_linked(det: u32, count: u32) -> u32
+    ensures { result ≡ expected_link_wait_count det count }
 {
     if det == 3 {
         MOST_READINGS
@@ -71,8 +71,8 @@ impl PortModel {
         }
     }
 
-    /// Notes what a register showed.
-    pub fn note_reading(&mut self, r: PortReg, value: u32)
+    /// Updates the notes of readings by what a register showed.
+    pub fn update_read_notes(&mut self, r: PortReg, value: u32)
         ensures { (m : Media) → port_of self.new m ≡ record (port_of self.old m)
             { notes = notes_after_reading r value (port_of self.old m) } }
     {
@@ -89,7 +89,7 @@ impl PortModel {
             PortReg::Ssts => {
                 self.readings.last_ssts = value;
                 if no_comreset {
-                    self.readings.link_wait_count = link_count_after_reading(
+                    self.readings.link_wait_count = link_wait_count_full_once_linked(
                         value % 16,
                         self.readings.link_wait_count,
                     );
@@ -232,7 +232,7 @@ impl PortModel {
     }
 
     /// The disk is taken out (AHCI 1.3.1, 3.3.10 and 3.3.12).
-    pub fn unplug(&mut self)
+    pub fn note_disk_out(&mut self)
         ensures { (m : Media) → port_of self.new m ≡ record (port_of self.old m)
             { ssts_det = 0; present = false; fresh = false; serr_n = true } }
     {
@@ -242,9 +242,9 @@ impl PortModel {
         self.serr_n = true;
     }
 
-    /// A disk is put in, and its link is up (AHCI 1.3.1, 3.3.10 and 3.3.12). The tape was so long when it last ended a
-    /// flush, or else when it was first in.
-    pub fn plug(&mut self, lasting_at: usize)
+    /// A disk is put in, and PxSSTS.DET is 3; its first FIS hasn't come (AHCI 1.3.1, 3.3.10 and 3.3.12). The tape was
+    /// so long when it last ended a flush, or else when it was first in.
+    pub fn note_disk_in_with_det_3(&mut self, lasting_at: usize)
         ensures { (m : Media) → port_of self.new m ≡ record (port_of self.old m) {
           ssts_det = 3;
           present = true;

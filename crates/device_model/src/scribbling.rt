@@ -2,8 +2,8 @@
 // that is taken (AHCI 1.3.1, 4.2.1 and 4.2.2).
 ghost use Rattle.std.specs.Prelude.{◌≡◌, ◌+◌, ◌*◌, ◌<◌, ◌≤◌, ◌^◌, ℕ, false, true, if◌then◌else◌, is_some, length, nat_le, replicate, slice_index_or};
 ghost use Rattle.ata_types.specs.declared.memory.TheConstants.{HEADER_BYTES};
-ghost use Rattle.adapter.specs.{AskedSteps.{DoesScribble, memory_filled}, Memory.{patched}};
-ghost use Rattle.device_model.specs.{FetchedBytes.{bytes_of}, PortView.{blank_port, taken_in}, WholeAdapter.{AllMedia, device_of}};
+ghost use Rattle.adapter.specs.{AskedSteps.{DoesScribble, memory_filled_if_all_inside}, Memory.{patched}};
+ghost use Rattle.device_model.specs.{FetchedBytes.{bytes_of}, PortView.{reset_port_without_disk, taken_in}, WholeAdapter.{AllMedia, device_of}};
 
 use crate::hardware::{Hardware, put};
 use adapter::laws::law_scribble_slot_by_slot;
@@ -32,10 +32,10 @@ impl Hardware {
         requires port { port < 4 }
         requires slot { slot < 32 }
         ensures filled { bytes_of self.new.memory.items ≡
-            (if is_some (taken_in (slice_index_or self.old.ports port blank_port).taken slot) then
-            memory_filled (length self.old.memory.items)
-            ((slice_index_or self.old.ports port blank_port).addresses.clb + HEADER_BYTES * slot + 4) 4 byte
-            (bytes_of self.old.memory.items) else bytes_of self.old.memory.items) }
+            (if is_some (taken_in (slice_index_or self.old.ports port reset_port_without_disk).taken slot) then
+            memory_filled_if_all_inside (length self.old.memory.items)
+            ((slice_index_or self.old.ports port reset_port_without_disk).addresses.clb + HEADER_BYTES * slot + 4) 4
+            byte (bytes_of self.old.memory.items) else bytes_of self.old.memory.items) }
         ensures size { length self.new.memory.items ≡ length self.old.memory.items }
         ensures rest { self.new ≡ record self.old { memory = self.new.memory } }
     {

@@ -1,10 +1,11 @@
 // The FISes that the model sends, in the received FIS area of a port (Serial ATA; AHCI 1.3.1, 4.2.1).
 ghost use Rattle.std.specs.Prelude.{◌≡◌, ◌+◌, ◌<◌, ◌≤◌, ◌/◌, ◌%◌, true, false, length};
 ghost use Rattle.ata_types.specs.declared.memory.TheConstants.{RECEIVED_FIS_BYTES};
-ghost use Rattle.device_model.specs.{SentFises.{IsSentOrLost, SendsEnd, SendsFault, SendsDeviceToHost, end_fis, queued_failure_fis, page_setup_fis, signature_fis, ended_tag_fis}, PortView.{Media, cause_of, operation_of_kind, port_of}, WholeAdapter.{AllMedia, device_of}};
+ghost use Rattle.device_model.specs.{SentFises.{IsSentOrLost, SendsEnd, SendsFault, SendsDeviceToHost, end_fis, queued_failure_fis, page_setup_fis, signature_fis, ended_tag_fis}, PortView.{Media, cause_of, port_of}, WholeAdapter.{AllMedia, device_of}};
 
 use crate::hardware::{Hardware, put};
-use crate::port::{CommandKind, PortModel};
+use crate::port::PortModel;
+use adapter::Operation;
 use ata_types::RECEIVED_FIS_BYTES;
 use fis::{
     DeviceToHost, PioSetup, SetDeviceBits, encode_d2h, encode_pio_setup, encode_set_device_bits,
@@ -125,23 +126,23 @@ impl Hardware {
 
     /// Sends the FIS of a slot's command that has ended: of IDENTIFY DEVICE and READ LOG EXT, whose pages go by PIO, a
     /// PIO Setup FIS; of a queued one a Set Device Bits FIS; and of the others a Register FIS.
-    pub fn send_end(&mut self, port: usize, slot: u8, command_kind: CommandKind)
+    pub fn send_end(&mut self, port: usize, slot: u8, operation: Operation)
         requires port { port < 4 }
         requires slot { slot < 32 }
-        ensures sent { (o : AllMedia) → SendsEnd slot port (cause_of command_kind) (operation_of_kind command_kind)
+        ensures sent { (o : AllMedia) → SendsEnd slot port (cause_of operation) operation
             (device_of self.old o) (device_of self.new o) }
         ensures rest { self.new ≡ record self.old { memory = self.new.memory } }
     {
-        match command_kind {
-            CommandKind::Identify | CommandKind::ReadLog => {
+        match operation {
+            Operation::Identify | Operation::ReadLog => {
                 let fis = encode_pio_setup(&self.ports[port].page_setup_fis());
                 self.send(port, SETUP, &fis);
             }
-            CommandKind::ReadQueued | CommandKind::WriteQueued => {
+            Operation::ReadQueued | Operation::WriteQueued => {
                 let fis = encode_set_device_bits(&self.ports[port].ended_tag(slot));
                 self.send(port, DEVICE_BITS, &fis);
             }
-            CommandKind::Read | CommandKind::Write | CommandKind::Flush | CommandKind::Trim => {
+            Operation::Read | Operation::Write | Operation::Flush | Operation::Trim => {
                 let fis = encode_d2h(&self.ports[port].end_registers());
                 self.send(port, REGISTERS, &fis);
             }

@@ -1,7 +1,7 @@
 // What a port does by itself before a register is read, and what the end of a reset makes of it.
 ghost use Rattle.std.specs.Prelude.{◌≡◌, ◌%◌, ◌↔◌, IsTrue, true, false};
 ghost use Rattle.adapter.specs.Steps.{MayLinkUp, port_after_link_up, port_after_reset};
-ghost use Rattle.device_model.specs.{ModelOwnSteps.{SettlesPort}, PortView.{Media, port_of}};
+ghost use Rattle.device_model.specs.{ModelOwnSteps.{PortChangesBySettlingSteps}, PortView.{Media, port_of}};
 
 use crate::halt::Halting;
 use crate::port::PortModel;
@@ -16,7 +16,7 @@ macro_rules! set {
 impl PortModel {
     /// PxCMD.CR falls where ST is zero (AHCI 1.3.1, 3.3.7): no command is taken any more.
     fn fall(&mut self)
-        ensures does { (m : Media) → SettlesPort (port_of self.old m) (port_of self.new m) }
+        ensures does { (m : Media) → PortChangesBySettlingSteps (port_of self.old m) (port_of self.new m) }
         ensures fallen { self.new.st ≡ false → self.new.cr ≡ true → false ≡ true }
     {
         if !self.st && self.cr {
@@ -27,7 +27,7 @@ impl PortModel {
 
     /// PxCMD.FR falls where FRE and CR are zero (AHCI 1.3.1, 3.3.7).
     fn fr_fall(&mut self)
-        ensures does { (m : Media) → SettlesPort (port_of self.old m) (port_of self.new m) }
+        ensures does { (m : Media) → PortChangesBySettlingSteps (port_of self.old m) (port_of self.new m) }
         ensures fallen { self.new.fre ≡ false → self.new.cr ≡ false → self.new.fr ≡ true → false ≡ true }
         ensures engine { (self.new.st ≡ self.old.st) × (self.new.cr ≡ self.old.cr) }
     {
@@ -79,8 +79,8 @@ impl PortModel {
     }
 
     /// CR and FR fall where they may.
-    pub fn settle_state(&mut self)
-        ensures does { (m : Media) → SettlesPort (port_of self.old m) (port_of self.new m) }
+    pub fn settle_engines(&mut self)
+        ensures does { (m : Media) → PortChangesBySettlingSteps (port_of self.old m) (port_of self.new m) }
         ensures cr_is_clear_without_st { self.new.st ≡ false → self.new.cr ≡ true → false ≡ true }
         ensures fr_is_clear_without_fre_and_cr { self.new.fre ≡ false → self.new.cr ≡ false → self.new.fr ≡ true
             → false ≡ true }
@@ -90,7 +90,7 @@ impl PortModel {
     }
 
     /// The adapter's reset has ended (AHCI 1.3.1, 10.4.3).
-    pub fn reset(&mut self)
+    pub fn apply_hba_reset(&mut self)
         ensures { (m : Media) → port_of self.new m ≡ port_after_reset (port_of self.old m) }
     {
         self.link_due = self.link_due || self.sctl_det % 16 == 1;

@@ -1,12 +1,14 @@
 // The slots of a port: which command is taken, and how it goes on.
 ghost use Rattle.std.specs.Prelude.{◌≡◌, ◌↔◌, ◌<◌, ◌≤◌, ◌^◌, ◌+◌, ◌||◌, ℕ, IsTrue, None, Some, true, false, is_some, slice_index_or, IfSome, List};
-ghost use Rattle.adapter.specs.{Steps.{IsUnmixed, IsFetchable, IsWorking, admits, port_after_clear, port_after_done, port_after_fault, port_after_fetch, port_with_lasting_after_operation, port_after_move}, declared.command.Operation.{Operation}};
-ghost use Rattle.device_model.specs.{WordBits.{word_bits}, FetchedBytes.{IsNewlyTaken}, Slots.{AdmitsBesideTaken, MayTakeIfDecoded, HasIssuedUntakenOnWorkingPort, WorksOnIn}, PortView.{Media, cause_of, halt_of, taken_in, bsy_if_disk_left_busy, media_after_move, media_after_clear, media_after_end, operation_of_kind, port_of, taken_of, blank_port}, declared.port.TakenCommand.{TakenCommand}};
+ghost use Rattle.adapter.specs.{Steps.{IsUnmixed, IsFetchable, IsWorking, admits, port_after_clear, port_after_done_except_lasting, port_after_fault, port_after_fetch, port_with_lasting_after_operation, port_after_move}, declared.command.Operation.{Operation}};
+ghost use Rattle.device_model.specs.{WordBits.{word_bits}, FetchedBytes.{IsNewlyTaken}, Slots.{AdmitsBesideTaken, MayTakeIfDecoded, HasIssuedUntakenOnWorkingPort, WorksOnIn}, PortView.{Media, cause_of, halt_of, taken_in, bsy_if_disk_left_busy, media_after_move, media_after_clear, media_after_end, port_of, taken_of, reset_port_without_disk}, declared.port.TakenCommand.{TakenCommand}};
 
 use crate::bits::{is_clear_from, with_bit_as};
 use crate::clearing::SectorExtent;
 use crate::halt::Halting;
-use crate::port::{CommandKind, PortModel, TakenCommand};
+use crate::operations::{end_cause, lasting_tape_length_after};
+use crate::port::{PortModel, TakenCommand};
+use adapter::Operation;
 use hba_regs::is_set;
 
 /// The status of a command that failed: DRDY and ERR (ACS-3, 6.3).
@@ -34,12 +36,12 @@ impl PortModel {
     pub fn take(&mut self, slot: u8, command: &TakenCommand)
         requires slot { slot < 32 }
         requires new { IsNewlyTaken command.now }
-        requires alone { (m : Media) → IsUnmixed (port_of self.old m) (operation_of_kind command.now.command_kind) }
+        requires alone { (m : Media) → IsUnmixed (port_of self.old m) command.now.operation }
         ensures { (m : Media) → port_of self.new m ≡ port_after_fetch (port_of self.old m) slot
             (taken_of command.now).meaning
             (taken_of command.now).places }
     {
-        let queued = command.command_kind.is_queued();
+        let queued = command.operation.is_queued();
         self.taken.put(slot, command);
         if queued {
             self.ci = with_bit_as(self.ci, u32::from(slot), false);
@@ -50,21 +52,21 @@ impl PortModel {
 
     /// A piece of a slot's command was moved, these bytes.
     #[inline(always)]
-    pub fn advance(&mut self, slot: u8, command_kind: CommandKind, bytes: &[u8; 512])
+    pub fn advance(&mut self, slot: u8, operation: Operation, bytes: &[u8; 512])
         requires slot { slot < 32 }
         requires slot_has_command { (t : TakenCommand) × (taken_in self.old.taken slot ≡ Some t)
-            × (t.command_kind ≡ command_kind)
+            × (t.operation ≡ operation)
             × (t.moved + 1 < 2 ^ 32) }
         ensures moved { (m : Media) (t : TakenCommand) → taken_in self.old.taken slot ≡ Some t →
             port_of self.new (media_after_move m (taken_of t) bytes.now)
             ≡ port_after_move (port_of self.old m) slot (taken_of t)
             bytes.now }
         ensures held { (t : TakenCommand) → taken_in self.old.taken slot ≡ Some t
-            → (command_kind ≡ CommandKind.Trim → ⊥) →
+            → (operation ≡ Operation.Trim → ⊥) →
             taken_in self.new.taken slot ≡ Some (record t { moved = t.moved + 1 }) }
         ensures rest { self.new ≡ record self.old { taken = self.new.taken } }
     {
-        if command_kind.is_trim() {
+        if operation.is_trim() {
             self.taken.add_block(slot, bytes);
         } else {
             self.taken.add_moved(slot);
@@ -85,20 +87,24 @@ impl PortModel {
 
     /// The command of a slot ends without error, with the tape so long: a queued one leaves PxSACT, and a plain one
     /// PxCI.
-    pub fn end(&mut self, slot: u8, command_kind: CommandKind, here: usize)
+    pub fn end(&mut self, slot: u8, operation: Operation, here: usize)
         requires { slot < 32 }
         ensures { (m : Media) → port_of self.new (media_after_end m
-            (operation_of_kind command_kind)) ≡ port_with_lasting_after_operation
-            (port_after_done (port_of self.old m) slot (cause_of command_kind) (operation_of_kind command_kind))
-            (operation_of_kind command_kind)
+            operation) ≡ port_with_lasting_after_operation
+            (port_after_done_except_lasting (port_of self.old m) slot (cause_of operation) operation)
+            operation
             here }
     {
-        self.lasting_tape_length = command_kind.lasting_at(self.lasting_tape_length, here);
+        self.lasting_tape_length = lasting_tape_length_after(
+            operation,
+            self.lasting_tape_length,
+            here,
+        );
         self.taken.remove(slot);
-        self.is = with_bit_as(self.is, command_kind.cause(), true);
+        self.is = with_bit_as(self.is, end_cause(operation), true);
         self.halting = Halting::NotHalted;
         self.tfd = Some(self.task_file() & 0xff7f);
-        if command_kind.is_queued() {
+        if operation.is_queued() {
             self.sact = with_bit_as(self.sact, u32::from(slot), false);
         } else {
             self.ci = with_bit_as(self.ci, u32::from(slot), false);
@@ -117,7 +123,7 @@ impl PortModel {
     }
 
     /// Whether a command is issued or taken in a slot.
-    pub fn is_used(&self, slot: u8) -> bool
+    pub fn is_issued_or_taken(&self, slot: u8) -> bool
         requires { slot < 32 }
         ensures { result ≡ (word_bits self.now.ci slot || is_some (taken_in self.now.taken slot)) }
     {
@@ -125,7 +131,7 @@ impl PortModel {
     }
 
     /// Whether no command is issued or taken in a slot, and in those after it.
-    pub fn is_unused_from(&self, slot: u8) -> bool
+    pub fn none_issued_or_taken_from(&self, slot: u8) -> bool
         requires { slot < 32 }
         ensures { IsTrue result ↔ ((k : ℕ) → slot ≤ k
             → (word_bits self.now.ci k ≡ false) × (taken_in self.now.taken k ≡ None)) }
@@ -134,34 +140,33 @@ impl PortModel {
     }
 
     /// Whether the port works on such commands.
-    pub fn is_working_on(&self, command_kind: CommandKind) -> bool
-        ensures works { result ≡ true → (m : Media) → IsWorking (port_of self.now m) (operation_of_kind command_kind) }
+    pub fn is_working_on(&self, operation: Operation) -> bool
+        ensures works { result ≡ true → (m : Media) → IsWorking (port_of self.now m) operation }
         ensures complete { result ≡ false → (m : Media)
-            → IsWorking (port_of self.now m) (operation_of_kind command_kind) →
+            → IsWorking (port_of self.now m) operation →
             ⊥ }
     {
-        self.cr && self.present && self.fresh && !self.broken && self.halting.admits(command_kind)
+        self.cr && self.present && self.fresh && !self.broken && self.halting.admits(operation)
     }
 
-    /// Whether such a command may be taken now, if the port works: no fault keeps it waiting, and it goes beside those
-    /// that are taken.
-    pub fn may_take_command(&self, command_kind: CommandKind) -> bool
-        ensures open { result ≡ true → AdmitsBesideTaken self.now (operation_of_kind command_kind) }
+    /// Whether no fault keeps such a command waiting, and it goes beside those that are taken.
+    pub fn admits_beside_taken(&self, operation: Operation) -> bool
+        ensures open { result ≡ true → AdmitsBesideTaken self.now operation }
         ensures complete { result ≡ false → (m : Media)
-            → admits (halt_of self.now.halting) (operation_of_kind command_kind) ≡ true
-            → IsUnmixed (port_of self.now m) (operation_of_kind command_kind) → ⊥ }
+            → admits (halt_of self.now.halting) operation ≡ true
+            → IsUnmixed (port_of self.now m) operation → ⊥ }
     {
-        self.halting.admits(command_kind) && self.is_unmixed(command_kind)
+        self.halting.admits(operation) && self.is_unmixed(operation)
     }
 
     /// Whether such a command may be taken beside those that are: a queued one beside queued ones, and a plain one
     /// alone.
-    fn is_unmixed(&self, command_kind: CommandKind) -> bool
-        ensures alone { result ≡ true → (m : Media) → IsUnmixed (port_of self.now m) (operation_of_kind command_kind) }
-        ensures only { result ≡ false → (m : Media) → IsUnmixed (port_of self.now m) (operation_of_kind command_kind) →
+    fn is_unmixed(&self, operation: Operation) -> bool
+        ensures alone { result ≡ true → (m : Media) → IsUnmixed (port_of self.now m) operation }
+        ensures only { result ≡ false → (m : Media) → IsUnmixed (port_of self.now m) operation →
             ⊥ }
     {
-        if command_kind.is_queued() {
+        if operation.is_queued() {
             self.taken.are_queued()
         } else {
             self.taken.is_empty()
@@ -174,12 +179,13 @@ impl PortModel {
 pub fn has_issued_untaken_on_working_port(ports: &[PortModel; 4], port: usize, slot: u8) -> bool
     requires port { port < 4 }
     requires slot { slot < 32 }
-    ensures may { result ≡ true → HasIssuedUntakenOnWorkingPort (slice_index_or ports.now port blank_port) slot }
+    ensures may { result ≡ true
+        → HasIssuedUntakenOnWorkingPort (slice_index_or ports.now port reset_port_without_disk) slot }
     ensures complete { result ≡ false → (m : Media) (operation : Operation)
-        → MayTakeIfDecoded (port_of (slice_index_or ports.now port blank_port) m) slot operation → ⊥ }
+        → MayTakeIfDecoded (port_of (slice_index_or ports.now port reset_port_without_disk) m) slot operation → ⊥ }
     ensures is_not_fetchable { result ≡ false → (m : Media) (operation : Operation)
-        → IsFetchable (port_of (slice_index_or ports.now port blank_port) m) slot →
-        IsWorking (port_of (slice_index_or ports.now port blank_port) m) operation → ⊥ }
+        → IsFetchable (port_of (slice_index_or ports.now port reset_port_without_disk) m) slot →
+        IsWorking (port_of (slice_index_or ports.now port reset_port_without_disk) m) operation → ⊥ }
 {
     ports[port].st
         && ports[port].cr
@@ -194,13 +200,14 @@ pub fn has_issued_untaken_on_working_port(ports: &[PortModel; 4], port: usize, s
 pub fn working_on(ports: &[PortModel; 4], port: usize, slot: u8) -> Option<&TakenCommand>
     requires port { port < 4 }
     requires slot { slot < 32 }
-    ensures found { IfSome result (λ t. WorksOnIn (slice_index_or ports.now port blank_port) slot t.now) }
+    ensures found { IfSome result (λ t. WorksOnIn (slice_index_or ports.now port reset_port_without_disk) slot t.now) }
     ensures first_in_range { IfSome result (λ t. t.now.first < 2 ^ 48) }
-    ensures none { result ≡ None → (t : TakenCommand) → WorksOnIn (slice_index_or ports.now port blank_port) slot t
+    ensures none { result ≡ None → (t : TakenCommand)
+        → WorksOnIn (slice_index_or ports.now port reset_port_without_disk) slot t
         → ⊥ }
 {
     let command = ports[port].taken.get(slot)?;
-    if ports[port].is_working_on(command.command_kind) {
+    if ports[port].is_working_on(command.operation) {
         Some(command)
     } else {
         None

@@ -3,7 +3,7 @@ ghost use Rattle.std.specs.{Prelude.{◌≡◌, ◌↔◌, IsTrue, ◌<◌, ◌�
 ghost use Rattle.adapter.specs.{Commands.{Meaning, is_queued, is_ranged, reads_memory}, Device.{Disk, FetchedCommand}, Memory.{bytes_at}, Decoding.{pieces}, Steps.{Can, IsFinished, device_after, next_sector}, Steps.DeviceTransition.{Fetch as FetchStep, FetchFault as FetchFaultStep, Move as MoveStep, Done as DoneStep, Fault as FaultStep, Fatal as FatalStep, Unplug as UnplugStep, Plug as PlugStep}};
 ghost use Rattle.adapter.specs.AskedSteps.{DoesFatal, DoesFault, DoesFetch, EndsAndPosts, fatal_bit};
 ghost use Rattle.device_model.specs.{TakenBlocks.{brought}, WriteCaches.{HasRoomForOldSectors, KeepsSameOldSectors}, PieceTransfers.{IsTransferred, piece_of}, FetchedBytes.{bytes_of}, Finishing.{TapeHasRoom, CacheHasRoomForRestOfCommand, FindsPageCommandAndWhetherItCanEnd, IsInside, PiecesInside, IsCommandBegun, HasMovesLeftInMemory, IsImpossibleOrLacksTape, HasMovesAndTrimRunsLeft, NoneMayFinishOrLacksRoom}, SentFises.{SendsEnd}, Slots.{WorksOnIn, IsNextMove, HasIssuedUntakenOnWorkingPort}, Trims.{sectors_left_to_change}};
-ghost use Rattle.device_model.specs.{PortView.{taken_in, bsy_if_disk_left_busy, operation_of_kind, taken_of, blank_port}, WholeAdapter.{AllMedia, device_of, all_media_after_move, all_media_after_end, all_media_after_plug}, declared.port.TakenCommand.{TakenCommand}};
+ghost use Rattle.device_model.specs.{PortView.{taken_in, bsy_if_disk_left_busy, taken_of, reset_port_without_disk}, WholeAdapter.{AllMedia, device_of, all_media_after_move, all_media_after_end, all_media_after_plug}, declared.port.TakenCommand.{TakenCommand}};
 
 use crate::cache::Cache;
 use crate::fetch::{
@@ -11,10 +11,11 @@ use crate::fetch::{
     read_command,
 };
 use crate::hardware::Hardware;
-use crate::port::{CommandKind, TakenCommand};
+use crate::operations::sectors_to_write;
+use crate::port::TakenCommand;
 use crate::slots::{FAILED_STATUS, failed_status, has_issued_untaken_on_working_port, working_on};
-use crate::trims::{clears_of, is_finished};
-use adapter::{Done, Entry, FatalError, Fault, Move, Prd};
+use crate::trims::{clears_left_unless_too_many_cleared, is_finished};
+use adapter::{Done, Entry, FatalError, Fault, Move, Operation, Prd};
 use ata_types::{Port, Slot};
 use std::snapshot::Snapshot;
 
@@ -30,7 +31,7 @@ pub struct NextMove {
     /// How many pieces behind it can be moved without a look for their places: those of its region, if the command
     /// names sectors. (A region has 8,192 pieces at most; AHCI 1.3.1, 4.2.3.3.)
     pub pieces_following: u16,
-    pub command_kind: CommandKind,
+    pub operation: Operation,
 }
 
 /// What is left of a command, but for its end: so many moves, and then so many clears.
@@ -62,10 +63,10 @@ pub struct PendingPageCommand {
 impl NextMove {
     /// Whether it names no sector, or one of so many.
     pub fn is_within_disk_if_ranged(self, sectors: u64) -> bool
-        ensures { IsTrue result ↔ (is_ranged (operation_of_kind self.command_kind) ≡ true → self.sector < sectors) }
+        ensures { IsTrue result ↔ (is_ranged self.operation ≡ true → self.sector < sectors) }
     {
         // A sector that is named is on the disk, but for faults, and 0 is where none is named: so one look is enough.
-        self.sector < sectors || !self.command_kind.is_ranged()
+        self.sector < sectors || !self.operation.is_ranged()
     }
 
     /// The move of the piece behind it, if that needs no look.
@@ -73,7 +74,7 @@ impl NextMove {
         requires { (self.sector + self.pieces_following < 2 ^ 64)
             × (self.address + 512 * self.pieces_following < 2 ^ 32) }
         ensures { IfSome result (λ n. (1 ≤ self.pieces_following) × (n ≡ record {
-          command_kind = self.command_kind;
+          operation = self.operation;
           sector = self.sector + 1;
           address = self.address + 512;
           pieces_following = self.pieces_following - 1;
@@ -83,7 +84,7 @@ impl NextMove {
             return None;
         }
         Some(NextMove {
-            command_kind: self.command_kind,
+            operation: self.operation,
             sector: self.sector + 1,
             address: self.address + 512,
             pieces_following: self.pieces_following - 1,
@@ -93,16 +94,16 @@ impl NextMove {
 
 /// How many pieces behind one can be moved without a look for their places: all of its region (65,535 at most), if such
 /// a command names sectors, and each has its place in a memory of this size, and an address of 32 bits; and else none.
-fn pieces_following(command_kind: CommandKind, place: PiecePlace, size: usize) -> u16
+fn pieces_following(operation: Operation, place: PiecePlace, size: usize) -> u16
     requires { place.address < 2 ^ 32 }
     ensures few { result ≤ place.pieces_following }
     ensures inside { place.address + 512 ≤ size → place.address + 512 * result + 512 ≤ size }
     ensures low { place.address + 512 * result < 2 ^ 32 }
-    ensures ranged { 1 ≤ result → is_ranged (operation_of_kind command_kind) ≡ true }
+    ensures ranged { 1 ≤ result → is_ranged operation ≡ true }
 {
     let pieces = u64::from(place.pieces_following).min(u64::from(u16::MAX));
     let end = place.address + 512 * pieces + 512;
-    if command_kind.is_ranged() && end <= (size as u64).min(1 << 32) {
+    if operation.is_ranged() && end <= (size as u64).min(1 << 32) {
         pieces as u16
     } else {
         0
@@ -167,17 +168,17 @@ fn remaining_of(command: &TakenCommand, block: &[u8], memory: &[u8]) -> Option<R
     requires few { length block.now ≤ 512 }
     ensures rest { IfSome result (λ rest. HasMovesAndTrimRunsLeft command.now memory.now rest.moves rest.clears) }
     ensures changes { IfSome result (λ rest. rest.changes
-        ≡ sectors_left_to_change (operation_of_kind command.now.command_kind) (bytes_of memory.now)
+        ≡ sectors_left_to_change command.now.operation (bytes_of memory.now)
         (taken_of command.now) rest.moves) }
     ensures only { (left clears : ℕ) → HasMovesAndTrimRunsLeft command.now memory.now left clears
         → IsSomeAnd result (λ rest. (rest.moves ≡ left) × (rest.clears ≡ clears)) }
 {
     let moves = moves_left_of(command, memory.len())?;
-    let clears = clears_of(command, block, memory)?;
+    let clears = clears_left_unless_too_many_cleared(command, block, memory)?;
     Some(Remaining {
         moves,
         clears: clears.runs,
-        changes: command.command_kind.sectors_to_write(moves) as usize + clears.sectors as usize,
+        changes: sectors_to_write(command.operation, moves) as usize + clears.sectors as usize,
     })
 }
 
@@ -242,7 +243,7 @@ fn sector_of(command: &TakenCommand) -> u64
     requires { command.now.first < 2 ^ 48 }
     ensures { result ≡ next_sector (taken_of command.now) }
 {
-    if command.command_kind.is_ranged() {
+    if command.operation.is_ranged() {
         command.first + u64::from(command.moved)
     } else {
         0
@@ -292,7 +293,7 @@ impl Hardware {
     #[inline(never)]
     fn fetch_decoded(&mut self, port: u8, slot: u8) -> bool
         requires there { (port < 4) × (slot < 32) }
-        requires may { HasIssuedUntakenOnWorkingPort (slice_index_or self.old.ports port blank_port) slot }
+        requires may { HasIssuedUntakenOnWorkingPort (slice_index_or self.old.ports port reset_port_without_disk) slot }
         ensures did { result ≡ true → (o : AllMedia)
             → DoesFetch port slot (device_of self.old o) (device_of self.new o) }
         ensures refused { result ≡ false → self.new ≡ self.old }
@@ -306,7 +307,7 @@ impl Hardware {
         let Some(command) = read_command(&self.memory, list, slot) else {
             return false;
         };
-        if !self.ports[place].may_take_command(command.command_kind) {
+        if !self.ports[place].admits_beside_taken(command.operation) {
             return false;
         }
         self.ports[place].take(slot, &command);
@@ -319,12 +320,12 @@ impl Hardware {
     fn decodes_page(&self, port: usize, slot: u8) -> Option<bool>
         requires port { port < 4 }
         requires slot { slot < 32 }
-        requires may { HasIssuedUntakenOnWorkingPort (slice_index_or self.now.ports port blank_port) slot }
+        requires may { HasIssuedUntakenOnWorkingPort (slice_index_or self.now.ports port reset_port_without_disk) slot }
         ensures { (o : AllMedia) → FindsPageCommandAndWhetherItCanEnd (device_of self.now o) port slot result }
     {
         let list = self.ports[port].addresses.clb;
         let command = decode_page_command(&self.memory, list, slot)?;
-        if self.ports[port].may_take_command(command.command_kind) {
+        if self.ports[port].admits_beside_taken(command.operation) {
             Some(can_end(&command, self.memory.len()))
         } else {
             None
@@ -338,7 +339,7 @@ impl Hardware {
         requires slot { slot < 32 }
         ensures { (o : AllMedia) → FindsPageCommandAndWhetherItCanEnd (device_of self.now o) port slot result }
     {
-        if !self.ports[port].is_used(slot) {
+        if !self.ports[port].is_issued_or_taken(slot) {
             return None;
         }
         if has_issued_untaken_on_working_port(&self.ports, port, slot) {
@@ -348,7 +349,7 @@ impl Hardware {
             return self.decodes_page(port, slot);
         }
         let command = working_on(&self.ports, port, slot)?;
-        if !command.command_kind.sends_page() {
+        if !command.operation.sends_page() {
             return None;
         }
         if can_end(command, self.memory.len()) {
@@ -374,7 +375,7 @@ impl Hardware {
     {
         let place = usize::from(port);
         for slot in 0..32 {
-            if self.ports[place].is_unused_from(slot) {
+            if self.ports[place].none_issued_or_taken_from(slot) {
                 return None;
             }
             if let Some(can_end) = self.has_page(place, slot) {
@@ -397,7 +398,7 @@ impl Hardware {
         requires known { IfSome known (λ n. (t : TakenCommand) × IsNextMove self.now port slot n t) }
         ensures found { IfSome result (λ n. (t : TakenCommand) × IsNextMove self.now port slot n t) }
         ensures none { result ≡ None → (t : TakenCommand)
-            → WorksOnIn (slice_index_or self.now.ports port blank_port) slot t
+            → WorksOnIn (slice_index_or self.now.ports port reset_port_without_disk) slot t
             → t.moved < length (pieces t.prds) →
             slice_index (pieces t.prds) t.moved < 2 ^ 32 → slice_index (pieces t.prds) t.moved + 512
             ≤ length self.now.memory.items → ⊥ }
@@ -416,7 +417,7 @@ impl Hardware {
         requires slot { slot < 32 }
         ensures found { IfSome result (λ n. (t : TakenCommand) × IsNextMove self.now port slot n t) }
         ensures none { result ≡ None → (t : TakenCommand)
-            → WorksOnIn (slice_index_or self.now.ports port blank_port) slot t
+            → WorksOnIn (slice_index_or self.now.ports port reset_port_without_disk) slot t
             → t.moved < length (pieces t.prds) →
             slice_index (pieces t.prds) t.moved < 2 ^ 32 → slice_index (pieces t.prds) t.moved + 512
             ≤ length self.now.memory.items → ⊥ }
@@ -427,10 +428,10 @@ impl Hardware {
             return None;
         }
         Some(NextMove {
-            command_kind: command.command_kind,
+            operation: command.operation,
             sector: sector_of(command),
             address: place.address as u32,
-            pieces_following: pieces_following(command.command_kind, place, self.memory.len()),
+            pieces_following: pieces_following(command.operation, place, self.memory.len()),
         })
     }
 
@@ -452,32 +453,32 @@ impl Hardware {
         let entry = Entry::Move(Move {
             port: Port(port),
             slot: Slot(slot),
-            operation: next.command_kind.operation(),
+            operation: next.operation,
             sector: next.sector,
             address: next.address,
-            direction: next.command_kind.direction(),
+            direction: next.operation.direction(),
             bytes: Snapshot::of(piece_in(&self.memory, next)),
         });
         self.tape.push_reserved(entry);
         let model = &mut self.ports[usize::from(port)];
-        model.advance(slot, next.command_kind, piece_in(&self.memory, next));
+        model.advance(slot, next.operation, piece_in(&self.memory, next));
         next.after()
     }
 
     /// What the slot's command is, where nothing is left of it to move or to clear.
-    fn kind_if_finished(&self, port: u8, slot: u8) -> Option<CommandKind>
+    fn operation_if_finished(&self, port: u8, slot: u8) -> Option<Operation>
         requires port { port < 4 }
         requires slot { slot < 32 }
-        ensures found { IfSome result (λ command_kind. (t : TakenCommand)
-            × WorksOnIn (slice_index_or self.now.ports port blank_port) slot t × IsFinished (taken_of t)
-            × (command_kind ≡ t.command_kind)) }
+        ensures found { IfSome result (λ operation. (t : TakenCommand)
+            × WorksOnIn (slice_index_or self.now.ports port reset_port_without_disk) slot t × IsFinished (taken_of t)
+            × (operation ≡ t.operation)) }
         ensures none { result ≡ None → (t : TakenCommand)
-            → WorksOnIn (slice_index_or self.now.ports port blank_port) slot t
+            → WorksOnIn (slice_index_or self.now.ports port reset_port_without_disk) slot t
             → IsFinished (taken_of t) → ⊥ }
     {
         let command = working_on(&self.ports, usize::from(port), slot)?;
         if is_finished(command, self.ports[usize::from(port)].taken.block(slot)) {
-            Some(command.command_kind)
+            Some(command.operation)
         } else {
             None
         }
@@ -488,14 +489,15 @@ impl Hardware {
         requires port { port < 4 }
         requires slot { slot < 32 }
         ensures found { IfSome result
-            (λ rest. (t : TakenCommand) × WorksOnIn (slice_index_or self.now.ports port blank_port)
+            (λ rest. (t : TakenCommand) × WorksOnIn (slice_index_or self.now.ports port reset_port_without_disk)
             slot t
             × HasMovesAndTrimRunsLeft t self.now.memory.items rest.moves rest.clears) }
         ensures changes { IfSome result (λ rest. (t : TakenCommand)
-            → WorksOnIn (slice_index_or self.now.ports port blank_port) slot t → rest.changes ≡ sectors_left_to_change
-            (operation_of_kind t.command_kind) (bytes_of self.now.memory.items) (taken_of t) rest.moves) }
+            → WorksOnIn (slice_index_or self.now.ports port reset_port_without_disk) slot t → rest.changes
+            ≡ sectors_left_to_change
+            t.operation (bytes_of self.now.memory.items) (taken_of t) rest.moves) }
         ensures only { (t : TakenCommand) (left clears : ℕ)
-            → WorksOnIn (slice_index_or self.now.ports port blank_port) slot t
+            → WorksOnIn (slice_index_or self.now.ports port reset_port_without_disk) slot t
             → HasMovesAndTrimRunsLeft t self.now.memory.items left clears
             → IsSomeAnd result (λ rest. (rest.moves ≡ left) × (rest.clears ≡ clears)) }
     {
@@ -506,34 +508,34 @@ impl Hardware {
 
     /// Ends a slot's command, of which nothing is left to move or to clear, sends its FIS, and tells what it was.
     /// `None` says that there is none, or that the tape found no memory.
-    pub fn done(&mut self, port: u8, slot: u8) -> Option<CommandKind>
+    pub fn done(&mut self, port: u8, slot: u8) -> Option<Operation>
         requires port { port < 4 }
         requires slot { slot < 32 }
         ensures did { IfSome result
-            (λ command_kind. (o : AllMedia) → EndsAndPosts (SendsEnd slot) port slot (device_of self.old o)
-            (device_of self.new (all_media_after_end o port (operation_of_kind command_kind)))) }
+            (λ operation. (o : AllMedia) → EndsAndPosts (SendsEnd slot) port slot (device_of self.old o)
+            (device_of self.new (all_media_after_end o port operation))) }
         ensures refused { result ≡ None → (o : AllMedia) → device_of self.new o ≡ device_of self.old o }
         ensures step_is_skipped { result ≡ None → (o : AllMedia)
             → IsImpossibleOrLacksTape self.old self.new ((flag : ℕ) × (t : FetchedCommand)
             × Can (DoneStep port slot flag t) (device_of self.old o)) }
-        ensures starved_is_kept { IfSome result (λ command_kind. self.new.starved ≡ self.old.starved) }
+        ensures starved_is_kept { IfSome result (λ operation. self.new.starved ≡ self.old.starved) }
     {
-        let Some(command_kind) = self.kind_if_finished(port, slot) else {
+        let Some(operation) = self.operation_if_finished(port, slot) else {
             return None;
         };
         let here = self.tape.len();
         let entry = Entry::Done(Done {
             port: Port(port),
             slot: Slot(slot),
-            operation: command_kind.operation(),
+            operation,
         });
         if !record(&mut self.tape, &mut self.starved, entry) {
             return None;
         }
         let place = usize::from(port);
-        self.ports[place].end(slot, command_kind, here);
-        self.send_end(place, slot, command_kind);
-        Some(command_kind)
+        self.ports[place].end(slot, operation, here);
+        self.send_end(place, slot, operation);
+        Some(operation)
     }
 
     /// Whether a slot has a queued command that is taken, or a plain one, on an engine that hasn't fallen.
@@ -541,17 +543,17 @@ impl Hardware {
         requires port { port < 4 }
         requires slot { slot < 32 }
         ensures found { IfSome result (λ queued. (t : TakenCommand)
-            × (taken_in (slice_index_or self.now.ports port blank_port).taken slot ≡ Some t)
-            × ((slice_index_or self.now.ports port blank_port).cr ≡ true)
-            × (queued ≡ is_queued (operation_of_kind t.command_kind))) }
+            × (taken_in (slice_index_or self.now.ports port reset_port_without_disk).taken slot ≡ Some t)
+            × ((slice_index_or self.now.ports port reset_port_without_disk).cr ≡ true)
+            × (queued ≡ is_queued t.operation)) }
         ensures none { result ≡ None → (t : TakenCommand)
-            → taken_in (slice_index_or self.now.ports port blank_port).taken
+            → taken_in (slice_index_or self.now.ports port reset_port_without_disk).taken
             slot ≡ Some t →
-            (slice_index_or self.now.ports port blank_port).cr ≡ true → ⊥ }
+            (slice_index_or self.now.ports port reset_port_without_disk).cr ≡ true → ⊥ }
     {
         let command = self.ports[usize::from(port)].taken.get(slot)?;
         if self.ports[usize::from(port)].cr {
-            Some(command.command_kind.is_queued())
+            Some(command.operation.is_queued())
         } else {
             None
         }
@@ -604,7 +606,7 @@ impl Hardware {
         if !has_issued_untaken_on_working_port(&self.ports, place, slot) {
             return false;
         }
-        if !self.ports[place].halting.admits(CommandKind::Identify) {
+        if !self.ports[place].halting.admits(Operation::Identify) {
             return false;
         }
         let list = self.ports[place].addresses.clb;
@@ -631,7 +633,7 @@ impl Hardware {
     fn begin_decoded(&mut self, port: u8, slot: u8, cache: &mut Cache) -> Option<BegunCommand>
         requires port { port < 4 }
         requires slot { slot < 32 }
-        requires may { HasIssuedUntakenOnWorkingPort (slice_index_or self.old.ports port blank_port) slot }
+        requires may { HasIssuedUntakenOnWorkingPort (slice_index_or self.old.ports port reset_port_without_disk) slot }
         ensures begun { IfSome result (λ b. IsCommandBegun port slot b.remaining.moves b.remaining.clears
             b.is_newly_taken self.old self.new) }
         ensures ahead { IfSome result (λ b. (o : AllMedia)
@@ -644,7 +646,7 @@ impl Hardware {
         let Some(command) = self.command_buffer.read(&self.memory, list, slot) else {
             return None;
         };
-        if !model.may_take_command(command.command_kind) {
+        if !model.admits_beside_taken(command.operation) {
             return None;
         }
         let remaining = remaining_of(command, &[], &self.memory)?;
@@ -726,7 +728,7 @@ impl Hardware {
         if !record(&mut self.tape, &mut self.starved, Entry::Unplug(Port(port))) {
             return false;
         }
-        self.ports[place].unplug();
+        self.ports[place].note_disk_out();
         true
     }
 
@@ -754,7 +756,7 @@ impl Hardware {
         if !record(&mut self.tape, &mut self.starved, entry) {
             return false;
         }
-        self.ports[place].plug(lasting_at);
+        self.ports[place].note_disk_in_with_det_3(lasting_at);
         true
     }
 

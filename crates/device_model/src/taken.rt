@@ -1,10 +1,11 @@
 // The commands that a port has taken.
 ghost use Rattle.std.specs.Prelude.{◌≡◌, ◌≢◌, ◌<◌, ◌≤◌, ◌+◌, ◌^◌, ◌↔◌, ℕ, IsTrue, IfOk, IfSome, None, Some, is_some, true, length};
 ghost use Rattle.adapter.specs.{Commands.{is_queued}, Memory.{changed}, Steps.{snapshot_of_bytes}};
-ghost use Rattle.device_model.specs.{TakenBlocks.{brought, taken_in_slot}, PortView.{taken_in, operation_of_kind}, declared.port.TakenCommand.{TakenCommand}};
+ghost use Rattle.device_model.specs.{TakenBlocks.{brought, taken_in_slot}, PortView.{taken_in}, declared.port.TakenCommand.{TakenCommand}};
 
 use crate::bits::{is_clear_from, with_bit_as};
-use crate::port::{CommandKind, TakenCommand};
+use crate::port::TakenCommand;
+use adapter::Operation;
 use ata_types::SLOTS;
 use hba_regs::is_set;
 use std::alloc::{AllocError, Global};
@@ -88,11 +89,11 @@ impl TakenCommands {
         requires new { command.now.block ≡ None }
         requires low { command.now.first < 2 ^ 48 }
         requires alone { (other : ℕ) (u : TakenCommand) → other ≢ slot → taken_in self.old other ≡ Some u →
-            (command.now.command_kind ≡ CommandKind.Trim → ⊥) × (u.command_kind ≡ CommandKind.Trim → ⊥) }
+            (command.now.operation ≡ Operation.Trim → ⊥) × (u.operation ≡ Operation.Trim → ⊥) }
         ensures { taken_in self.new ≡ changed (taken_in self.old) slot (Some command.now) }
     {
         let room = &mut self.slots[usize::from(slot)];
-        room.command_kind = command.command_kind;
+        room.operation = command.operation;
         room.first = command.first;
         room.count = command.count;
         room.prds.copy_from(&command.prds);
@@ -117,7 +118,7 @@ impl TakenCommands {
     /// The block of a slot's trim was moved.
     pub fn add_block(&mut self, slot: u8, bytes: &[u8; 512])
         requires slot { slot < 32 }
-        requires trim { (t : TakenCommand) × (taken_in self.old slot ≡ Some t) × (t.command_kind ≡ CommandKind.Trim)
+        requires trim { (t : TakenCommand) × (taken_in self.old slot ≡ Some t) × (t.operation ≡ Operation.Trim)
             × (t.moved + 1 < 2 ^ 32) }
         ensures { (t : TakenCommand) → taken_in self.old slot ≡ Some t →
             taken_in self.new ≡ changed (taken_in self.old) slot
@@ -178,7 +179,7 @@ impl TakenCommands {
     /// Whether each that is taken is queued.
     pub fn are_queued(&self) -> bool
         ensures { IsTrue result ↔ ((slot : ℕ) (t : TakenCommand) → taken_in self.now slot ≡ Some t
-            → is_queued (operation_of_kind t.command_kind) ≡ true) }
+            → is_queued t.operation ≡ true) }
     {
         self.is_empty() || hold_queued(&self.slots, self.filled)
     }
@@ -188,10 +189,10 @@ impl TakenCommands {
 fn hold_queued(rooms: &[TakenCommand], filled: u32) -> bool
     requires { length rooms.now ≡ 32 }
     ensures { IsTrue result ↔ ((slot : ℕ) (t : TakenCommand) → taken_in_slot filled rooms.now slot ≡ Some t
-        → is_queued (operation_of_kind t.command_kind) ≡ true) }
+        → is_queued t.operation ≡ true) }
 {
     for slot in 0..SLOTS {
-        if is_set(filled, slot as u32) && !rooms[slot].command_kind.is_queued() {
+        if is_set(filled, slot as u32) && !rooms[slot].operation.is_queued() {
             return false;
         }
     }

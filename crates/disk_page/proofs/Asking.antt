@@ -15,8 +15,8 @@ use Rattle.adapter.specs.Access.Access.{Reading, Writing, Loading, Storing}
 use Rattle.adapter.specs.Commands.{Meaning, command_of, is_ranged, piece_count}
 use Rattle.adapter.specs.Device.{Bases, Notes, DevicePort, Device}
 use Rattle.adapter.specs.Device.Halt.{NotHalted}
-use Rattle.adapter.specs.KeptBySteps.{KeepsOverSteps, KeepsControlsFlagsRise, PortBitsOnlyFall}
-use Rattle.adapter.specs.Rules.{IsOn, HasPort, IsUnowned, IsStable, MayWrite}
+use Rattle.adapter.specs.KeptBySteps.{KeepsOverSteps, KeepsControlsFlagsRise, PortBitsOnlyFallFreeSlotsStay}
+use Rattle.adapter.specs.Rules.{IsOn, HasPort, IsInMemoryNotOwnedByDevice, IsStable, MayWrite}
 use Rattle.adapter.specs.Decoding.{pieces, IsWholePieces}
 use Rattle.adapter.specs.declared.command.Command.{Command}
 use Rattle.adapter.specs.declared.command.Operation.{Operation}
@@ -24,26 +24,26 @@ use Rattle.adapter.specs.declared.command.Prd.{Prd}
 use Rattle.adapter.specs.RegisterEffects.{PortRegisterRead, PortRegisterWritten}
 use Rattle.adapter.specs.declared.tape.Entry.{Entry}
 use Rattle.refinement.specs.Fragments.{SomeMachineAgrees, IsDrivenBy, IsSimulated, IsSimulatedChangingUses, SparesOtherPorts, IsSimulatedAlong, IsSimulatedAlongChangingUses, AnySlotStates, NoneWrites, AnyAccess, GainsNoMove}
-use Rattle.refinement.specs.Driver.{IsOwnPrepared}
+use Rattle.refinement.specs.Driver.{IsOwnCommandPreparedInSlot0}
 use Rattle.refinement.specs.PortFacts.{IsSlotClear}
 use Rattle.refinement.specs.MemoryLayout.{command_list_address, scratch_frame_address}
-use Rattle.refinement.specs.Slots.{Free, Own, SlotStates, set_slot_state as used, SlotDecodesTo, IsOver, client_operation_of, PageStandsInScratch}
+use Rattle.refinement.specs.Slots.{Free, Own, SlotStates, set_slot_state as used, SlotDecodesTo, IsOver, client_operation_of, PageCameSinceAndStandsInScratch}
 use Rattle.command_table.specs.SectorPlaces.{places_of}
-use Rattle.command_table.specs.TableStores.{IsTableFor, IsHeaderOrTableStore, IsUnused}
-use Rattle.disk_page.specs.PageRequests.{page_operation, AreSlot0IssuedReadings, PortMayAskForPage, IsPageAccess, BringsLastPage, ShowsSlot0Issued, WaitsForSlot0InVain}
+use Rattle.command_table.specs.TableStores.{IsTableFor, IsHeaderOrTableStore, IsSlotStateFree}
+use Rattle.disk_page.specs.PageRequests.{page_operation, AreSlot0IssuedReadings, PortMayAskForPage, IsSlot0CiOrPageMemoryAccess, BringsLastPage, ShowsSlot0Issued, WaitsForSlot0InVain}
 use Rattle.disk_page.specs.PageWaits.{IsPageAwaitedOrReceived}
 use Rattle.disk_page.specs.declared.Page.{Page}
 use Rattle.disk_page.specs.declared.Page.TheVariants.{Identity, ErrorLog}
 use Rattle.disk_page.specs.Laws.{Laws}
 use Rattle.std.proofs.lemmas.List.Elements.{All-nil, All-cons, All-append, All-weaker}
-use Rattle.disk_page.specs.Laws.AccessPurpose.{Asking, Awaiting, StoringTable as Stored}
+use Rattle.disk_page.specs.Laws.AccessPurpose.{Asking, AwaitingWithAnySlots, StoringTable as Stored}
 use Rattle.refinement.specs.PreservedParts.{SameAdapter}
 use Rattle.std.proofs.lemmas.Nat.Bits.{bit_at_ones_above}
 
 -- The adapter is what it was, the port's controls and its slots are as the device leaves them, and the tape has only gained.
 pub record Leaves (port : ℕ) (old new : Device) : Type 0 where
   pub same : SameAdapter old new
-  pub keeps : PortBitsOnlyFall (old.port port) (new.port port)
+  pub keeps : PortBitsOnlyFallFreeSlotsStay (old.port port) (new.port port)
   pub controls : KeepsControlsFlagsRise (old.port port) (new.port port)
   pub set_at : (new.port port).notes.st_set_at ≡ (old.port port).notes.st_set_at
   pub later : length old.tape ≤ length new.tape
@@ -56,7 +56,7 @@ pub record IsPending (port : Port) (start : Device) (n : ℕ) (d : Device) : Typ
   pub on : IsOn d
   pub there : HasPort d port.0
   pub det : (d.port port.0).sctl_det ≡ 0
-  pub told : IsSimulatedAlong (AreSlot0IssuedReadings port n) (IsPageAccess port) AnySlotStates start d
+  pub told : IsSimulatedAlong (AreSlot0IssuedReadings port n) (IsSlot0CiOrPageMemoryAccess port) AnySlotStates start d
   pub waiting : (o : Operation) (since : ℕ) (uses : SlotStates) (begun : Device) → IsPageAwaitedOrReceived port o since uses begun start → IsPageAwaitedOrReceived port o since uses begun d
   pub low : n ≤ (d.port port.0).notes.slot0_issued_count
   pub high : 0 < n → (d.port port.0).notes.slot0_issued_count ≤ MOST_READINGS
@@ -64,7 +64,7 @@ pub record IsPending (port : Port) (start : Device) (n : ℕ) (d : Device) : Typ
 -- and one without it
 pub record IsFoundOver (port : Port) (start d : Device) : Type 0 where
   pub on : IsOn d
-  pub followed : IsSimulated (IsPageAccess port) AnySlotStates start d
+  pub followed : IsSimulated (IsSlot0CiOrPageMemoryAccess port) AnySlotStates start d
   pub waiting : (o : Operation) (since : ℕ) (uses : SlotStates) (begun : Device) → IsPageAwaitedOrReceived port o since uses begun start → IsPageAwaitedOrReceived port o since uses begun d
   pub over : (o : Operation) (since : ℕ) (uses : SlotStates) (begun : Device) → IsPageAwaitedOrReceived port o since uses begun start → IsSlotClear (d.port port.0) 0
 
@@ -79,7 +79,7 @@ pub bit_one_other : (k : ℕ) → k ≢ 0 → bit 1 k ≡ false
 bit_one_other k other = ap (λ (n : ℕ). n == 1) (bit_at_ones_above 1 k (omega (arith, other)))
 
 -- none is of a register of another port
-pub asking_is_of : (port : Port) (access : Access) → IsPageAccess port access → SparesOtherPorts port access
+pub asking_is_of : (port : Port) (access : Access) → IsSlot0CiOrPageMemoryAccess port access → SparesOtherPorts port access
 asking_is_of port (Reading r v) is = subst (λ (q : Reg). SparesOtherPorts port (Reading q v)) (sym is) refl
 asking_is_of port (Writing r v) is = subst (λ (q : Reg). SparesOtherPorts port (Writing q v)) (sym is.0) refl
 asking_is_of port (Loading at bytes) is = tt
@@ -195,7 +195,7 @@ module _ (laws : Laws) where
         later = grown old.tape new.tape k.new_entries (ap (λ (d : Device). d.tape) x.effect ∙ k.tape_grows);
       }
 
-  pub asking_spares_ghc : (port : Port) → NoneWrites (IsPageAccess port) Ghc
+  pub asking_spares_ghc : (port : Port) → NoneWrites (IsSlot0CiOrPageMemoryAccess port) Ghc
   asking_spares_ghc port access is = laws.accesses_of_port_spare_ghc port access (asking_is_of port access is)
 
   -- an access brings a page of the command in slot 0 alone
@@ -214,7 +214,7 @@ module _ (laws : Laws) where
     o : Operation
     o = page_operation page
 
-    prepared : (uses : SlotStates) → IsUnused port.0 0 uses → IsOwnPrepared uses mid port.0 (page_operation page) 1
+    prepared : (uses : SlotStates) → IsSlotStateFree port.0 0 uses → IsOwnCommandPreparedInSlot0 uses mid port.0 (page_operation page) 1
     prepared uses free =
         let T : ℕ → Type 0 = λ list. SlotDecodesTo mid.memory list port.0 0 (meaning_of page) (scratch_frame_address port.0 ∷ []) in
         record {
@@ -230,11 +230,11 @@ module _ (laws : Laws) where
           no_other_bit_is_set = bit_one_other;
         }
 
-    pub ask_permitted : (uses : SlotStates) → IsUnused port.0 0 uses → SomeMachineAgrees uses mid → IsStable (MayWrite (Px port Ci) 1) mid
+    pub ask_permitted : (uses : SlotStates) → IsSlotStateFree port.0 0 uses → SomeMachineAgrees uses mid → IsStable (MayWrite (Px port Ci) 1) mid
     ask_permitted uses free a = laws.issuing_page_command_is_permitted uses a.machine mid a.reached a.driver_relation.state_relation port (page_operation page) 1 on there (prepared uses free)
 
     module _ (call : Writes (Px port Ci) 1 mid new) where
-      pub asked_to : IsSimulatedChangingUses (IsPageAccess port) (IsUnused port.0 0) (λ uses. used uses port.0 0 (Own (page_operation page))) mid new
+      pub asked_to : IsSimulatedChangingUses (IsSlot0CiOrPageMemoryAccess port) (IsSlotStateFree port.0 0) (λ uses. used uses port.0 0 (Own (page_operation page))) mid new
       asked_to = laws.fragments.own_command_is_issued (Asking port) port (page_operation page) 1 mid new (refl, refl) on.no_reset prepared call
 
       put_ci : PortRegisterWritten port.0 Ci 1 mid new
@@ -255,7 +255,7 @@ module _ (laws : Laws) where
           let l = grown mid.tape put_ci.at_access.tape k.new_entries k.tape_grows in
           let same = ap (λ (es : List Entry). length es) put_ci.tape_is_as_at_access in omega (arith, l, same)
 
-      pub asked_waits : (start : Device) (uses : SlotStates) → IsUnused port.0 0 uses → SomeMachineAgrees uses mid → ((other : Operation) → client_operation_of other ≡ None → GainsNoMove port.0 other start mid) →
+      pub asked_waits : (start : Device) (uses : SlotStates) → IsSlotStateFree port.0 0 uses → SomeMachineAgrees uses mid → ((other : Operation) → client_operation_of other ≡ None → GainsNoMove port.0 other start mid) →
           IsPageAwaitedOrReceived port (page_operation page) (length new.tape) (used uses port.0 0 (Own (page_operation page))) start new
       asked_waits start uses free a before = record {
         adapter_is_on = laws.access_keeps_on (Writing (Px port Ci) 1) mid new on (λ v e. absurd cc) call;
@@ -271,20 +271,20 @@ module _ (laws : Laws) where
   -- ---- stretches, one after another
 
   -- it is asked for after the stores
-  pub stored_then : (port : Port) (next : SlotStates → SlotStates) (old mid new : Device) → IsSimulated (IsPageAccess port) (IsUnused port.0 0) old mid → IsSimulatedChangingUses (IsPageAccess port) (IsUnused port.0 0) next mid new →
-      IsSimulatedChangingUses (IsPageAccess port) (IsUnused port.0 0) next old new
+  pub stored_then : (port : Port) (next : SlotStates → SlotStates) (old mid new : Device) → IsSimulated (IsSlot0CiOrPageMemoryAccess port) (IsSlotStateFree port.0 0) old mid → IsSimulatedChangingUses (IsSlot0CiOrPageMemoryAccess port) (IsSlotStateFree port.0 0) next mid new →
+      IsSimulatedChangingUses (IsSlot0CiOrPageMemoryAccess port) (IsSlotStateFree port.0 0) next old new
   stored_then port next old mid new a b = (laws.fragments.fragments_join (Asking port) (Asking port) (λ uses. uses) next (λ access may. may) (λ uses free. free) old mid new a b).is_simulated
 
   -- what was asked for is awaited
-  pub asked_then : (port : Port) (next : SlotStates → SlotStates) (old mid new : Device) → IsSimulatedChangingUses (IsPageAccess port) (IsUnused port.0 0) next old mid → IsSimulated (IsPageAccess port) AnySlotStates mid new →
-      IsSimulatedChangingUses (IsPageAccess port) (IsUnused port.0 0) next old new
-  asked_then port next old mid new a b = (laws.fragments.fragments_join (Asking port) (Awaiting port) next (λ uses. uses) (λ access may. may) (λ uses free. tt) old mid new a b).is_simulated
+  pub asked_then : (port : Port) (next : SlotStates → SlotStates) (old mid new : Device) → IsSimulatedChangingUses (IsSlot0CiOrPageMemoryAccess port) (IsSlotStateFree port.0 0) next old mid → IsSimulated (IsSlot0CiOrPageMemoryAccess port) AnySlotStates mid new →
+      IsSimulatedChangingUses (IsSlot0CiOrPageMemoryAccess port) (IsSlotStateFree port.0 0) next old new
+  asked_then port next old mid new a b = (laws.fragments.fragments_join (Asking port) (AwaitingWithAnySlots port) next (λ uses. uses) (λ access may. may) (λ uses free. tt) old mid new a b).is_simulated
 
   -- in vain, as is told of the accesses
-  pub asked_in_vain : (port : Port) (next : SlotStates → SlotStates) (old mid new : Device) → IsSimulatedChangingUses (IsPageAccess port) (IsUnused port.0 0) next old mid → IsSimulatedAlong (AreSlot0IssuedReadings port MOST_READINGS) (IsPageAccess port) AnySlotStates mid new →
-      IsSimulatedAlongChangingUses (WaitsForSlot0InVain port) (IsPageAccess port) (IsUnused port.0 0) next old new
+  pub asked_in_vain : (port : Port) (next : SlotStates → SlotStates) (old mid new : Device) → IsSimulatedChangingUses (IsSlot0CiOrPageMemoryAccess port) (IsSlotStateFree port.0 0) next old mid → IsSimulatedAlong (AreSlot0IssuedReadings port MOST_READINGS) (IsSlot0CiOrPageMemoryAccess port) AnySlotStates mid new →
+      IsSimulatedAlongChangingUses (WaitsForSlot0InVain port) (IsSlot0CiOrPageMemoryAccess port) (IsSlotStateFree port.0 0) next old new
   asked_in_vain port next old mid new a b =
-      let both = laws.fragments.fragments_join (Asking port) (Awaiting port) next (λ uses. uses) (λ access may. may) (λ uses free. tt) old mid new a b.is_simulated in
+      let both = laws.fragments.fragments_join (Asking port) (AwaitingWithAnySlots port) next (λ uses. uses) (λ access may. may) (λ uses free. tt) old mid new a b.is_simulated in
       let early = a.is_driven.accesses in
       let waits = b.is_simulated.is_driven.accesses in
       record {
@@ -293,33 +293,33 @@ module _ (laws : Laws) where
             (record { before = early; waits = waits; later = []; accesses_are = ap (λ (rest : List Access). early ++ rest) (sym (append-nil waits)); waits_are_vain = b.accesses_are_such });
       }
 
-  awaited_then : (port : Port) (old mid new : Device) → IsSimulated (IsPageAccess port) AnySlotStates old mid → IsSimulated (IsPageAccess port) AnySlotStates mid new → IsSimulated (IsPageAccess port) AnySlotStates old new
-  awaited_then port old mid new a b = (laws.fragments.fragments_join (Awaiting port) (Awaiting port) (λ uses. uses) (λ uses. uses) (λ access may. may) (λ uses any. tt) old mid new a b).is_simulated
+  awaited_then : (port : Port) (old mid new : Device) → IsSimulated (IsSlot0CiOrPageMemoryAccess port) AnySlotStates old mid → IsSimulated (IsSlot0CiOrPageMemoryAccess port) AnySlotStates mid new → IsSimulated (IsSlot0CiOrPageMemoryAccess port) AnySlotStates old new
+  awaited_then port old mid new a b = (laws.fragments.fragments_join (AwaitingWithAnySlots port) (AwaitingWithAnySlots port) (λ uses. uses) (λ uses. uses) (λ access may. may) (λ uses any. tt) old mid new a b).is_simulated
 
   -- a page that came leaves its slot
-  pub asked_back : (port : Port) (o : Operation) (old new : Device) → IsOver (new.port port.0) 0 → IsSimulatedChangingUses (IsPageAccess port) (IsUnused port.0 0) (λ uses. used uses port.0 0 (Own o)) old new →
-      IsSimulated (IsPageAccess port) (IsUnused port.0 0) old new
+  pub asked_back : (port : Port) (o : Operation) (old new : Device) → IsOver (new.port port.0) 0 → IsSimulatedChangingUses (IsSlot0CiOrPageMemoryAccess port) (IsSlotStateFree port.0 0) (λ uses. used uses port.0 0 (Own o)) old new →
+      IsSimulated (IsSlot0CiOrPageMemoryAccess port) (IsSlotStateFree port.0 0) old new
   asked_back port o old new over a = (laws.fragments.own_command_is_over (Asking port) port o 1 old new (refl, refl) (λ uses free. free) over a).is_simulated
 
   -- ---- header and table are stored first
 
-  module _ (port : Port) (old mid : Device) (on : IsOn old) (stores : IsSimulated (IsHeaderOrTableStore port.0 0) (IsUnused port.0 0) old mid) where
+  module _ (port : Port) (old mid : Device) (on : IsOn old) (stores : IsSimulated (IsHeaderOrTableStore port.0 0) (IsSlotStateFree port.0 0) old mid) where
     pub stores_leave : Leaves port.0 old mid
     stores_leave = tables_leave port old mid on stores.is_driven
 
-    pub stores_asking : IsSimulated (IsPageAccess port) (IsUnused port.0 0) old mid
+    pub stores_asking : IsSimulated (IsSlot0CiOrPageMemoryAccess port) (IsSlotStateFree port.0 0) old mid
     stores_asking = (laws.fragments.is_of_wider_kind (Stored port) (Asking port) (λ uses. uses) kind (λ uses free. free) old mid stores).is_simulated
       where
-        kind : (access : Access) → IsHeaderOrTableStore port.0 0 access → IsPageAccess port access
+        kind : (access : Access) → IsHeaderOrTableStore port.0 0 access → IsSlot0CiOrPageMemoryAccess port access
         kind (Storing at bytes) here = here
         kind (Reading r v) here = absurd here
         kind (Writing r v) here = absurd here
         kind (Loading at bytes) here = absurd here
 
-    pub stores_agree : (uses : SlotStates) → IsUnused port.0 0 uses → SomeMachineAgrees uses old → SomeMachineAgrees uses mid
+    pub stores_agree : (uses : SlotStates) → IsSlotStateFree port.0 0 uses → SomeMachineAgrees uses old → SomeMachineAgrees uses mid
     stores_agree uses free = laws.fragments.some_machine_agrees (Stored port) (λ uses. uses) uses old mid free stores
 
-    pub stores_silent : (uses : SlotStates) (other : Operation) → IsUnused port.0 0 uses → SomeMachineAgrees uses old → client_operation_of other ≡ None → GainsNoMove port.0 other old mid
+    pub stores_silent : (uses : SlotStates) (other : Operation) → IsSlotStateFree port.0 0 uses → SomeMachineAgrees uses old → client_operation_of other ≡ None → GainsNoMove port.0 other old mid
     stores_silent uses other free a page = laws.fragments.unused_slot_gains_no_move (Stored port) (λ uses. uses) uses port other old mid free (laws.stores_write_no_register port.0 0 (Px port Ci)) (laws.stores_write_no_register port.0 0 (Px port Sact)) page
         (λ is. let e : Free ≡ Own other = sym free ∙ is in absurd cc) stores a
 
@@ -333,8 +333,8 @@ module _ (laws : Laws) where
     reads_on : IsOn e
     reads_on = laws.access_keeps_on (Reading (Px port Ci) v) d e on (λ w f. absurd cc) call
 
-    reads_followed : IsSimulated (IsPageAccess port) AnySlotStates d e
-    reads_followed = (laws.fragments.reads (Awaiting port) (Px port Ci) v d e refl call).is_simulated
+    reads_followed : IsSimulated (IsSlot0CiOrPageMemoryAccess port) AnySlotStates d e
+    reads_followed = (laws.fragments.reads (AwaitingWithAnySlots port) (Px port Ci) v d e refl call).is_simulated
 
     -- the driver goes on to wait
     reads_wait : (o : Operation) (since : ℕ) (uses : SlotStates) (begun : Device) → IsPageAwaitedOrReceived port o since uses begun d → IsPageAwaitedOrReceived port o since uses begun e
@@ -343,7 +343,7 @@ module _ (laws : Laws) where
         record {
           adapter_is_on = reads_on;
           driver_memory_fits = let same = (laws.access_keeps_adapter (Reading (Px port Ci) v) d e call).memory_size in let room = w.driver_memory_fits in omega (arith, same, room);
-          machine_is_related = laws.fragments.some_machine_agrees (Awaiting port) (λ uses. uses) uses d e tt reads_followed a;
+          machine_is_related = laws.fragments.some_machine_agrees (AwaitingWithAnySlots port) (λ uses. uses) uses d e tt reads_followed a;
           awaits = laws.access_keeps_awaiting uses a.machine port o since (Reading (Px port Ci) v) d e a.reached a.driver_relation.state_relation (λ w f. absurd cc) reads_on.no_reset call w.awaits;
           ends_halt = λ alone. laws.access_keeps_ends_halt uses a.machine port (Reading (Px port Ci) v) d e a.reached a.driver_relation.state_relation (λ w f. absurd cc) tt reads_on.no_reset call (w.ends_halt alone);
           no_other_page_moves = λ other page differs. laws.no_moves_compose port.0 other begun d e (w.no_other_page_moves other page differs)
@@ -373,7 +373,7 @@ module _ (laws : Laws) where
     on = on;
     there = there;
     det = det;
-    told = let none = laws.fragments.empty_fragment_is_simulated (Awaiting port) d in
+    told = let none = laws.fragments.empty_fragment_is_simulated (AwaitingWithAnySlots port) d in
         record { is_simulated = none.is_simulated; accesses_are_such = subst (AreSlot0IssuedReadings port 0) (sym none.accesses_are_such) (refl, All-nil (ShowsSlot0Issued port)) };
     waiting = λ o since uses begun w. w;
     low = omega arith;
@@ -391,8 +391,8 @@ module _ (laws : Laws) where
         there = reads_there port v d e p.on call p.there;
         det = reads_det port v d e p.on call p.det;
         told =
-            let more = laws.fragments.reads (Awaiting port) (Px port Ci) v d e refl call in
-            let both = laws.fragments.fragments_join (Awaiting port) (Awaiting port) (λ uses. uses) (λ uses. uses) (λ access may. may) (λ uses any. tt) start d e p.told.is_simulated more.is_simulated in
+            let more = laws.fragments.reads (AwaitingWithAnySlots port) (Px port Ci) v d e refl call in
+            let both = laws.fragments.fragments_join (AwaitingWithAnySlots port) (AwaitingWithAnySlots port) (λ uses. uses) (λ uses. uses) (λ access may. may) (λ uses any. tt) start d e p.told.is_simulated more.is_simulated in
             record {
               is_simulated = both.is_simulated;
               accesses_are_such = subst (AreSlot0IssuedReadings port (n + 1)) (sym both.accesses_are_such) (vain_more port n v p.told.is_simulated.is_driven.accesses more.is_simulated.is_driven.accesses p.told.accesses_are_such more.accesses_are_such set);
@@ -413,19 +413,19 @@ module _ (laws : Laws) where
   -- ---- the page
 
   -- a page that came since a time came since an earlier one
-  sooner : (memory : ℕ → ℕ) (tape : List Entry) (port : ℕ) (o : Operation) (since early : ℕ) → early ≤ since → (b : PageStandsInScratch memory tape port o since) → (bytes : List ℕ) → bytes ≡ b.move.bytes.value →
-      (c : PageStandsInScratch memory tape port o early) × (bytes ≡ c.move.bytes.value)
+  sooner : (memory : ℕ → ℕ) (tape : List Entry) (port : ℕ) (o : Operation) (since early : ℕ) → early ≤ since → (b : PageCameSinceAndStandsInScratch memory tape port o since) → (bytes : List ℕ) → bytes ≡ b.move.bytes.value →
+      (c : PageCameSinceAndStandsInScratch memory tape port o early) × (bytes ≡ c.move.bytes.value)
   sooner memory tape port o since early le b bytes same = (
     record { before = b.before; came_since = le_trans le b.came_since; move = b.move; later = b.later; tape_is_split = b.tape_is_split; is_move = b.is_move; no_later_move = b.no_later_move; scratch_holds_page = b.scratch_holds_page },
     same,
   )
 
   module _ (port : Port) (o : Operation) (since : ℕ) (uses : SlotStates) (begun old : Device) (below : port.0 < 4) (w : IsPageAwaitedOrReceived port o since uses begun old) (clear : IsSlotClear (old.port port.0) 0) where
-    pub page_free : IsStable (IsUnowned (scratch_frame_address port.0) 512) old
+    pub page_free : IsStable (IsInMemoryNotOwnedByDevice (scratch_frame_address port.0) 512) old
     page_free =
         let a = w.machine_is_related in
         let room = w.driver_memory_fits in
-        laws.scratch_is_unowned uses a.machine old a.reached a.driver_relation.state_relation port.0 below (omega (arith, room, below)) clear.over
+        laws.device_owns_no_scratch uses a.machine old a.reached a.driver_relation.state_relation port.0 below (omega (arith, room, below)) clear.over
 
     module _ (bytes : List ℕ) (new : Device) (call : Loads (scratch_frame_address port.0) bytes old new) (size : length bytes ≡ 512) where
       pub load_on : IsOn new
@@ -434,8 +434,8 @@ module _ (laws : Laws) where
       pub load_clear : IsSlotClear (new.port port.0) 0
       load_clear = laws.access_keeps_slot_clear port 0 (Loading (scratch_frame_address port.0) bytes) old new (λ v e. absurd cc) (λ v e. absurd cc) call clear
 
-      pub load_followed : IsSimulated (IsPageAccess port) AnySlotStates old new
-      load_followed = (laws.fragments.loads (Awaiting port) (scratch_frame_address port.0) bytes old new (refl, size) call).is_simulated
+      pub load_followed : IsSimulated (IsSlot0CiOrPageMemoryAccess port) AnySlotStates old new
+      load_followed = (laws.fragments.loads (AwaitingWithAnySlots port) (scratch_frame_address port.0) bytes old new (refl, size) call).is_simulated
 
       pub load_brings : (early : ℕ) → early ≤ since → BringsLastPage port.0 o early bytes new
       load_brings early le =
@@ -445,7 +445,7 @@ module _ (laws : Laws) where
           record { page_stands = y.0; page_bytes_are = y.1; slot_is_clear = load_clear }
 
       pub load_agrees : SomeMachineAgrees uses new
-      load_agrees = laws.fragments.some_machine_agrees (Awaiting port) (λ uses. uses) uses old new tt load_followed w.machine_is_related
+      load_agrees = laws.fragments.some_machine_agrees (AwaitingWithAnySlots port) (λ uses. uses) uses old new tt load_followed w.machine_is_related
 
       pub load_running : ((slot : ℕ) → slot ≢ 0 → uses port.0 slot ≡ Free) → (new.port port.0).halt ≡ NotHalted
       load_running alone =

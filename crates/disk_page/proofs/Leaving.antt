@@ -7,16 +7,16 @@ use Rattle.hba_regs.specs.declared.reg.PortReg.TheVariants.{Ci}
 use Rattle.adapter.specs.Access.{Access, Does, Reads, Writes, notes_after_reading, port_after_write, DoesAll}
 use Rattle.adapter.specs.Access.Access.{Reading, Writing, Loading, Storing}
 use Rattle.adapter.specs.Device.{Notes, DevicePort, Device}
-use Rattle.adapter.specs.KeptBySteps.{KeepsOverSteps, PortBitsOnlyFall, KeepsControlsFlagsRise}
+use Rattle.adapter.specs.KeptBySteps.{KeepsOverSteps, PortBitsOnlyFallFreeSlotsStay, KeepsControlsFlagsRise}
 use Rattle.adapter.specs.Memory.{patched}
 use Rattle.adapter.specs.Rules.{IsOn}
 use Rattle.adapter.specs.Steps.{Steps}
 use Rattle.adapter.specs.declared.tape.Entry.{Entry}
 use Rattle.adapter.specs.RegisterEffects.{PortRegisterRead}
 use Rattle.adapter.specs.RegisterEffects.{PortRegisterWritten}
-use Rattle.refinement.specs.Fragments.{HasNoCommand, IsDrivenBy}
+use Rattle.refinement.specs.Fragments.{NoCommandIsIssuedOrTaken, IsDrivenBy}
 use Rattle.refinement.specs.Slots.{IsOver}
-use Rattle.disk_page.specs.PageRequests.{IsPageAccess, LeavesPortWhileAsking, SameButCiNotes}
+use Rattle.disk_page.specs.PageRequests.{IsSlot0CiOrPageMemoryAccess, LeavesPortWhileAsking, SameButCiNotes}
 use Rattle.disk_page.proofs.Asking.{reading_leaves, grown, asking_spares_ghc, bit_one_other}
 use Rattle.disk_page.specs.Laws.{Laws}
 use Rattle.std.specs.List.{All}
@@ -54,7 +54,7 @@ same_read v old p is =
     subst P (sym is) refl
 
 -- a port without a command, but for slot 0's, which is over
-pub asked_none : (port : ℕ) (old new : Device) → LeavesPortWhileAsking port old new → HasNoCommand (old.port port) → IsOver (new.port port) 0 → HasNoCommand (new.port port)
+pub asked_none : (port : ℕ) (old new : Device) → LeavesPortWhileAsking port old new → NoCommandIsIssuedOrTaken (old.port port) → IsOver (new.port port) 0 → NoCommandIsIssuedOrTaken (new.port port)
 asked_none port old new l none over slot = elim (cases_eq slot 0) [
   | inl e ↦ let P : ℕ → Type 0 = λ k. IsOver (new.port port) k in subst P (sym e) over
   | inr ne ↦ record { is_not_issued = l.ci_stays_clear slot ne (none slot).is_not_issued; is_not_taken = l.empty_slots_stay_empty slot ne (none slot).is_not_issued (none slot).is_not_taken }
@@ -89,7 +89,7 @@ module _ (laws : Laws) where
   by_device : (port : ℕ) (old new : Device) → old.hr ≡ false → Steps old new → LeavesPortWhileAsking port old new
   by_device port old new off steps =
       let k : KeepsOverSteps old new = laws.law_step_lists_keep_what_steps_keep _ _ steps in
-      let p : PortBitsOnlyFall (old.port port) (new.port port) = k.port_bits_only_fall port in
+      let p : PortBitsOnlyFallFreeSlotsStay (old.port port) (new.port port) = k.port_bits_only_fall port in
       record {
         controls_are_kept = (k.keeps_outside_reset off).controls_are_kept port;
         bases_are_kept = p.bases_are_kept;
@@ -112,7 +112,7 @@ module _ (laws : Laws) where
     notes = l.other_notes_are_kept;
   }
 
-  asking_leaves : (port : Port) (access : Access) (old new : Device) → IsOn old → IsPageAccess port access → Does access old new → LeavesPortWhileAsking port.0 old new
+  asking_leaves : (port : Port) (access : Access) (old new : Device) → IsOn old → IsSlot0CiOrPageMemoryAccess port access → Does access old new → LeavesPortWhileAsking port.0 old new
   asking_leaves port (Loading at bytes) old new on here x = by_device port.0 old new on.no_reset x.steps
   asking_leaves port (Storing at bytes) old new on here x =
       let P : Device → Type 0 = λ d. LeavesPortWhileAsking port.0 old d in subst P (sym x.effect) (with_memory port.0 at bytes old x.at_access (by_device port.0 old x.at_access on.no_reset x.steps))
@@ -149,13 +149,13 @@ module _ (laws : Laws) where
         faults_are_on_record = laws.issues_keep_fault_record port.0 port 1 old new call;
       }
 
-  leaves_over : (port : Port) (accesses : List Access) (old new : Device) → IsOn old → All (IsPageAccess port) accesses → DoesAll accesses old new → LeavesPortWhileAsking port.0 old new
+  leaves_over : (port : Port) (accesses : List Access) (old new : Device) → IsOn old → All (IsSlot0CiOrPageMemoryAccess port) accesses → DoesAll accesses old new → LeavesPortWhileAsking port.0 old new
   leaves_over port [] old new on all is = subst (LeavesPortWhileAsking port.0 old) (sym is) (running_none port.0 old)
   leaves_over port (access ∷ accesses) old new on all (mid, does, rest) =
-      let here = All-head (IsPageAccess port) access accesses all in
+      let here = All-head (IsSlot0CiOrPageMemoryAccess port) access accesses all in
       let host = asking_spares_ghc laws port access here in
       let later = laws.access_keeps_on access old mid on (λ v is. absurd (subst (DoesNotWrite Ghc) is host refl)) does in
-      running_more port.0 old mid new (asking_leaves port access old mid on here does) (leaves_over port accesses mid new later (All-tail (IsPageAccess port) access accesses all) rest)
+      running_more port.0 old mid new (asking_leaves port access old mid on here does) (leaves_over port accesses mid new later (All-tail (IsSlot0CiOrPageMemoryAccess port) access accesses all) rest)
 
-  pub asking_leaves_running : (port : Port) (old new : Device) → IsOn old → IsDrivenBy (IsPageAccess port) old new → LeavesPortWhileAsking port.0 old new
+  pub asking_leaves_running : (port : Port) (old new : Device) → IsOn old → IsDrivenBy (IsSlot0CiOrPageMemoryAccess port) old new → LeavesPortWhileAsking port.0 old new
   asking_leaves_running port old new on a = leaves_over port a.accesses old new on a.accesses_are_of_kind a.all_are_done

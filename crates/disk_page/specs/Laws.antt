@@ -7,18 +7,18 @@ use Rattle.refinement.specs.Relation.{StateRelation}
 use Rattle.refinement.specs.Fragments.{AnyAccess, AnySlotStates, SomeMachineAgrees, IsDrivenBy, SparesOtherPorts, OnlyDeviceChangesPort, NoneWrites, GainsNoMove}
 use Rattle.refinement.specs.AwaitedPage.{AwaitsOrHasPage}
 use Rattle.refinement.specs.HaltRecovery.{PlainSlot0IsIssuedOrNotHalted}
-use Rattle.refinement.specs.Slots.{PageStandsInScratch, Free, IsMove, IsOver, Own, SlotState, SlotStates, client_operation_of, set_slot_state}
+use Rattle.refinement.specs.Slots.{PageCameSinceAndStandsInScratch, Free, IsMove, IsOver, Own, SlotState, SlotStates, client_operation_of, set_slot_state}
 use Rattle.hba_regs.specs.declared.reg.PortReg.TheVariants.{Ci, Sact}
-use Rattle.refinement.specs.StartedPort.{ClearsNoStart}
+use Rattle.refinement.specs.StartedPort.{WritesCmdOnlyWithStSet}
 use Rattle.adapter.specs.Device.{Device, DevicePort}
 use Rattle.adapter.specs.declared.tape.Entry.{Entry}
-use Rattle.refinement.specs.PortFacts.{FollowsAndHasPageSinceStart, IsSlotClear, RecordsFaultsIfSt}
+use Rattle.refinement.specs.PortFacts.{FollowsAndHasPageSinceStSet, IsSlotClear, RecordsFaultsIfSt}
 use Rattle.hba_regs.specs.declared.reg.Reg.TheVariants.{Ghc, Px}
-use Rattle.adapter.specs.Rules.{HasPort, IsUnowned, IsOn, MayWrite, IsStable}
-use Rattle.disk_page.specs.PageRequests.{IsPageAccess}
-use Rattle.refinement.specs.Driver.{IsOwnPrepared}
+use Rattle.adapter.specs.Rules.{HasPort, IsInMemoryNotOwnedByDevice, IsOn, MayWrite, IsStable}
+use Rattle.disk_page.specs.PageRequests.{IsSlot0CiOrPageMemoryAccess}
+use Rattle.refinement.specs.Driver.{IsOwnCommandPreparedInSlot0}
 use Rattle.block_machine.specs.Histories.{IsReachable}
-use Rattle.command_table.specs.TableStores.{IsHeaderOrTableStore, IsUnused}
+use Rattle.command_table.specs.TableStores.{IsHeaderOrTableStore, IsSlotStateFree}
 use Rattle.adapter.specs.KeptBySteps.{KeepsOverSteps, KeepsControlsFlagsRise}
 use Rattle.adapter.specs.Access.Access.{Writing}
 use Rattle.block_machine.specs.State.{Machine}
@@ -37,18 +37,18 @@ use Rattle.refinement.specs.MemoryLayout.{scratch_frame_address}
 -- header and table of slot 0 are stored first.
 pub data AccessPurpose : Type 0 where
   Asking : Port → AccessPurpose
-  Awaiting : Port → AccessPurpose
+  AwaitingWithAnySlots : Port → AccessPurpose
   StoringTable : Port → AccessPurpose
 
 abbrev pub accesses_for : AccessPurpose → Access → Type 0
-accesses_for (Asking port) = IsPageAccess port
-accesses_for (Awaiting port) = IsPageAccess port
+accesses_for (Asking port) = IsSlot0CiOrPageMemoryAccess port
+accesses_for (AwaitingWithAnySlots port) = IsSlot0CiOrPageMemoryAccess port
 accesses_for (StoringTable port) = IsHeaderOrTableStore port.0 0
 
 abbrev pub slot_uses_for : AccessPurpose → SlotStates → Type 0
-slot_uses_for (Asking port) = IsUnused port.0 0
-slot_uses_for (Awaiting port) = AnySlotStates
-slot_uses_for (StoringTable port) = IsUnused port.0 0
+slot_uses_for (Asking port) = IsSlotStateFree port.0 0
+slot_uses_for (AwaitingWithAnySlots port) = AnySlotStates
+slot_uses_for (StoringTable port) = IsSlotStateFree port.0 0
 
 -- ---- laws
 
@@ -93,42 +93,45 @@ pub record Laws : Type 0 where
   -- the page
   pub issuing_page_command_is_permitted : (uses : SlotStates) (m : Machine) (d : Device) → IsReachable m
       → StateRelation uses m d
-      → (port : Port) (o : Operation) (v : ℕ) → IsOn d → HasPort d port.0 → IsOwnPrepared uses d port.0 o v
+      → (port : Port) (o : Operation) (v : ℕ) → IsOn d → HasPort d port.0
+      → IsOwnCommandPreparedInSlot0 uses d port.0 o v
       → IsStable (MayWrite (Px port Ci) v) d
   pub page_is_issued : (uses : SlotStates) (m : Machine) (port : Port) (o : Operation) (v : ℕ) (old new : Device)
-      → IsReachable m → StateRelation uses m old → old.hr ≡ false → IsOwnPrepared uses old port.0 o v
+      → IsReachable m → StateRelation uses m old → old.hr ≡ false → IsOwnCommandPreparedInSlot0 uses old port.0 o v
       → Writes (Px port Ci) v old new → AwaitsOrHasPage (set_slot_state uses port.0 0 (Own o)) port.0 o
       (length new.tape) new
   pub access_keeps_awaiting : (uses : SlotStates) (m : Machine) (port : Port) (o : Operation) (since : ℕ)
       (access : Access)
-      (old new : Device) → IsReachable m → StateRelation uses m old → ClearsNoStart port access → new.hr ≡ false
+      (old new : Device) → IsReachable m → StateRelation uses m old → WritesCmdOnlyWithStSet port access → new.hr
+      ≡ false
       → Does access old new → AwaitsOrHasPage uses port.0 o since old → AwaitsOrHasPage uses port.0 o since new
   pub page_is_found : (uses : SlotStates) (m : Machine) (port : Port) (o : Operation) (since v : ℕ) (old new : Device)
       → IsReachable m → StateRelation uses m old → AwaitsOrHasPage uses port.0 o since old
       → Reads (Px port Ci) v old new
-      → bit v 0 ≡ false → FollowsAndHasPageSinceStart uses m port.0 o old new
-      × PageStandsInScratch new.memory new.tape port.0 o since
+      → bit v 0 ≡ false → FollowsAndHasPageSinceStSet uses m port.0 o old new
+      × PageCameSinceAndStandsInScratch new.memory new.tape port.0 o since
   pub awaited_is_loaded : (uses : SlotStates) (m : Machine) (port : ℕ) (o : Operation) (since : ℕ) (bytes : List ℕ)
       (old new : Device) → IsReachable m → StateRelation uses m old → AwaitsOrHasPage uses port o since old
       → IsOver (old.port port) 0
       → Loads (scratch_frame_address port) bytes old new → length bytes ≡ 512
-      → (b : PageStandsInScratch new.memory new.tape port o since)
+      → (b : PageCameSinceAndStandsInScratch new.memory new.tape port o since)
       × (bytes ≡ b.move.bytes.value)
-  pub scratch_is_unowned : (uses : SlotStates) (m : Machine) (d : Device) → IsReachable m → StateRelation uses m d
+  pub device_owns_no_scratch : (uses : SlotStates) (m : Machine) (d : Device) → IsReachable m → StateRelation uses m d
       → (port : ℕ) → port < 4
       → scratch_frame_address port + 512 ≤ d.memory_size → IsOver (d.port port) 0
-      → IsStable (IsUnowned (scratch_frame_address port) 512) d
+      → IsStable (IsInMemoryNotOwnedByDevice (scratch_frame_address port) 512) d
   pub release_keeps_relation : (uses : SlotStates) (port : ℕ) (o : Operation) (d : Device) → uses port 0 ≡ Free
       → IsOver (d.port port) 0 → SomeMachineAgrees (set_slot_state uses port 0 (Own o)) d → SomeMachineAgrees uses d
   pub issued_own_command_is_unended_or_unhalted : (uses : SlotStates) (m : Machine) (port : Port) (o : Operation)
       (v : ℕ)
       (old new : Device)
       → IsReachable m → StateRelation uses m old → old.hr ≡ false → ((slot : ℕ) → slot ≢ 0 → uses port.0 slot ≡ Free)
-      → IsOwnPrepared uses old port.0 o v → Writes (Px port Ci) v old new
+      → IsOwnCommandPreparedInSlot0 uses old port.0 o v → Writes (Px port Ci) v old new
       → PlainSlot0IsIssuedOrNotHalted (set_slot_state uses port.0 0 (Own o)) port.0 new
   pub access_keeps_ends_halt : (uses : SlotStates) (m : Machine) (port : Port) (access : Access) (old new : Device)
       → IsReachable m
-      → StateRelation uses m old → ClearsNoStart port access → DoesNotWrite (Px port Sact) access → new.hr ≡ false
+      → StateRelation uses m old → WritesCmdOnlyWithStSet port access → DoesNotWrite (Px port Sact) access → new.hr
+      ≡ false
       → Does access old new → PlainSlot0IsIssuedOrNotHalted uses port.0 old
       → PlainSlot0IsIssuedOrNotHalted uses port.0 new
   pub tape : TapeLaws

@@ -18,8 +18,8 @@ use Rattle.refinement.specs.Fragments.{SomeMachineAgreesWith, SomeMachineAgrees,
 use Rattle.refinement.specs.Driver.{AllFree}
 use Rattle.refinement.specs.PortFacts.{IsSlotClear, RecordsFaultsIfSt}
 use Rattle.refinement.specs.MemoryLayout.{command_list_address, scratch_frame_address}
-use Rattle.refinement.specs.Slots.{Own, SlotStates, client_operation_of, set_slot_state, PageStandsInScratch}
-use Rattle.command_table.specs.TableStores.{IsHeaderOrTableStore, IsUnused}
+use Rattle.refinement.specs.Slots.{Own, SlotStates, client_operation_of, set_slot_state, PageCameSinceAndStandsInScratch}
+use Rattle.command_table.specs.TableStores.{IsHeaderOrTableStore, IsSlotStateFree}
 use Rattle.disk_page.specs.declared.Page.{Page}
 use Rattle.disk_page.specs.declared.Page.TheVariants.{Identity, ErrorLog}
 
@@ -42,11 +42,11 @@ pub record MayAwaitPage (port : Port) (d : Device) : Type 0 where
   pub no_comreset : (d.port port.0).sctl_det ≡ 0
 
 -- A page may be asked for: slot 0 of such a port is unused, and memory has the driver's areas.
-pub record MayGetPage (port : Port) (d : Device) : Type 0 where
+pub record MayGetPageInUnusedSlot0 (port : Port) (d : Device) : Type 0 where
   pub adapter_is_on : IsOn d
   pub has_port : HasPort d port.0
   pub driver_memory_fits : DRIVER_BYTES ≤ d.memory_size
-  pub machine_is_related : SomeMachineAgreesWith (IsUnused port.0 0) d
+  pub machine_is_related : SomeMachineAgreesWith (IsSlotStateFree port.0 0) d
   pub may_ask : PortMayAskForPage port.0 d
 
 -- all that readings noted is as it was, but for those of PxCI
@@ -55,11 +55,11 @@ SameButCiNotes old new = new ≡ record old { last_ci = new.last_ci; slot0_issue
 
 -- It stores slot 0's header, with PRDBC zero, or its table, reads PxCI, writes it with bit 0 alone, or loads the page
 -- from the scratch frame.
-abbrev pub IsPageAccess : Port → Access → Type 0
-IsPageAccess port (Reading r v) = r ≡ Px port Ci
-IsPageAccess port (Writing r v) = (r ≡ Px port Ci) × (v ≡ 1)
-IsPageAccess port (Loading at bytes) = (at ≡ scratch_frame_address port.0) × (length bytes ≡ 512)
-IsPageAccess port (Storing at bytes) = IsHeaderOrTableStore port.0 0 (Storing at bytes)
+abbrev pub IsSlot0CiOrPageMemoryAccess : Port → Access → Type 0
+IsSlot0CiOrPageMemoryAccess port (Reading r v) = r ≡ Px port Ci
+IsSlot0CiOrPageMemoryAccess port (Writing r v) = (r ≡ Px port Ci) × (v ≡ 1)
+IsSlot0CiOrPageMemoryAccess port (Loading at bytes) = (at ≡ scratch_frame_address port.0) × (length bytes ≡ 512)
+IsSlot0CiOrPageMemoryAccess port (Storing at bytes) = IsHeaderOrTableStore port.0 0 (Storing at bytes)
 
 -- What asking leaves of the port: its controls and its addresses; every slot but slot 0, which has no command if it had
 -- none; all that readings noted but of PxCI; the bits of PxSACT that were clear; and the record of its faults since ST
@@ -98,17 +98,18 @@ pub record WaitsForSlot0InVain (port : Port) (accesses : List Access) : Type 0 w
 -- What is said of the page: it is the last that the port's command of this operation has moved, the command came after
 -- the tape was so long, and it is over.
 pub record BringsLastPage (port : ℕ) (o : Operation) (since : ℕ) (bytes : List ℕ) (d : Device) : Type 0 where
-  pub page_stands : PageStandsInScratch d.memory d.tape port o since
+  pub page_stands : PageCameSinceAndStandsInScratch d.memory d.tape port o since
   pub page_bytes_are : bytes ≡ page_stands.move.bytes.value
   pub slot_is_clear : IsSlotClear (d.port port) 0
 
 -- The page came: slot 0 isn't used any more. Or 64 readings of PxCI showed its bit, as the accesses tell: then the
 -- command may be in slot 0 still.
-abbrev pub ReadsPage : Port → Operation → Option (List ℕ) → Device → Device → Type 0
-ReadsPage port o (Some bytes) old new = BringsLastPage port.0 o (length old.tape) bytes new
-    × IsSimulated (IsPageAccess port) (IsUnused port.0 0) old new
-ReadsPage port o None old new = ((new.port port.0).notes.slot0_issued_count ≡ MOST_READINGS)
-    × IsSimulatedAlongChangingUses (WaitsForSlot0InVain port) (IsPageAccess port) (IsUnused port.0 0)
+abbrev pub ReadsPageOrWaitsInVain : Port → Operation → Option (List ℕ) → Device → Device → Type 0
+ReadsPageOrWaitsInVain port o (Some bytes) old new = BringsLastPage port.0 o (length old.tape) bytes new
+    × IsSimulated (IsSlot0CiOrPageMemoryAccess port) (IsSlotStateFree port.0 0) old new
+ReadsPageOrWaitsInVain port o None old new = ((new.port port.0).notes.slot0_issued_count ≡ MOST_READINGS)
+    × IsSimulatedAlongChangingUses (WaitsForSlot0InVain port) (IsSlot0CiOrPageMemoryAccess port)
+    (IsSlotStateFree port.0 0)
     (λ uses. set_slot_state uses port.0 0 (Own o)) old new
 
 -- Some machine agrees with the slots used as they were; or with the command in slot 0.
@@ -118,11 +119,12 @@ MachineAgreesAfterPage port o None uses new = SomeMachineAgrees (set_slot_state 
 
 -- The page was asked for, and came or didn't. The port is left as asking leaves it. Where no slot was used, no fault
 -- halts the port once a page has come; and no page of another command comes.
-pub record GetsPage (port : Port) (page : Page) (result : Option (List ℕ)) (old new : Device) : Type 0 where
+pub record GetsPageOrWaitsInVain (port : Port) (page : Page) (result : Option (List ℕ))
+    (old new : Device) : Type 0 where
   pub leaves_running : LeavesPortWhileAsking port.0 old new
-  pub agrees : (uses : SlotStates) → IsUnused port.0 0 uses → SomeMachineAgrees uses old
+  pub agrees : (uses : SlotStates) → IsSlotStateFree port.0 0 uses → SomeMachineAgrees uses old
       → MachineAgreesAfterPage port (page_operation page) result uses new
-  pub reads : ReadsPage port (page_operation page) result old new
+  pub reads : ReadsPageOrWaitsInVain port (page_operation page) result old new
   pub page_ends_halt : IfSome result (λ _. SomeMachineAgreesWith (λ uses. AllFree uses port.0) old
       → (new.port port.0).halt ≡ NotHalted)
   pub no_other_page_moves : (o : Operation) → client_operation_of o ≡ None → o ≢ page_operation page

@@ -2,20 +2,22 @@
 ghost use Rattle.std.specs.Prelude.{ℕ, ◌++◌, List};
 ghost use Rattle.ata_types.specs.declared.Port.{Port};
 ghost use Rattle.adapter.specs.{Access.{Access}, Device.{Device}, Rules.{IsOn}};
-ghost use Rattle.refinement.specs.{Fragments.{HasNoCommand, IsDrivenBy, SparesOtherPorts}, Slots.{IsOver}};
-ghost use Rattle.disk_page.specs.PageRequests.{IsPageAccess, LeavesPortWhileAsking, WaitsForSlot0InVain};
+ghost use Rattle.refinement.specs.{Fragments.{NoCommandIsIssuedOrTaken, IsDrivenBy, SparesOtherPorts}, Slots.{IsOver}};
+ghost use Rattle.disk_page.specs.PageRequests.{IsSlot0CiOrPageMemoryAccess, LeavesPortWhileAsking, WaitsForSlot0InVain};
 
 use super::prerequisites::law_prerequisites;
 
 /// Asking touches no register of another port; so what is said of such accesses (`SparesOtherPorts`) is so of it. And
 /// accesses of its kinds, in any order, leave the port running; one without a command has none once slot 0's is over.
 pub fn law_asking_is_of_one_port()
-    ensures of_its_port { (port : Port) (access : Access) → IsPageAccess port access → SparesOtherPorts port access }
-    ensures leaves_running { (port : Port) (old new : Device) → IsOn old → IsDrivenBy (IsPageAccess port) old new
+    ensures of_its_port { (port : Port) (access : Access) → IsSlot0CiOrPageMemoryAccess port access
+        → SparesOtherPorts port access }
+    ensures leaves_running { (port : Port) (old new : Device) → IsOn old
+        → IsDrivenBy (IsSlot0CiOrPageMemoryAccess port) old new
         → LeavesPortWhileAsking port.0 old new }
     ensures slots_stay_empty { (port : ℕ) (old new : Device) → LeavesPortWhileAsking port old new
-        → HasNoCommand (old.port port)
-        → IsOver (new.port port) 0 → HasNoCommand (new.port port) }
+        → NoCommandIsIssuedOrTaken (old.port port)
+        → IsOver (new.port port) 0 → NoCommandIsIssuedOrTaken (new.port port) }
 {
     law_prerequisites();
 }

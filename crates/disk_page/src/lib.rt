@@ -8,7 +8,7 @@
 ghost use Rattle.std.specs.Prelude.{◌≡◌, ◌<◌, ◌+◌, ◌*◌, true, false, None, ℕ};
 ghost use Rattle.adapter.specs.{Commands.{command_of}, Device.{Device}, Rules.{IsOn, HasPort}, declared.command.Operation.{Operation}, AccessBounds.{MakesAtMost}};
 ghost use Rattle.refinement.specs.{Fragments.{AnySlotStates, IsSimulated, IsSimulatedAlong}, PortFacts.{IsSlotClear}, Slots.{SlotStates}};
-ghost use Rattle.disk_page.specs.{PageRequests.{AreSlot0IssuedReadings, GetsPage, IsPageAccess, MayAwaitPage, MayGetPage, page_operation}, PageWaits.{AsksForPage, IsPageAwaitedOrReceived}, Costs.{ASK_FOR_PAGE_ACCESSES, PAGE_ACCESSES}};
+ghost use Rattle.disk_page.specs.{PageRequests.{AreSlot0IssuedReadings, GetsPageOrWaitsInVain, IsSlot0CiOrPageMemoryAccess, MayAwaitPage, MayGetPageInUnusedSlot0, page_operation}, PageWaits.{AsksForPage, IsPageAwaitedOrReceived}, Costs.{ASK_FOR_PAGE_ACCESSES, PAGE_ACCESSES}};
 
 pub mod laws;
 mod prerequisites;
@@ -55,7 +55,7 @@ fn command(page: Page) -> Command
 
 /// Issues the command that brings the page to the scratch frame, in slot 0.
 fn ask<A: Adapter>(adapter: &mut A, port: Port, page: Page)
-    requires may { MayGetPage port (A.device adapter.old) }
+    requires may { MayGetPageInUnusedSlot0 port (A.device adapter.old) }
     ensures adapter_is_on { IsOn (A.device adapter.new) }
     ensures asks { AsksForPage port page (A.device adapter.old) (A.device adapter.new) }
     ensures cost { MakesAtMost ASK_FOR_PAGE_ACCESSES (A.access_count adapter.old) (A.access_count adapter.new) }
@@ -70,7 +70,8 @@ fn ask<A: Adapter>(adapter: &mut A, port: Port, page: Page)
 /// Waits until the command in slot 0 isn't issued any more, for 64 readings of PxCI at most.
 fn wait<A: Adapter>(adapter: &mut A, port: Port) -> bool
     requires may { MayAwaitPage port (A.device adapter.old) }
-    ensures followed { IsSimulated (IsPageAccess port) AnySlotStates (A.device adapter.old) (A.device adapter.new) }
+    ensures followed { IsSimulated (IsSlot0CiOrPageMemoryAccess port) AnySlotStates (A.device adapter.old)
+        (A.device adapter.new) }
     ensures adapter_is_on { IsOn (A.device adapter.new) }
     ensures waiting { (o : Operation) (since : ℕ) (uses : SlotStates) (start : Device)
         → IsPageAwaitedOrReceived port o since uses start (A.device adapter.old)
@@ -80,7 +81,7 @@ fn wait<A: Adapter>(adapter: &mut A, port: Port) -> bool
         → IsSlotClear ((A.device adapter.new).port port.0) 0 }
     ensures vain { result ≡ false
         → (((A.device adapter.new).port port.0).notes.slot0_issued_count ≡ MOST_READINGS)
-        × IsSimulatedAlong (AreSlot0IssuedReadings port MOST_READINGS) (IsPageAccess port) AnySlotStates
+        × IsSimulatedAlong (AreSlot0IssuedReadings port MOST_READINGS) (IsSlot0CiOrPageMemoryAccess port) AnySlotStates
         (A.device adapter.old)
         (A.device adapter.new) }
     ensures cost { MakesAtMost MOST_READINGS (A.access_count adapter.old) (A.access_count adapter.new) }
@@ -100,9 +101,9 @@ fn wait<A: Adapter>(adapter: &mut A, port: Port) -> bool
 /// Where none of them is used, no fault halts the port once a page has come: the end of READ LOG EXT ends the halt of a
 /// queued fault. No page of another command comes.
 pub fn read_page<A: Adapter>(adapter: &mut A, port: Port, page: Page) -> Option<[u8; 512]>
-    requires may { MayGetPage port (A.device adapter.old) }
+    requires may { MayGetPageInUnusedSlot0 port (A.device adapter.old) }
     ensures on { IsOn (A.device adapter.new) }
-    ensures gets { GetsPage port page result (A.device adapter.old) (A.device adapter.new) }
+    ensures gets { GetsPageOrWaitsInVain port page result (A.device adapter.old) (A.device adapter.new) }
     ensures cost { MakesAtMost PAGE_ACCESSES (A.access_count adapter.old) (A.access_count adapter.new) }
 {
     law_prerequisites();

@@ -7,17 +7,17 @@ use adapter::laws::{
 use command_table::laws::law_table_stores_touch_no_register;
 use refinement::access_kinds::law_fragment_prerequisites;
 use refinement::fragments::{
-    law_agreeing_goes_on, law_other_ports_are_untouched, law_tape_prerequisites,
-    law_unused_slots_are_silent,
+    law_agreeing_goes_on, law_other_ports_are_untouched, law_port_without_command_gains_no_move,
+    law_tape_prerequisites,
 };
 use refinement::laws::{
-    law_own_issuing_is_permitted, law_pages_come_when_asked, law_pages_may_be_loaded,
-    law_setting_changes_one_slot,
+    law_device_owns_no_scratch_page_once_slot_0_over, law_own_issuing_is_permitted,
+    law_pages_come_only_for_own_commands, law_setting_changes_one_slot,
 };
 use refinement::port_facts::{
     law_adapter_stays, law_faults_are_recorded, law_over_stays, law_page_is_awaited,
 };
-use refinement::recovering::law_halt_is_ended;
+use refinement::recovering::law_own_command_end_ends_halt;
 use std::marker::Brand;
 
 /// The laws that the proofs of this crate rest on.
@@ -33,12 +33,12 @@ pub fn law_prerequisites()
     law_page_is_awaited();
     law_fragment_prerequisites::<Brand>();
     law_own_issuing_is_permitted();
-    law_pages_may_be_loaded();
-    law_pages_come_when_asked();
+    law_device_owns_no_scratch_page_once_slot_0_over();
+    law_pages_come_only_for_own_commands();
     law_setting_changes_one_slot();
-    law_halt_is_ended();
+    law_own_command_end_ends_halt();
     law_tape_prerequisites();
-    law_unused_slots_are_silent();
+    law_port_without_command_gains_no_move();
     law_agreeing_goes_on();
     law_other_ports_are_untouched();
     law_table_stores_touch_no_register();

@@ -7,11 +7,11 @@ use Rattle.ata_types.specs.declared.refusal.FrameFault.{FrameFault}
 use Rattle.ata_types.specs.declared.refusal.FrameFault.TheVariants.{FrameForeign, FrameTwice, FrameLent}
 use Rattle.ata_types.specs.declared.refusal.Refusal.TheVariants as refused
 use Rattle.ata_types.specs.declared.refusal.Rule.TheVariants.{Frames}
-use Rattle.block_machine.specs.Rules.{IsForeignAt, IsRepeatAt, IsLentAt, HasFault, RanksBefore, refusal_rank, HasNoFault, IsFirstFault}
+use Rattle.block_machine.specs.Rules.{IsForeignAt, IsRepeatAt, IsLentAt, HasFault, RanksBefore, refusal_rank, HasNoFault, IsFirstFaultByKindThenPlace}
 use Rattle.dma_frames.specs.LeastPlaces.{IsLeast}
 
 module _ (owner : Frame → Option ClientId) (lent : Frame → Option RequestId) (client : ClientId) (frames : List Frame) where
-  pub first_foreign_fault : (i : ℕ) → IsLeast (IsForeignAt owner client frames) i → IsFirstFault owner lent client frames (FrameForeign i)
+  pub first_foreign_fault : (i : ℕ) → IsLeast (IsForeignAt owner client frames) i → IsFirstFaultByKindThenPlace owner lent client frames (FrameForeign i)
   first_foreign_fault i least = (least.0, none_before)
     where
       none_before : (other : FrameFault) → RanksBefore (refusal_rank (refused.Rule (Frames other))) (refusal_rank (refused.Rule (Frames (FrameForeign i)))) → HasFault owner lent client frames other → ⊥
@@ -20,7 +20,7 @@ module _ (owner : Frame → Option ClientId) (lent : Frame → Option RequestId)
       none_before (FrameLent j) before = elim before [ inl h ↦ absurd (omega arith) | inr h ↦ absurd (omega arith) ]
 
   pub first_twice_fault : (i : ℕ) → ((j : ℕ) → IsForeignAt owner client frames j → ⊥) → IsLeast (IsRepeatAt frames) i
-      → IsFirstFault owner lent client frames (FrameTwice i)
+      → IsFirstFaultByKindThenPlace owner lent client frames (FrameTwice i)
   first_twice_fault i own least = (least.0, none_before)
     where
       none_before : (other : FrameFault) → RanksBefore (refusal_rank (refused.Rule (Frames other))) (refusal_rank (refused.Rule (Frames (FrameTwice i)))) → HasFault owner lent client frames other → ⊥
@@ -29,7 +29,7 @@ module _ (owner : Frame → Option ClientId) (lent : Frame → Option RequestId)
       none_before (FrameLent j) before = elim before [ inl h ↦ absurd (omega arith) | inr h ↦ absurd (omega arith) ]
 
   pub first_lent_fault : (i : ℕ) → ((j : ℕ) → IsForeignAt owner client frames j → ⊥) → ((j : ℕ) → IsRepeatAt frames j → ⊥)
-      → IsLeast (IsLentAt lent frames) i → IsFirstFault owner lent client frames (FrameLent i)
+      → IsLeast (IsLentAt lent frames) i → IsFirstFaultByKindThenPlace owner lent client frames (FrameLent i)
   first_lent_fault i own once least = (least.0, none_before)
     where
       none_before : (other : FrameFault) → RanksBefore (refusal_rank (refused.Rule (Frames other))) (refusal_rank (refused.Rule (Frames (FrameLent i)))) → HasFault owner lent client frames other → ⊥

@@ -6,7 +6,7 @@
 #![tactic(auto)]
 
 ghost use Rattle.std.specs.Prelude.{[], ◌≡◌, ◌≢◌, ℕ, ◌<◌, ◌≤◌, length, All, AllPairs, Contains, None, Some, IsSome, IsTrue, false, ◌↔◌, OnOk, IfOk, IfErr, slice_index_or};
-ghost use Rattle.block_machine.specs.Rules.{IsForeignAt, IsRepeatAt, IsLentAt, HasNoFault, IsFirstFault};
+ghost use Rattle.block_machine.specs.Rules.{IsForeignAt, IsRepeatAt, IsLentAt, HasNoFault, IsFirstFaultByKindThenPlace};
 ghost use Rattle.dma_frames.specs.{Loan.{Lending}, LeastPlaces.{IsLeastPlace}, FrameTables.{FrameExtent, owner_of, lent_to, SetsLoanOnly, ExtentHasFrame, IsValidExtent, IsUnlentTableOf, ExtentsApart}, TableLists.{client_of, borrowers_of, owners_of}};
 
 mod frame_bits;
@@ -198,7 +198,8 @@ impl FrameTable {
     /// one kind the one at the least place is told.
     pub fn check(&self, client: ClientId, frames: &[Frame]) -> Result<(), FrameFault>
         ensures ok { OnOk result (HasNoFault (owner_of self.now) (lent_to self.now) client frames.now) }
-        ensures err { IfErr result (IsFirstFault (owner_of self.now) (lent_to self.now) client frames.now) }
+        ensures err { IfErr result (IsFirstFaultByKindThenPlace (owner_of self.now)
+            (lent_to self.now) client frames.now) }
     {
         // Three passes find which fault comes first; mostly there is none, and one pass shows it.
         if self.are_clear(client, frames) {
@@ -241,7 +242,8 @@ impl FrameTable {
     /// What is wrong with these frames first, as `check` says.
     fn first_fault(&self, client: ClientId, frames: &[Frame]) -> Result<(), FrameFault>
         ensures ok { OnOk result (HasNoFault (owner_of self.now) (lent_to self.now) client frames.now) }
-        ensures err { IfErr result (IsFirstFault (owner_of self.now) (lent_to self.now) client frames.now) }
+        ensures err { IfErr result (IsFirstFaultByKindThenPlace (owner_of self.now)
+            (lent_to self.now) client frames.now) }
     {
         if let Some(place) = self.first_foreign(client, frames) {
             return Err(FrameFault::FrameForeign(place));

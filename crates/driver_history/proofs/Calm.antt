@@ -20,9 +20,9 @@ use Rattle.block_machine.specs.Ports.{Ports, Evidence, IsStoppedOrStuck}
 use Rattle.block_machine.specs.State.{Machine}
 use Rattle.block_machine.specs.Steps.{Step}
 use Rattle.identify.specs.declared.wanted.Wanted.{Wanted}
-use Rattle.driver_history.specs.EvidenceHandling.{IsDisturbed, IsLeftAlone, ServicesReadyPort, HandlesEvidenceAt}
+use Rattle.driver_history.specs.EvidenceHandling.{ShowsErrorOrLinkOrDiskChange, IsLeftAlone, ServicesReadyPort, HandlesIfServiceElseOnlyTickOrResetStops}
 use Rattle.driver_history.specs.Claims.{IsFaultFreeOutcome, IsSpared}
-use Rattle.driver_history.specs.Evidence.{TapeGainsEntry, ReadyPortHasErrors, ReadyPortHasFatalErrors, IsEvidencedOf, ReadyPortHasLinkChangeOrNoDevice, ShowsFailure, StaysHealthy}
+use Rattle.driver_history.specs.Evidence.{TapeGainsEntry, ReadyPortShowedOrHadFailure, ReadyPortShowedOrHadFatalError, IsEvidencedOf, ReadyPortShowedLossOrHadPlugEvent, ShowsFailure, StaysHealthy}
 use Rattle.error_recovery.specs.Evidence.{GainsSinceStart, ShowsFatal}
 use Rattle.driver_history.specs.Histories.{LosesNoPortError, CallCorresponds}
 use Rattle.driver_history.specs.AccessTrace.{WritesNeitherCmdNorSctl}
@@ -104,7 +104,7 @@ untroubled evidence old ports new port healthy = record {
 
 -- nothing of what trouble is named for is so of it
 module _ (port : Port) (old : JointState Device) (new : Device) (healthy : StaysHealthy port.0 old.device new) where
-  pub no_errors : ReadyPortHasErrors port old new → ⊥
+  pub no_errors : ReadyPortShowedOrHadFailure port old new → ⊥
   no_errors e = ⊎_elim
       (no_failure (old.device.port port.0) healthy.port_runs_well.shows_no_trouble)
       (λ g. ⊎_elim
@@ -113,7 +113,7 @@ module _ (port : Port) (old : JointState Device) (new : Device) (healthy : Stays
       g)
       e.1
 
-  pub no_fatal_errors : ReadyPortHasFatalErrors port old new → ⊥
+  pub no_fatal_errors : ReadyPortShowedOrHadFatalError port old new → ⊥
   no_fatal_errors e = ⊎_elim
       (no_fatal (old.device.port port.0) healthy.port_runs_well.shows_no_trouble)
       (none_gained port.0 (IsFatalErrorOf port.0) old.device new (fatal_disturbs port.0) healthy.undisturbed)
@@ -122,7 +122,7 @@ module _ (port : Port) (old : JointState Device) (new : Device) (healthy : Stays
   pub no_plugging : TapeGainsEntry (IsPlugEvent port.0) old.device new → ⊥
   no_plugging = none_gained port.0 (IsPlugEvent port.0) old.device new (plugging_disturbs port.0) healthy.undisturbed
 
-  pub not_gone : ReadyPortHasLinkChangeOrNoDevice port old new → ⊥
+  pub not_gone : ReadyPortShowedLossOrHadPlugEvent port old new → ⊥
   not_gone g = ⊎_elim
       (λ change. ⊎_elim (λ n. false≢true (sym healthy.port_runs_well.shows_no_trouble.serr_n_is_clear ∙ n)) (λ x. false≢true (sym healthy.port_runs_well.shows_no_trouble.serr_x_is_clear ∙ x)) change)
       (λ more. ⊎_elim (λ missing. missing healthy.port_runs_well.det_is_3) no_plugging more)
@@ -143,13 +143,13 @@ module _ (told : EntryIsTold) (wanted : List Wanted) (old : JointState Device) (
       let x = told port old.abstract.machine t.is_backed.new_entries h.event.steps t.is_backed.tells_device_steps is in
       no_plugging port old h.device healthy (record { new_entries = t.is_backed.new_entries; tape_is = t.is_backed.tape_is; entry = x.0; entry_is_new = x.1; entry_is_of_kind = x.2 })
 
-  undisturbed : IsDisturbed h.event.evidence h.event.steps port → ⊥
+  undisturbed : ShowsErrorOrLinkOrDiskChange h.event.evidence h.event.steps port → ⊥
   undisturbed d = ⊎_elim (λ failed. no_errors port old h.device healthy (ev.named_showing_error_had_error failed)) (λ rest. ⊎_elim (λ g. not_gone port old h.device healthy (ev.named_link_changed_had_change_or_no_device g)) changes rest) d
 
   module _ (asks : h.event.call ≡ Service) (ready : old.abstract.ports.state port ≡ Ready) where
     serves : ServicesReadyPort old.abstract h.event.evidence h.event.steps (abstract_after old.abstract h.event) port
     serves =
-        let Heeded : AbstractCall DeviceStep → Type 0 = λ ask. HandlesEvidenceAt port ask old.abstract h.event.evidence h.event.steps (abstract_after old.abstract h.event) in
+        let Heeded : AbstractCall DeviceStep → Type 0 = λ ask. HandlesIfServiceElseOnlyTickOrResetStops port ask old.abstract h.event.evidence h.event.steps (abstract_after old.abstract h.event) in
         let its : Heeded Service = subst Heeded asks (t.ports_correspond port).handles_evidence in
         its ready
 
@@ -160,13 +160,13 @@ module _ (told : EntryIsTold) (wanted : List Wanted) (old : JointState Device) (
     spared = record {
       port_is_same = alone.port_is_same;
       outcomes_are_fault_free = λ e o here at. subst (λ (ask : AbstractCall DeviceStep). IsFaultFreeOutcome ask o) (sym asks) (⊎_elim (λ x. x) (λ x. x) (alone.only_ok_is_told e o here at));
-      engine_is_left = ⊎_elim (λ a. a) (λ i. absurd (alone.is_not_interrupted i)) ev.engine_is_left_or_stopped;
+      engine_is_left = ⊎_elim (λ a. a) (λ i. absurd (alone.is_neither_stopped_nor_stuck i)) ev.engine_is_left_or_stopped;
     }
 
   -- nothing stopped it, unless it is a tick that restarts it, or a reset
-  no_interrupt : (ask : AbstractCall DeviceStep) → HandlesEvidenceAt port ask old.abstract h.event.evidence h.event.steps (abstract_after old.abstract h.event) → ask ≢ Reset
+  no_interrupt : (ask : AbstractCall DeviceStep) → HandlesIfServiceElseOnlyTickOrResetStops port ask old.abstract h.event.evidence h.event.steps (abstract_after old.abstract h.event) → ask ≢ Reset
       → (ask ≡ Tick → IsStoppedOrStuck h.event.evidence port → ⊥) → old.abstract.ports.state port ≡ Ready → IsStoppedOrStuck h.event.evidence port → ⊥
-  no_interrupt Service heeds other spares ready i = ⊎_elim undisturbed (λ (a : IsLeftAlone old.abstract.ports h.event.evidence h.event.steps h.event.ports port). a.is_not_interrupted i) (heeds ready).is_left_alone_if_calm
+  no_interrupt Service heeds other spares ready i = ⊎_elim undisturbed (λ (a : IsLeftAlone old.abstract.ports h.event.evidence h.event.steps h.event.ports port). a.is_neither_stopped_nor_stuck i) (heeds ready).is_left_alone_if_calm
   no_interrupt Tick heeds other spares ready i = spares refl i
   no_interrupt Reset heeds other spares ready i = other refl
   no_interrupt (Submit r) heeds other spares ready i = heeds i

@@ -16,7 +16,7 @@ use Rattle.adapter.specs.declared.access.DeviceStep.{DeviceStep}
 use Rattle.refinement.specs.PortFacts.{RunsWell, Undisturbed}
 use Rattle.refinement.specs.PreservedParts.{DoesNotWrite}
 use Rattle.block_machine.specs.Events.{AbstractCall, Submit, StoreAt, LoadAt, Service, Tick, Reset, RevokeOf, StepDevice as Told, AbstractCallResult, Submitted, Stored, Loaded, Replied, WasRevoked, Stepped, TimesOutAtTick, AbstractState}
-use Rattle.driver_history.specs.Histories.{ExplainsAccesses, IsIssuingAccess, IsServedAndNotDead}
+use Rattle.driver_history.specs.Histories.{ExplainsAccesses, StoresOrWritesSactOrCi, IsServedAndNotDead}
 use Rattle.driver_history.specs.AccessTrace.{UsesPortsAndNotGhc, WritesNeitherCmdNorSctl}
 use Rattle.port_boot.specs.States.{StaysRunningIfUndisturbed}
 
@@ -28,7 +28,7 @@ LeavesRunning port access = DoesNotWrite Ghc access × WritesNeitherCmdNorSctl p
 abbrev pub IsCalm : Port → List Access → Device → Device → Type 0
 IsCalm port accesses old new = (All (LeavesRunning port) accesses × DoesAll accesses old new) ⊎ Steps old new
 
-issuing_leaves : (port at : Port) (access : Access) → IsIssuingAccess at access → LeavesRunning port access
+issuing_leaves : (port at : Port) (access : Access) → StoresOrWritesSactOrCi at access → LeavesRunning port access
 issuing_leaves port at (Writing r v) (inl e) =
     (λ q. absurd (let z : Px at Sact ≡ Ghc = sym e ∙ q in cc), ((λ q. absurd (let z : Px at Sact ≡ Px port Cmd = sym e ∙ q in cc)), (λ q. absurd (let z : Px at Sact ≡ Px port Sctl = sym e ∙ q in cc))))
 issuing_leaves port at (Writing r v) (inr e) =

@@ -21,7 +21,7 @@ use Rattle.block_machine.specs.Histories.{JointState}
 use Rattle.block_machine.specs.Ports.{Evidence, Ports}
 use Rattle.driver_history.specs.Histories.{LosesNoPortError}
 use Rattle.driver_history.specs.Laws.{AccessLaws}
-use Rattle.driver_history.specs.AccessTrace.{ClearsNoError}
+use Rattle.driver_history.specs.AccessTrace.{WritesOneToNoTroubleBit}
 use Rattle.driver_history.proofs.Calm.{gains_of}
 use Rattle.driver_history.proofs.Errors.{AreShown, Shows, TroubleKind, access_shows, change_still, disks, failure_still, faults, fatals, links, register_of, shown_more, shown_none, steps_show}
 use Rattle.driver_history.proofs.Parting.{grows_over}
@@ -67,13 +67,13 @@ module _ (laws : AccessLaws) (port : Port) where
 
   -- a write of a kind's register that leaves its bits
   module _ (v : ℕ) (old new : Device) where
-    module _ (x : PortRegisterWritten port.0 register.Is v old new) (leaves : ClearsNoError port (Writing (Px port register.Is) v)) where
+    module _ (x : PortRegisterWritten port.0 register.Is v old new) (leaves : WritesOneToNoTroubleBit port (Writing (Px port register.Is) v)) where
       cause_left : (place : ℕ) → 27 ≤ place → place ≤ 30 → (x.at_access.port port.0).is place ≡ true → (new.port port.0).is place ≡ true
       cause_left place low high set =
           ap (λ (p : DevicePort). p.is place) x.port_is_written
           ∙ cleared_of ((x.at_access.port port.0).is place) (bit v place) (leaves.pxis_trouble_is_kept refl place low high) set
 
-    module _ (x : PortRegisterWritten port.0 register.Serr v old new) (leaves : ClearsNoError port (Writing (Px port register.Serr) v)) where
+    module _ (x : PortRegisterWritten port.0 register.Serr v old new) (leaves : WritesOneToNoTroubleBit port (Writing (Px port register.Serr) v)) where
       disk_left : (x.at_access.port port.0).serr_n ≡ true → (new.port port.0).serr_n ≡ true
       disk_left set =
           ap (λ (p : DevicePort). p.serr_n) x.port_is_written
@@ -84,7 +84,7 @@ module _ (laws : AccessLaws) (port : Port) where
           ap (λ (p : DevicePort). p.serr_x) x.port_is_written
           ∙ cleared_of (x.at_access.port port.0).serr_x (bit v 26) (leaves.serr_trouble_is_kept refl).1 set
 
-    left_set : (kind : TroubleKind) → ClearsNoError port (Writing (Px port (register_of kind)) v) → (x : PortRegisterWritten port.0 (register_of kind) v old new) → Shows kind (x.at_access.port port.0) → Shows kind (new.port port.0)
+    left_set : (kind : TroubleKind) → WritesOneToNoTroubleBit port (Writing (Px port (register_of kind)) v) → (x : PortRegisterWritten port.0 (register_of kind) v old new) → Shows kind (x.at_access.port port.0) → Shows kind (new.port port.0)
     left_set faults leaves x set = cause_left x leaves 30 (omega arith) (omega arith) set
     left_set fatals leaves x shown =
         let high = shown.to in
@@ -92,7 +92,7 @@ module _ (laws : AccessLaws) (port : Port) where
     left_set disks leaves x set = disk_left x leaves set
     left_set links leaves x set = link_left x leaves set
 
-    write_shows : (kind : TroubleKind) → old.hr ≡ false → ClearsNoError port (Writing (Px port (register_of kind)) v) → Writes (Px port (register_of kind)) v old new → AreShown kind port.0 old new
+    write_shows : (kind : TroubleKind) → old.hr ≡ false → WritesOneToNoTroubleBit port (Writing (Px port (register_of kind)) v) → Writes (Px port (register_of kind)) v old new → AreShown kind port.0 old new
     write_shows kind on leaves writes =
         let x = laws.port_register_written port (register_of kind) v old new writes on in
         let y = steps_show laws kind port.0 old x.at_access on x.steps in
@@ -101,21 +101,21 @@ module _ (laws : AccessLaws) (port : Port) where
           came = λ g. left_set kind leaves x (y.came (record { new_entries = g.new_entries; tape_is = sym x.tape_is_as_at_access ∙ g.tape_is; entry = g.entry; entry_is_new = g.entry_is_new; entry_is_of_kind = g.entry_is_of_kind }));
         }
 
-  one_shows : (kind : TroubleKind) (access : Access) (old new : Device) → old.hr ≡ false → ClearsNoError port access → Does access old new → AreShown kind port.0 old new
+  one_shows : (kind : TroubleKind) (access : Access) (old new : Device) → old.hr ≡ false → WritesOneToNoTroubleBit port access → Does access old new → AreShown kind port.0 old new
   one_shows kind access old new on clears does = ⊎_elim
       (λ (spares : DoesNotWrite (Px port (register_of kind)) access). access_shows laws kind port access old new on spares does)
       (λ (w : (v : ℕ) × (access ≡ Writing (Px port (register_of kind)) v)).
-      write_shows w.0 old new kind on (subst (ClearsNoError port) w.1 clears) (subst (λ (a : Access). Does a old new) w.1 does))
+      write_shows w.0 old new kind on (subst (WritesOneToNoTroubleBit port) w.1 clears) (subst (λ (a : Access). Does a old new) w.1 does))
       (writes_or_spares kind access)
 
   -- accesses that clear none of it, while the adapter is on
-  pub accesses_show : (accesses : List Access) (old new : Device) → IsOn old → DoesAll accesses old new → All (DoesNotWrite Ghc) accesses → All (ClearsNoError port) accesses → (kind : TroubleKind) → AreShown kind port.0 old new
+  pub accesses_show : (accesses : List Access) (old new : Device) → IsOn old → DoesAll accesses old new → All (DoesNotWrite Ghc) accesses → All (WritesOneToNoTroubleBit port) accesses → (kind : TroubleKind) → AreShown kind port.0 old new
   accesses_show [] old new on same spares clears kind = subst (AreShown kind port.0 old) (sym same) (shown_none kind port.0 old)
   accesses_show (access ∷ accesses) old new on (mid, does, rest) spares clears kind =
       let on_mid = laws.accesses_keep_adapter_on (access ∷ []) old mid on (All-cons (DoesNotWrite Ghc) access [] (All-head (DoesNotWrite Ghc) access accesses spares) (All-nil (DoesNotWrite Ghc))) (mid, does, refl) in
       shown_more kind port.0 old mid new (laws.tape.access_grows access old mid does) (grows_over laws port accesses mid new rest)
-      (one_shows kind access old mid on.no_reset (All-head (ClearsNoError port) access accesses clears) does)
-      (accesses_show accesses mid new on_mid rest (All-tail (DoesNotWrite Ghc) access accesses spares) (All-tail (ClearsNoError port) access accesses clears) kind)
+      (one_shows kind access old mid on.no_reset (All-head (WritesOneToNoTroubleBit port) access accesses clears) does)
+      (accesses_show accesses mid new on_mid rest (All-tail (DoesNotWrite Ghc) access accesses spares) (All-tail (WritesOneToNoTroubleBit port) access accesses clears) kind)
 
   -- ---- trouble is shown
 

@@ -22,7 +22,7 @@ use Rattle.refinement.specs.PreservedParts.{ComesUp, IsPlugEvent, NoPlugEvents, 
 use Rattle.block_machine.specs.Events.{AbstractCall, AbstractState, AbstractCallResult}
 use Rattle.block_machine.specs.Histories.{JointState}
 use Rattle.block_machine.specs.Ports.{Ports, SamePort, Evidence, IsStoppedOrStuck}
-use Rattle.driver_history.specs.Evidence.{TapeGainsEntry, ReadyPortHasErrors, ReadyPortHasFatalErrors, IsEvidencedOf, ReadyPortHasLinkChangeOrNoDevice, MayHaveLostDisk, ShowsLinkChange, ShowsLoss}
+use Rattle.driver_history.specs.Evidence.{TapeGainsEntry, ReadyPortShowedOrHadFailure, ReadyPortShowedOrHadFatalError, IsEvidencedOf, ReadyPortShowedLossOrHadPlugEvent, ShowedLossHadPlugEventOrEndsNeitherDeadNorUnchanged, ShowsLinkChange, BeganWithLinkChangeOrNoDeviceAndNoneComes}
 use Rattle.error_recovery.specs.Evidence.{BringsLastLogPage, HasFailed, ShowsFatal}
 use Rattle.driver_history.specs.Laws.{AccessLaws}
 use Rattle.driver_history.specs.PortTurn.{HasTurnIn, IsOfOtherPort, EvidenceAgreesOn, call_accesses}
@@ -197,7 +197,7 @@ module _ (laws : AccessLaws) (port : Port) where
   -- ---- a turn in a call
 
   -- a loss that the port shows in the call it shows in its turn
-  pub loss_then : (old new : Device) → IsOn old → (old.port port.0).link_due ≡ false → (t : HasTurnIn port old new) → ShowsLoss port old new → ShowsLoss port t.start t.end
+  pub loss_then : (old new : Device) → IsOn old → (old.port port.0).link_due ≡ false → (t : HasTurnIn port old new) → BeganWithLinkChangeOrNoDeviceAndNoneComes port old new → BeganWithLinkChangeOrNoDeviceAndNoneComes port t.start t.end
   loss_then old new on undue t loss = ⊎_elim
       (λ change. inl (change_still port.0 old t.start first.trouble_shown change))
       (λ missing.
@@ -286,7 +286,7 @@ module _ (laws : AccessLaws) (port : Port) where
     ready_then : begun.ports.state port ≡ Ready → old.abstract.ports.state port ≡ Ready
     ready_then is = sym was.1 ∙ is
 
-    lost : (old.device.port port.0).link_due ≡ false → MayHaveLostDisk port (record { device = t.start; abstract = begun }) ended t.end → MayHaveLostDisk port old ports new
+    lost : (old.device.port port.0).link_due ≡ false → ShowedLossHadPlugEventOrEndsNeitherDeadNorUnchanged port (record { device = t.start; abstract = begun }) ended t.end → ShowedLossHadPlugEventOrEndsNeitherDeadNorUnchanged port old ports new
     lost undue (inl shown) = ⊎_elim (λ change. inl change) (λ g. inr (inr (inl g))) (changes undue shown)
     lost undue (inr (inl gone)) = ⊎_elim (λ out. inr (inl out)) (λ g. inr (inr (inl g))) (missing undue gone)
     lost undue (inr (inr (inl g))) = inr (inr (inl (within (IsPlugEvent port.0) g)))
@@ -295,24 +295,24 @@ module _ (laws : AccessLaws) (port : Port) where
       (λ is same. end.1 (sym stays.1 ∙ is) (sym stays.2 ∙ same.0 ∙ sym was.2, sym stays.3 ∙ same.1 ∙ sym was.3)),
     )))
 
-    gone_only : ReadyPortHasLinkChangeOrNoDevice port (record { device = t.start; abstract = begun }) t.end → ReadyPortHasLinkChangeOrNoDevice port old new
+    gone_only : ReadyPortShowedLossOrHadPlugEvent port (record { device = t.start; abstract = begun }) t.end → ReadyPortShowedLossOrHadPlugEvent port old new
     gone_only (is, inl shown) = (ready_then is, ⊎_elim (λ change. inl change) (λ g. inr (inr g)) (changes (linked (inl (ready_then is))) shown))
     gone_only (is, inr (inl gone)) = (ready_then is, ⊎_elim (λ out. inr (inl out)) (λ g. inr (inr g)) (missing (linked (inl (ready_then is))) gone))
     gone_only (is, inr (inr g)) = (ready_then is, inr (inr (within (IsPlugEvent port.0) g)))
 
-    errors : ReadyPortHasErrors port (record { device = t.start; abstract = begun }) t.end → ReadyPortHasErrors port old new
+    errors : ReadyPortShowedOrHadFailure port (record { device = t.start; abstract = begun }) t.end → ReadyPortShowedOrHadFailure port old new
     errors (is, inl (inl shown)) = (ready_then is, ⊎_elim (λ f. inl (inl f)) (λ g. inr (inr g)) (fatal shown))
     errors (is, inl (inr shown)) = (ready_then is, ⊎_elim (λ f. inl (inr f)) (λ g. inr (inl g)) (failed shown))
     errors (is, inr (inl g)) = (ready_then is, inr (inl (within (IsFaultOf port.0) g)))
     errors (is, inr (inr g)) = (ready_then is, inr (inr (within (IsFatalErrorOf port.0) g)))
 
-    fatal_errors : ReadyPortHasFatalErrors port (record { device = t.start; abstract = begun }) t.end → ReadyPortHasFatalErrors port old new
+    fatal_errors : ReadyPortShowedOrHadFatalError port (record { device = t.start; abstract = begun }) t.end → ReadyPortShowedOrHadFatalError port old new
     fatal_errors (is, inl shown) = (ready_then is, ⊎_elim (λ f. inl f) (λ g. inr g) (fatal shown))
     fatal_errors (is, inr g) = (ready_then is, inr (within (IsFatalErrorOf port.0) g))
 
     pub evidence_is_the_calls : IsEvidencedOf ask said (call_accesses t) old ports new call port
     evidence_is_the_calls = record {
-      named_lost_may_have_lost_disk = λ named. lost (linked (inr (alike.lost.1 named))) (its.named_lost_may_have_lost_disk (alike.lost.1 named));
+      named_lost_showed_loss_or_changed = λ named. lost (linked (inr (alike.lost.1 named))) (its.named_lost_showed_loss_or_changed (alike.lost.1 named));
       shown_loss_of_ready_is_named = λ is loss. alike.link_changed.0 (its.shown_loss_of_ready_is_named (ready is) (loss_then old.device new on (linked (inl is)) t loss));
       named_link_changed_had_change_or_no_device = λ named. gone_only (its.named_link_changed_had_change_or_no_device (alike.link_changed.1 named));
       shown_failure_of_ready_is_named = λ is failure. alike.showing_error.0 (its.shown_failure_of_ready_is_named (ready is) (failure_still port.0 old.device t.start first.trouble_shown failure));

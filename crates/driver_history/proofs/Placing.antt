@@ -21,7 +21,7 @@ use Rattle.block_machine.specs.Steps.{Step, Touch}
 use Rattle.identify.specs.declared.wanted.Wanted.{Wanted}
 use Rattle.driver_history.specs.Histories.{IsDriverHistory}
 use Rattle.driver_history.specs.Laws.{RunLaws}
-use Rattle.driver_history.specs.ConfinedMoves.{IsConfinedClear, IsConfinedMove, ConfinesCallMovesAndClears, KeepsToItsFrames}
+use Rattle.driver_history.specs.ConfinedMoves.{IsConfinedClear, IsConfinedMove, ConfinesCallMovesAndClears, KeepsToLentOrScratchFrames}
 use Rattle.driver_history.proofs.Telling.{history_runs, machine_is}
 
 -- ---- among a call's steps
@@ -159,7 +159,7 @@ module _ (laws : RunLaws) (wanted : List Wanted) (first : JointState Device) (pa
       split = ap (λ (steps : List Step). steps ++ early) a.here ∙ append_assoc a.later (a.step ∷ a.before) early
           ∙ ap (λ (steps : List Step). a.later ++ (steps ++ (a.before ++ early))) then.step_is
 
-  keeps : (o : Option Op) (move : tape_move.Move) → Goes o m h.event.steps move → KeepsToItsFrames o start early h.event.steps move
+  keeps : (o : Option Op) (move : tape_move.Move) → Goes o m h.event.steps move → KeepsToLentOrScratchFrames o start early h.event.steps move
   keeps (Some Read) move a = confined Read move a
   keeps (Some Write) move a = confined Write move a
   keeps None move a = a

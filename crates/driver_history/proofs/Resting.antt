@@ -21,7 +21,7 @@ use Rattle.block_machine.specs.Expected.{after}
 use Rattle.host_boot.specs.TakeOver.{wanted_of}
 use Rattle.identify.specs.declared.wanted.Wanted.{Wanted}
 use Rattle.driver_history.specs.Claims.{AnswerJustified}
-use Rattle.driver_history.specs.Evidence.{IsEndedReset, MayHaveLostDisk}
+use Rattle.driver_history.specs.Evidence.{IsEndedReset, ShowedLossHadPlugEventOrEndsNeitherDeadNorUnchanged}
 use Rattle.driver_history.specs.Histories.{CallCorresponds}
 use Rattle.driver_history.specs.PortInvariants.{DriverInvariant, PortStateInvariant, IsDeadAt}
 
@@ -99,8 +99,8 @@ module _ (wanted : List Wanted) (old : JointState Device) (h : JointEvent Device
   lawful e o here = lawful_of old.abstract h.event.evidence h.event.ports h.event.steps x.answers_are_lawful e o here
 
   -- a port of which Unplugged is told was lost
-  pub lost_then : (e : Pending) → Contains h.event.steps (Answer e outcome.Unplugged) → MayHaveLostDisk e.request.port old h.event.ports h.device
-  lost_then e here = (t.is_evidenced.each_port_is_evidenced e.request.port).named_lost_may_have_lost_disk (lawful e outcome.Unplugged here).0
+  pub lost_then : (e : Pending) → Contains h.event.steps (Answer e outcome.Unplugged) → ShowedLossHadPlugEventOrEndsNeitherDeadNorUnchanged e.request.port old h.event.ports h.device
+  lost_then e here = (t.is_evidenced.each_port_is_evidenced e.request.port).named_lost_showed_loss_or_changed (lawful e outcome.Unplugged here).0
 
   module _ (shrink : RowsShrink) where
     rests : (e : Pending) (o : Outcome) → Contains h.event.steps (Answer e o) → IsLawfulAnswer old.abstract h.event.evidence h.event.ports e o → AnswerJustified old h t.accesses e o

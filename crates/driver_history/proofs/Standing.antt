@@ -16,7 +16,7 @@ use Rattle.adapter.specs.Rules.{IsStable}
 use Rattle.adapter.specs.declared.access.DeviceStep.{DeviceStep}
 use Rattle.adapter.specs.declared.tape.Entry.{Entry}
 use Rattle.refinement.specs.Relation.{StateRelation, port_at}
-use Rattle.refinement.specs.PortFacts.{DeviceSparesFrame}
+use Rattle.refinement.specs.PortFacts.{DeviceOwnsNoByteOfFrame}
 use Rattle.refinement.specs.PreservedParts.{IsPlugEvent, NoPlugEvents}
 use Rattle.refinement.specs.Slots.{ServesRequest, IsInSomeStage, SlotStates}
 use Rattle.block_machine.specs.Events.{AbstractCall, Service, abstract_after}
@@ -25,7 +25,7 @@ use Rattle.block_machine.specs.Ports.{SameSerialAndSize}
 use Rattle.block_machine.specs.State.{Accepted, Machine, Pending}
 use Rattle.block_machine.specs.Steps.{Answer}
 use Rattle.identify.specs.declared.wanted.Wanted.{Wanted}
-use Rattle.driver_history.specs.EvidenceHandling.{HandlesEvidenceAt}
+use Rattle.driver_history.specs.EvidenceHandling.{HandlesIfServiceElseOnlyTickOrResetStops}
 use Rattle.driver_history.specs.Evidence.{TapeGainsEntry, ShowsLinkChange}
 use Rattle.driver_history.specs.Histories.{IsDriverHistory, CallCorresponds}
 use Rattle.driver_history.specs.Laws.{RunLaws}
@@ -35,10 +35,10 @@ use Rattle.driver_history.proofs.Resting.{lost_then}
 
 -- what the law on frames says
 abbrev pub UnlentIsStill : Type 0
-UnlentIsStill = (uses : SlotStates) (m : Machine) (d : Device) (frame : Frame) → IsReachable m → StateRelation uses m d → m.lent frame ≡ None → DRIVER_FRAMES ≤ frame.0 → IsStable (DeviceSparesFrame frame) d
+UnlentIsStill = (uses : SlotStates) (m : Machine) (d : Device) (frame : Frame) → IsReachable m → StateRelation uses m d → m.lent frame ≡ None → DRIVER_FRAMES ≤ frame.0 → IsStable (DeviceOwnsNoByteOfFrame frame) d
 
 pub unlent_still : UnlentIsStill → RunLaws → (wanted : List Wanted) (first : JointState Device) (past : List (JointEvent Device DeviceStep)) (frame : Frame) → IsDriverHistory wanted first past
-    → DRIVER_FRAMES ≤ frame.0 → (joint_state_after first past).abstract.machine.lent frame ≡ None → IsStable (DeviceSparesFrame frame) (joint_state_after first past).device
+    → DRIVER_FRAMES ≤ frame.0 → (joint_state_after first past).abstract.machine.lent frame ≡ None → IsStable (DeviceOwnsNoByteOfFrame frame) (joint_state_after first past).device
 unlent_still law runs wanted first past frame history low free =
     let h = holds_at wanted first past history in
     law h.0.slot_states (joint_state_after first past).abstract.machine (joint_state_after first past).device frame (history_reached runs wanted first past history) h.1.driver_relation.state_relation free low
@@ -71,9 +71,9 @@ seen_answered wanted first past h port slot id history asks asked serves ci sact
     let same_port : serves.pending.request.port ≡ port = ap port_at serves.port_is in
     let booked : Contains old.abstract.machine.book serves.pending = ⊎_elim (λ b. b.0) (λ k. absurd (at.none_is_quarantined serves.pending k same_port)) serves.may_still_move in
     let ended : serves.pending.ended ≡ true = ended_of old.device.memory (old.device.port port.0) port.0 slot serves.pending serves.command serves.places serves.stage at.engine_runs.st_is_set ci sact in
-    let Heeded : AbstractCall DeviceStep → Type 0 = λ ask. HandlesEvidenceAt port ask old.abstract h.event.evidence h.event.steps (abstract_after old.abstract h.event) in
+    let Heeded : AbstractCall DeviceStep → Type 0 = λ ask. HandlesIfServiceElseOnlyTickOrResetStops port ask old.abstract h.event.evidence h.event.steps (abstract_after old.abstract h.event) in
     let served : Heeded Service = subst Heeded asks (t.ports_correspond port).handles_evidence in
-    let answer = (served asked).answers_ended serves.pending booked same_port ended in
+    let answer = (served asked).answers_ok_what_had_ended serves.pending booked same_port ended in
     (answer.0, ap (λ (r : Accepted). r.id) answer.1 ∙ serves.id_is, answer.2)
 
 -- ---- Unplugged

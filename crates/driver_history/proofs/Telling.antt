@@ -6,7 +6,7 @@ use Rattle.block_machine.specs.Events.{CallRecord, AbstractState, Happens, IsRun
 use Rattle.block_machine.specs.Histories.{JointState, JointEvent, IsReachable, joint_state_after, events_of}
 use Rattle.block_machine.specs.Expected.{after, AllStepsFaithful}
 use Rattle.block_machine.specs.State.{Machine}
-use Rattle.durability.specs.Durable.{EveryPlugFindsFlushed}
+use Rattle.durability.specs.Durable.{EveryReplugFindsFlushedOrLater}
 use Rattle.identify.specs.declared.wanted.Wanted.{Wanted}
 use Rattle.driver_history.specs.Histories.{IsDriverHistory}
 use Rattle.driver_history.specs.Laws.{RunLaws}
@@ -44,6 +44,6 @@ module _ (laws : RunLaws) (wanted : List Wanted) where
   reads_hold first past h tells = laws.faithful_runs_read_expected first.abstract (events_of past) (history_runs wanted first past h) (all_told first past h tells)
 
   -- what is said of the runs of disks that tell
-  pub plugs_find : ((first : AbstractState) (run : List (CallRecord DeviceStep)) → IsRun first run → AllStepsFaithful first.machine (steps_of run) → EveryPlugFindsFlushed first.machine (steps_of run))
-      → (first : JointState Device) (past : List (JointEvent Device DeviceStep)) → IsDriverHistory wanted first past → first.device.telling ≡ true → EveryPlugFindsFlushed first.abstract.machine (steps_of (events_of past))
+  pub plugs_find : ((first : AbstractState) (run : List (CallRecord DeviceStep)) → IsRun first run → AllStepsFaithful first.machine (steps_of run) → EveryReplugFindsFlushedOrLater first.machine (steps_of run))
+      → (first : JointState Device) (past : List (JointEvent Device DeviceStep)) → IsDriverHistory wanted first past → first.device.telling ≡ true → EveryReplugFindsFlushedOrLater first.abstract.machine (steps_of (events_of past))
   plugs_find finds first past h tells = finds first.abstract (events_of past) (history_runs wanted first past h) (all_told first past h tells)

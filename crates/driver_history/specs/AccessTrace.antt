@@ -20,9 +20,9 @@ abbrev pub WritesNeitherCmdNorSctl : Port → Access → Type 0
 WritesNeitherCmdNorSctl port access = DoesNotWriteCmd port access × DoesNotWrite (Px port Sctl) access
 
 -- the access clears no bit that tells of the port's trouble
-abbrev pub ClearsNoError : Port → Access → Type 0
-ClearsNoError port (Writing r v) = ClearsNoTrouble port r v
-ClearsNoError port access = Unit {0}
+abbrev pub WritesOneToNoTroubleBit : Port → Access → Type 0
+WritesOneToNoTroubleBit port (Writing r v) = ClearsNoTrouble port r v
+WritesOneToNoTroubleBit port access = Unit {0}
 
 -- The driver's own stores lie in its frames, and so does what it loads. Registers are left to the rules of the adapter.
 abbrev pub StaysInDriverFrames : Access → Type 0

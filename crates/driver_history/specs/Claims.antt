@@ -10,7 +10,7 @@ use Rattle.adapter.specs.Device.{Device}
 use Rattle.adapter.specs.Rules.{IsOn}
 use Rattle.adapter.specs.declared.access.DeviceStep.{DeviceStep}
 use Rattle.refinement.specs.PortFacts.{RunsWell}
-use Rattle.block_machine.specs.Events.{AbstractCall, Reset, RevokeOf, Service, Tick, AnswersEnded, TimesOutAtTick, NoneStaysIssued, IsIssuedInBook, abstract_after}
+use Rattle.block_machine.specs.Events.{AbstractCall, Reset, RevokeOf, Service, Tick, AnswersOkWhatHadEnded, TimesOutAtTick, IssuedOnPortAreIssuedInSteps, IsIssuedInBook, abstract_after}
 use Rattle.block_machine.specs.Histories.{JointState, JointEvent}
 use Rattle.block_machine.specs.Ports.{IsStoppedOrStuck, SamePort}
 use Rattle.block_machine.specs.State.{Pending}
@@ -18,8 +18,8 @@ use Rattle.block_machine.specs.Steps.{Answer, AllTouched, HasGrant}
 use Rattle.port_control.specs.Engines.{Stops}
 use Rattle.error_recovery.specs.Evidence.{ShowsFatal}
 use Rattle.driver_history.specs.EvidenceHandling.{ToldOkOr, tells_fault}
-use Rattle.driver_history.specs.Evidence.{IsEndedReset, IsFaultTold, MayHaveLostDisk, StaysHealthy}
-use Rattle.driver_history.specs.Histories.{ExplainsAccesses, FindsDoneInCall, IssuesAllDue, TellsLonePlainFaultsUnlessDead}
+use Rattle.driver_history.specs.Evidence.{IsEndedReset, IsFaultTold, ShowedLossHadPlugEventOrEndsNeitherDeadNorUnchanged, StaysHealthy}
+use Rattle.driver_history.specs.Histories.{ExplainsAccesses, FindsDoneInServiceOrTick, IssuesAllDue, TellsLonePlainFaultsUnlessDead}
 use Rattle.driver_history.specs.AccessTrace.{WritesNeitherCmdNorSctl}
 
 -- what a call may tell where nothing goes wrong: Ok; or Revoked, where it revokes a grant
@@ -49,7 +49,8 @@ AnswerJustified old h accesses e (outcome.DeviceError status error) =
     IsFaultTold old h.device accesses (record { id = e.request.id; status = status; error = error })
     × Stops e.request.port accesses
 AnswerJustified old h accesses e outcome.Aborted = (e.issue_count ≡ 4) × (h.event.ports.state e.request.port ≡ Ready)
-AnswerJustified old h accesses e outcome.Unplugged = MayHaveLostDisk e.request.port old h.event.ports h.device
+AnswerJustified old h accesses e outcome.Unplugged =
+    ShowedLossHadPlugEventOrEndsNeitherDeadNorUnchanged e.request.port old h.event.ports h.device
 AnswerJustified old h accesses e outcome.PortDead = (h.event.ports.state e.request.port ≡ Dead)
     × (((h.device.port e.request.port.0).notes.engine_wait_count ≡ MOST_READINGS) ⊎ (IsOn h.device → ⊥))
 AnswerJustified old h accesses e outcome.Revoked = (HasGrant (abstract_after old.abstract h.event).machine e → ⊥)
@@ -72,21 +73,22 @@ pub record GoesWellFor (old : JointState Device) (h : JointEvent Device DeviceSt
   pub accesses_are_explained : ExplainsAccesses old.abstract h.event.call h.event.result accesses old.device h.device
   pub is_spared : IsSpared old h accesses port
   pub port_runs_well : RunsWell (h.device.port port.0)
-  pub finds_done : FindsDoneInCall h.event.call accesses old h.event.steps port
+  pub finds_done : FindsDoneInServiceOrTick h.event.call accesses old h.event.steps port
   pub issues_all_due : IssuesAllDue h.event.call h.event.steps (abstract_after old.abstract h.event).machine
       h.event.ports port
 
 -- ---- failures
 
 -- A service heeds the failure that a port showed when it began, a fault or a fatal error: what had ended on the port is
--- answered Ok. The port was stopped, or got stuck, and none of its requests that wait keeps its issue. One of them is
+-- answered Ok. The port was stopped, or got stuck, and what is issued on it then was issued anew. One of them is
 -- told a fault at most, and none where a fatal error was shown. And where TFES alone was, with no fatal error in the
 -- call, and no disk that goes or comes, a plain one that was outstanding, and hadn't ended, is told its fault, unless
 -- the port ends dead. So it isn't tried again.
 pub record HandlesShownFailure (port : Port) (old : JointState Device) (h : JointEvent Device DeviceStep) : Type 0 where
-  pub answers_ended : AnswersEnded old.abstract.machine h.event.steps port
+  pub answers_ok_what_had_ended : AnswersOkWhatHadEnded old.abstract.machine h.event.steps port
   pub is_stopped_or_stuck : IsStoppedOrStuck h.event.evidence port
-  pub none_stays_issued : NoneStaysIssued h.event.steps (abstract_after old.abstract h.event).machine port
+  pub issued_are_issued_in_steps : IssuedOnPortAreIssuedInSteps h.event.steps
+      (abstract_after old.abstract h.event).machine port
   pub one_fault_at_most : count_by (tells_fault port) h.event.steps ≤ 1
   pub fatal_tells_no_fault : ShowsFatal (old.device.port port.0) → count_by (tells_fault port) h.event.steps ≡ 0
   pub tells_lone_plain_faults_unless_dead : TellsLonePlainFaultsUnlessDead Service old h.event.ports h.device
@@ -98,7 +100,7 @@ pub record HandlesShownFailure (port : Port) (old : JointState Device) (h : Join
 -- and each of its other requests is answered, too, all with Unplugged, or all with PortDead. The port was stopped, or
 -- got stuck.
 pub record HandlesShownLoss (port : Port) (old : JointState Device) (h : JointEvent Device DeviceStep) : Type 0 where
-  pub answers_ended : AnswersEnded old.abstract.machine h.event.steps port
+  pub answers_ok_what_had_ended : AnswersOkWhatHadEnded old.abstract.machine h.event.steps port
   pub none_is_left : (e : Pending) → Contains (abstract_after old.abstract h.event).machine.book e
       → e.request.port ≢ port
   pub others_are_told_alike : ToldOkOr outcome.Unplugged h.event.steps port

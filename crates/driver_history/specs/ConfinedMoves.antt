@@ -28,10 +28,10 @@ pub record IsConfinedMove (start : Machine) (earlier steps : List Step) (op : Op
 
 -- A move by a read or a write of a client's is confined; any other, of a page or of a trim's block, goes to the scratch
 -- frame of its port or comes from there.
-abbrev pub KeepsToItsFrames : Option Op → Machine → List Step → List Step → tape_move.Move → Type 0
-KeepsToItsFrames (Some Read) start earlier steps move = IsConfinedMove start earlier steps Read move
-KeepsToItsFrames (Some Write) start earlier steps move = IsConfinedMove start earlier steps Write move
-KeepsToItsFrames other start earlier steps move = move.address ≡ scratch_frame_address move.port.0
+abbrev pub KeepsToLentOrScratchFrames : Option Op → Machine → List Step → List Step → tape_move.Move → Type 0
+KeepsToLentOrScratchFrames (Some Read) start earlier steps move = IsConfinedMove start earlier steps Read move
+KeepsToLentOrScratchFrames (Some Write) start earlier steps move = IsConfinedMove start earlier steps Write move
+KeepsToLentOrScratchFrames other start earlier steps move = move.address ≡ scratch_frame_address move.port.0
 
 -- Among a call's steps, which followed these earlier ones, the clear is of touches in a row. Before the first of them,
 -- its sectors are of a trim of its port that is issued or kept, within the trim's own range; and the trim was accepted,
@@ -50,6 +50,6 @@ pub record ConfinesCallMovesAndClears (start : Machine) (earlier steps : List St
   pub new_entries : List Entry
   pub tape_is : new.tape ≡ old.tape ++ new_entries
   pub moves_keep_to_frames : (move : tape_move.Move) → Contains new_entries (entry.Move move)
-      → KeepsToItsFrames (client_operation_of move.operation) start earlier steps move
+      → KeepsToLentOrScratchFrames (client_operation_of move.operation) start earlier steps move
   pub clears_are_confined : (c : tape_clear.Clear) → Contains new_entries (entry.Clear c)
       → IsConfinedClear start earlier steps c

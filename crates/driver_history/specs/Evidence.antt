@@ -88,34 +88,34 @@ pub record IsFaultTold (old : JointState Device) (new : Device) (accesses : List
 
 -- The port had told of a change, or showed no device, when the call began; a disk of it went or came in the call; or it
 -- ends the call neither dead nor ready with serial and size as when it was last ready.
-abbrev pub MayHaveLostDisk : Port → JointState Device → Ports → Device → Type 0
-MayHaveLostDisk port old ports new =
+abbrev pub ShowedLossHadPlugEventOrEndsNeitherDeadNorUnchanged : Port → JointState Device → Ports → Device → Type 0
+ShowedLossHadPlugEventOrEndsNeitherDeadNorUnchanged port old ports new =
     ShowsLinkChange (old.device.port port.0)
     ⊎ (((old.device.port port.0).ssts_det ≢ 3)
     ⊎ (TapeGainsEntry (IsPlugEvent port.0) old.device new
     ⊎ ((ports.state port ≢ Dead) × (ports.state port ≡ Ready → SameSerialAndSize old.abstract.ports ports port → ⊥))))
 
 -- It showed a change when the call began; or no device, and no disk came in the call.
-abbrev pub ShowsLoss : Port → Device → Device → Type 0
-ShowsLoss port old new = ShowsLinkChange (old.port port.0)
+abbrev pub BeganWithLinkChangeOrNoDeviceAndNoneComes : Port → Device → Device → Type 0
+BeganWithLinkChangeOrNoDeviceAndNoneComes port old new = ShowsLinkChange (old.port port.0)
     ⊎ (((old.port port.0).ssts_det ≢ 3) × NoDiskComes port.0 old new)
 
 -- It was ready, and showed that when the call began, or a disk went or came in it.
-abbrev pub ReadyPortHasLinkChangeOrNoDevice : Port → JointState Device → Device → Type 0
-ReadyPortHasLinkChangeOrNoDevice port old new = (old.abstract.ports.state port ≡ Ready)
+abbrev pub ReadyPortShowedLossOrHadPlugEvent : Port → JointState Device → Device → Type 0
+ReadyPortShowedLossOrHadPlugEvent port old new = (old.abstract.ports.state port ≡ Ready)
     × (ShowsLinkChange (old.device.port port.0)
     ⊎ (((old.device.port port.0).ssts_det ≢ 3)
     ⊎ TapeGainsEntry (IsPlugEvent port.0) old.device new))
 
 -- It was ready, and showed an error when the call began, or had one in it.
-abbrev pub ReadyPortHasErrors : Port → JointState Device → Device → Type 0
-ReadyPortHasErrors port old new = (old.abstract.ports.state port ≡ Ready)
+abbrev pub ReadyPortShowedOrHadFailure : Port → JointState Device → Device → Type 0
+ReadyPortShowedOrHadFailure port old new = (old.abstract.ports.state port ≡ Ready)
     × (ShowsFailure (old.device.port port.0)
     ⊎ (TapeGainsEntry (IsFaultOf port.0) old.device new ⊎ TapeGainsEntry (IsFatalErrorOf port.0) old.device new))
 
 -- It was ready, and showed a fatal error then, or had one in the call.
-abbrev pub ReadyPortHasFatalErrors : Port → JointState Device → Device → Type 0
-ReadyPortHasFatalErrors port old new = (old.abstract.ports.state port ≡ Ready)
+abbrev pub ReadyPortShowedOrHadFatalError : Port → JointState Device → Device → Type 0
+ReadyPortShowedOrHadFatalError port old new = (old.abstract.ports.state port ≡ Ready)
     × (ShowsFatal (old.device.port port.0) ⊎ TapeGainsEntry (IsFatalErrorOf port.0) old.device new)
 
 -- ---- resets
@@ -140,17 +140,20 @@ pub record IsEvidencedOf (ask : AbstractCall DeviceStep) (said : AbstractCallRes
     (old : JointState Device)
     (ports : Ports) (new : Device)
     (evidence : Evidence) (port : Port) : Type 0 where
-  pub named_lost_may_have_lost_disk : Contains evidence.lost port → MayHaveLostDisk port old ports new
-  pub shown_loss_of_ready_is_named : old.abstract.ports.state port ≡ Ready → ShowsLoss port old.device new
+  pub named_lost_showed_loss_or_changed : Contains evidence.lost port
+      → ShowedLossHadPlugEventOrEndsNeitherDeadNorUnchanged port old ports new
+  pub shown_loss_of_ready_is_named : old.abstract.ports.state port ≡ Ready
+      → BeganWithLinkChangeOrNoDeviceAndNoneComes port old.device new
       → Contains evidence.link_changed port
   pub named_link_changed_had_change_or_no_device : Contains evidence.link_changed port
-      → ReadyPortHasLinkChangeOrNoDevice port old new
+      → ReadyPortShowedLossOrHadPlugEvent port old new
   pub shown_failure_of_ready_is_named : old.abstract.ports.state port ≡ Ready → ShowsFailure (old.device.port port.0)
       → Contains evidence.showing_error port
-  pub named_showing_error_had_error : Contains evidence.showing_error port → ReadyPortHasErrors port old new
+  pub named_showing_error_had_error : Contains evidence.showing_error port → ReadyPortShowedOrHadFailure port old new
   pub shown_fatal_of_ready_is_named : old.abstract.ports.state port ≡ Ready → ShowsFatal (old.device.port port.0)
       → Contains evidence.showing_fatal_error port
-  pub named_showing_fatal_had_fatal : Contains evidence.showing_fatal_error port → ReadyPortHasFatalErrors port old new
+  pub named_showing_fatal_had_fatal : Contains evidence.showing_fatal_error port
+      → ReadyPortShowedOrHadFatalError port old new
   pub engine_is_left_or_stopped : All (WritesNeitherCmdNorSctl port) accesses ⊎ IsStoppedOrStuck evidence port
   pub named_stopped_was_stopped_or_reset : Contains evidence.stopped port → Stops port accesses
       ⊎ (IsEndedReset ask said × (old.abstract.ports.served port ≡ true))

@@ -5,7 +5,7 @@ use Rattle.ata_types.specs.declared.Port.{Port}
 use Rattle.ata_types.specs.declared.PortState.TheVariants.{Ready}
 use Rattle.ata_types.specs.declared.request.Outcome.{Outcome}
 use Rattle.ata_types.specs.declared.request.Outcome.TheVariants as outcome
-use Rattle.block_machine.specs.Events.{AbstractCall, Service, Tick, Reset, AbstractState, AnswersEnded, ShownDiskWasInOrCame, NoneStaysIssued, changes_disk}
+use Rattle.block_machine.specs.Events.{AbstractCall, Service, Tick, Reset, AbstractState, AnswersOkWhatHadEnded, ShownDiskWasInOrCame, IssuedOnPortAreIssuedInSteps, changes_disk}
 use Rattle.block_machine.specs.Ports.{Ports, SamePort, Evidence, IsStoppedOrStuck}
 use Rattle.block_machine.specs.State.{Pending}
 use Rattle.block_machine.specs.Steps.{Step, WaitAgain, Answer}
@@ -40,8 +40,9 @@ ToldOkOr told steps port = (e : Pending) (o : Outcome) → Contains steps (Answe
     → (o ≡ outcome.Ok) ⊎ (o ≡ told)
 
 -- the port failed, or its link had told of a change when the call began, or a disk goes or comes in it
-abbrev pub IsDisturbed : Evidence → List Step → Port → Type 0
-IsDisturbed evidence steps port = Contains evidence.showing_error port ⊎ Contains evidence.link_changed port
+abbrev pub ShowsErrorOrLinkOrDiskChange : Evidence → List Step → Port → Type 0
+ShowsErrorOrLinkOrDiskChange evidence steps port = Contains evidence.showing_error port
+    ⊎ Contains evidence.link_changed port
     ⊎ (list_any (changes_disk port) steps ≡ true)
 
 -- the step tells a fault of a request of the port
@@ -49,43 +50,45 @@ abbrev pub tells_fault : Port → Step → Bool
 tells_fault port (Answer e (outcome.DeviceError status error)) = e.request.port.0 == port.0
 tells_fault port _ = false
 
--- Nothing interrupts the port: it stays what it is, and nothing but Ok is told.
+-- The port is neither stopped nor gets stuck: it stays what it is, and nothing but Ok is told.
 pub record IsLeftAlone (old : Ports) (evidence : Evidence) (steps : List Step) (new : Ports)
     (port : Port) : Type 0 where
   pub port_is_same : SamePort old new port
   pub only_ok_is_told : ToldOkOr outcome.Ok steps port
-  pub is_not_interrupted : IsStoppedOrStuck evidence port → ⊥
+  pub is_neither_stopped_nor_stuck : IsStoppedOrStuck evidence port → ⊥
 
 -- What a service owes a port that was ready when it began. What had ended is answered Ok. Where the port's link had
 -- told of a change, all its requests are answered, and those that aren't Ok are all told Unplugged, or all PortDead.
--- Where that is so, or it failed, the port is stopped, or gets stuck. Where it failed or was stopped, no request keeps
--- its issue. One fault is told at most, and none where an error was fatal, which is a failure, too. It shows a disk
--- after the call only where one was in. And where nothing disturbs it, the port is left alone. (That it is what it was
--- unless it was interrupted, `IsServiced` has of each port.)
+-- Where that is so, or it failed, the port is stopped, or gets stuck. Where it failed or was stopped, what is
+-- issued then was issued in the call. One fault is told at most, and none where an error was fatal, which is a failure,
+-- too. It shows a disk after the call only where one was in. And where nothing disturbs it, the port is left alone.
+-- (That it is what it was unless it was stopped or got stuck, `IsServiced` has of each port.)
 pub record ServicesReadyPort (old : AbstractState) (evidence : Evidence) (steps : List Step) (new : AbstractState)
     (port : Port) : Type 0 where
-  pub answers_ended : AnswersEnded old.machine steps port
+  pub answers_ok_what_had_ended : AnswersOkWhatHadEnded old.machine steps port
   pub link_change_leaves_none : Contains evidence.link_changed port → (e : Pending) → Contains new.machine.book e
       → e.request.port ≢ port
   pub link_change_tells_alike : Contains evidence.link_changed port → ToldOkOr outcome.Unplugged steps port
       ⊎ ToldOkOr outcome.PortDead steps port
-  pub trouble_interrupts : Contains evidence.showing_error port ⊎ Contains evidence.link_changed port
+  pub trouble_stops_or_sticks : Contains evidence.showing_error port ⊎ Contains evidence.link_changed port
       → IsStoppedOrStuck evidence port
   pub error_or_stop_leaves_no_old_issue : Contains evidence.showing_error port ⊎ Contains evidence.stopped port
-      → NoneStaysIssued steps new.machine port
+      → IssuedOnPortAreIssuedInSteps steps new.machine port
   pub one_fault_at_most : count_by (tells_fault port) steps ≤ 1
   pub fatal_tells_no_fault : Contains evidence.showing_fatal_error port → Contains evidence.showing_error port
       × (count_by (tells_fault port) steps ≡ 0)
   pub shown_disk_was_in_or_came : ShownDiskWasInOrCame old steps new port
-  pub is_left_alone_if_calm : IsDisturbed evidence steps port ⊎ IsLeftAlone old.ports evidence steps new.ports port
+  pub is_left_alone_if_calm : ShowsErrorOrLinkOrDiskChange evidence steps port
+      ⊎ IsLeftAlone old.ports evidence steps new.ports port
 
--- A call heeds what it finds of a port: a service serves one that was ready when it began. A tick and a reset are bound
--- by what they answer; and no other call stops a port, or gets one stuck.
-abbrev pub HandlesEvidenceAt : {D : Type 0} → Port → AbstractCall D → AbstractState → Evidence → List Step
+-- A service serves a port that was ready when it began. A tick and a reset are bound by what they answer; and no other
+-- call stops a port, or gets one stuck.
+abbrev pub HandlesIfServiceElseOnlyTickOrResetStops : {D : Type 0} → Port → AbstractCall D → AbstractState → Evidence
+    → List Step
     → AbstractState
     → Type 0
-HandlesEvidenceAt port Service old evidence steps new =
+HandlesIfServiceElseOnlyTickOrResetStops port Service old evidence steps new =
     old.ports.state port ≡ Ready → ServicesReadyPort old evidence steps new port
-HandlesEvidenceAt port Tick old evidence steps new = Unit {0}
-HandlesEvidenceAt port Reset old evidence steps new = Unit {0}
-HandlesEvidenceAt port ask old evidence steps new = IsStoppedOrStuck evidence port → ⊥
+HandlesIfServiceElseOnlyTickOrResetStops port Tick old evidence steps new = Unit {0}
+HandlesIfServiceElseOnlyTickOrResetStops port Reset old evidence steps new = Unit {0}
+HandlesIfServiceElseOnlyTickOrResetStops port ask old evidence steps new = IsStoppedOrStuck evidence port → ⊥

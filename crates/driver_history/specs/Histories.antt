@@ -32,10 +32,10 @@ use Rattle.block_machine.specs.Steps.{Step, Answer}
 use Rattle.block_machine.specs.declared.due.QueueMode.{QueueMode}
 use Rattle.block_machine.specs.declared.due.Unanswered.{Unanswered}
 use Rattle.identify.specs.declared.wanted.Wanted.{Wanted}
-use Rattle.host_boot.specs.Resets.{AwaitsResetInVain, BeginsReset}
+use Rattle.host_boot.specs.Resets.{SetsHrAndLastReads, WritesHrFirst}
 use Rattle.error_recovery.specs.Evidence.{GainsSinceStart, ShowsFatal}
-use Rattle.driver_history.specs.Evidence.{TapeGainsEntry, ShowsLinkChange, ShowsFailure, ShowsLoss, IsEvidenced}
-use Rattle.driver_history.specs.EvidenceHandling.{HandlesEvidenceAt, OnlyFailedPortsRequeueIfService}
+use Rattle.driver_history.specs.Evidence.{TapeGainsEntry, ShowsLinkChange, ShowsFailure, BeganWithLinkChangeOrNoDeviceAndNoneComes, IsEvidenced}
+use Rattle.driver_history.specs.EvidenceHandling.{HandlesIfServiceElseOnlyTickOrResetStops, OnlyFailedPortsRequeueIfService}
 use Rattle.driver_history.specs.PortInvariants.{DriverInvariant}
 use Rattle.driver_history.specs.AccessTrace.{ReadsMasksBeforeCmdWrite, ResetsLink, UsesPortsAndNotGhc, StaysInDriverFrames, UsesPortRegistersOf}
 
@@ -45,10 +45,10 @@ use Rattle.driver_history.specs.AccessTrace.{ReadsMasksBeforeCmdWrite, ResetsLin
 -- writes of PxSACT and PxCI. (That these are the right bytes and bits is said by what holds after the call. In which
 -- slot a request goes, and that PxSACT is written first, no history tells: the server's own contract does, and the
 -- adapter's rules ask for that order.)
-abbrev pub IsIssuingAccess : Port → Access → Type 0
-IsIssuingAccess port (Writing r v) = (r ≡ Px port Sact) ⊎ (r ≡ Px port Ci)
-IsIssuingAccess port (Storing at bytes) = at + length bytes ≤ DRIVER_BYTES
-IsIssuingAccess port access = ⊥
+abbrev pub StoresOrWritesSactOrCi : Port → Access → Type 0
+StoresOrWritesSactOrCi port (Writing r v) = (r ≡ Px port Sact) ⊎ (r ≡ Px port Ci)
+StoresOrWritesSactOrCi port (Storing at bytes) = at + length bytes ≤ DRIVER_BYTES
+StoresOrWritesSactOrCi port access = ⊥
 
 -- the server serves the port
 abbrev pub IsPortServed : Ports → Port → Type 0
@@ -75,9 +75,9 @@ abbrev pub ExplainsAccesses : AbstractState → AbstractCall DeviceStep → Abst
 ExplainsAccesses now (Told step) (Stepped true) accesses old new = (accesses ≡ []) × DoesOrFailsStep step old new
 ExplainsAccesses now (Submit r) (Submitted (Ok id)) accesses old new =
     DoesAll accesses old new × ((row : GrantRow) × IsNamed now.machine.rows r row
-    × All (IsIssuingAccess row.port) accesses)
+    × All (StoresOrWritesSactOrCi row.port) accesses)
 ExplainsAccesses now (RevokeOf client number) (WasRevoked (Some replies)) accesses old new = DoesAll accesses old new
-    × ((has : HasRow client number now.machine.rows) × All (IsIssuingAccess has.0.port) accesses
+    × ((has : HasRow client number now.machine.rows) × All (StoresOrWritesSactOrCi has.0.port) accesses
     × (now.ports.state has.0.port ≢ Ready → accesses ≡ []))
 ExplainsAccesses now (StoreAt client frame offset bytes) (Stored None) accesses old new =
     DoesAll accesses old new × (accesses ≡ Storing (FRAME_BYTES * frame.0 + offset) bytes ∷ [])
@@ -90,9 +90,10 @@ ExplainsAccesses now Tick (Replied replies) accesses old new = DoesAll accesses 
 ExplainsAccesses now Reset (WasReset (Some replies)) accesses old new =
     DoesAll accesses old new × All StaysInDriverFrames accesses
     × All (UsesPortRegistersOf (IsPortServed now.ports)) accesses
-    × BeginsReset accesses
+    × WritesHrFirst accesses
     × HasAeAndIe new
-ExplainsAccesses now Reset (WasReset None) accesses old new = DoesAll accesses old new × AwaitsResetInVain accesses
+ExplainsAccesses now Reset (WasReset None) accesses old new = DoesAll accesses old new
+    × SetsHrAndLastReads true accesses
 ExplainsAccesses now ask said accesses old new = (accesses ≡ []) × (new ≡ old)
 
 -- ---- what is issued
@@ -141,12 +142,14 @@ pub record FindsDone (port : Port) (accesses : List Access) (old : JointState De
       → IsAnsweredOk e steps ↔ ((bit ci slot ≡ false) × (bit sact slot ≡ false))
 
 -- A service finds what is done on each port that was ready and has something issued; a tick does on each that is hung.
-abbrev pub FindsDoneInCall : AbstractCall DeviceStep → List Access → JointState Device → List Step → Port → Type 0
-FindsDoneInCall Service accesses old steps port =
+abbrev pub FindsDoneInServiceOrTick : AbstractCall DeviceStep → List Access → JointState Device → List Step → Port
+    → Type 0
+FindsDoneInServiceOrTick Service accesses old steps port =
     old.abstract.ports.state port ≡ Ready → (e : Pending) → IsIssuedOn port old.abstract.machine e
     → FindsDone port accesses old steps
-FindsDoneInCall Tick accesses old steps port = TimesOutAtTick old.abstract port → FindsDone port accesses old steps
-FindsDoneInCall ask accesses old steps port = Unit {0}
+FindsDoneInServiceOrTick Tick accesses old steps port = TimesOutAtTick old.abstract port
+    → FindsDone port accesses old steps
+FindsDoneInServiceOrTick ask accesses old steps port = Unit {0}
 
 -- ---- a plain request's fault
 
@@ -223,7 +226,8 @@ BootsAnewWhereRequired Reset (WasReset (Some replies)) accesses old ports new po
 BootsAnewWhereRequired Tick said accesses old ports new port =
     TimesOutAtTick old.abstract port → (ports.state port ≡ Dead) ⊎ ResetsLink port accesses
 BootsAnewWhereRequired Service said accesses old ports new port =
-    (old.abstract.ports.state port ≡ Ready → ShowsFatal (old.device.port port.0) ⊎ ShowsLoss port old.device new
+    (old.abstract.ports.state port ≡ Ready → ShowsFatal (old.device.port port.0)
+    ⊎ BeganWithLinkChangeOrNoDeviceAndNoneComes port old.device new
     → (ports.state port ≡ Dead) ⊎ ((ports.state port ≡ Absent) ⊎ ResetsLink port accesses))
     × (SamePort old.abstract.ports ports port
     ⊎ ((ports.state port ≡ Dead) ⊎ ((ports.state port ≡ Absent) ⊎ ResetsLink port accesses)))
@@ -268,14 +272,15 @@ RunsWellAnew evidence accesses old ports new port =
 -- trouble; and it heeds what the evidence names of the port.
 pub record PortCorresponds (old : JointState Device) (h : JointEvent Device DeviceStep) (accesses : List Access)
     (port : Port) : Type 0 where
-  pub finds_done : FindsDoneInCall h.event.call accesses old h.event.steps port
+  pub finds_done : FindsDoneInServiceOrTick h.event.call accesses old h.event.steps port
   pub lone_plain_faults_are_told_unless_dead : TellsLonePlainFaultsUnlessDead h.event.call old h.event.ports h.device
       h.event.steps port
   pub probes_disk : ProbesInCall h.event.call accesses old h.event.ports h.device port
   pub boots_anew : BootsAnewWhereRequired h.event.call h.event.result accesses old h.event.ports h.device port
   pub loses_no_error : LosesNoPortError h.event.evidence old h.event.ports h.device port
   pub runs_well_anew : RunsWellAnew h.event.evidence accesses old h.event.ports h.device port
-  pub handles_evidence : HandlesEvidenceAt port h.event.call old.abstract h.event.evidence h.event.steps
+  pub handles_evidence : HandlesIfServiceElseOnlyTickOrResetStops port h.event.call old.abstract
+      h.event.evidence h.event.steps
       (abstract_after old.abstract h.event)
 
 -- The device's part in a call. Its accesses led there, and the tape backs the machine's steps. What stands behind the

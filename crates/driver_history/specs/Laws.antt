@@ -25,7 +25,7 @@ use Rattle.block_machine.specs.Confinement.{IsConfined, WasAccepted}
 use Rattle.block_machine.specs.Events.{AbstractState, CallRecord, EveryReadHoldsExpected, IsRun, abstract_after_all, steps_of}
 use Rattle.block_machine.specs.Expected.{AllStepsFaithful, IsInitial, IsLegal, after}
 use Rattle.block_machine.specs.State.{Block, Machine, Pending}
-use Rattle.block_machine.specs.Steps.{HoldsFrames, Step, Touch}
+use Rattle.block_machine.specs.Steps.{IsInBookOrKept, Step, Touch}
 
 pub record AccessLaws : Type 0 where
   pub other_ports_are_left : (port : Port) (q : ℕ) (old new : Device) → q ≢ port.0 → IsOn old
@@ -130,4 +130,4 @@ pub record RunLaws : Type 0 where
       → AllStepsFaithful m (late ++ early)
   pub holders_were_accepted : (start : Machine) (history : List Step) (e : Pending) → IsInitial start
       → IsLegal start history
-      → HoldsFrames (after start history) e → WasAccepted start history e.request
+      → IsInBookOrKept (after start history) e → WasAccepted start history e.request

@@ -13,7 +13,7 @@ use Rattle.adapter.specs.Rules.{IsOn}
 use Rattle.refinement.specs.Acts.{DriverSlots, driver_state_of_slots}
 use Rattle.refinement.specs.Driver.{AllFree, DriverRelation}
 use Rattle.refinement.specs.PortFacts.{RecordsFaults}
-use Rattle.refinement.specs.PreservedParts.{ShowsDiskIfIn}
+use Rattle.refinement.specs.PreservedParts.{HasDet3IfDiskPresent}
 use Rattle.refinement.specs.Slots.{SlotState, Free, Serves, SlotDecodesTo}
 use Rattle.block_machine.specs.DueRequests.{is_plain}
 use Rattle.block_machine.specs.Histories.{JointState}
@@ -66,7 +66,7 @@ pub record SlotServesUnanswered (s : DriverSlots) (i : JointState Device) (port 
   pub serves : s.slot_states port.0 slot ≡ Serves e.request.id
 
 -- the command that header and table of the slot say is queued exactly if the request isn't plain
-pub record IsQueuedAsAsked (mode : QueueMode) (d : Device) (port slot : ℕ) (e : Pending) : Type 0 where
+pub record SlotCommandIsQueuedUnlessPlain (mode : QueueMode) (d : Device) (port slot : ℕ) (e : Pending) : Type 0 where
   pub command : Meaning
   pub places : List ℕ
   pub slot_decodes_to : SlotDecodesTo d.memory (d.port port).bases.clb port slot command places
@@ -79,7 +79,7 @@ pub record ReadySlotsInvariant (s : DriverSlots) (i : JointState Device) (port :
   pub unusable_are_free : (slot : ℕ) → mode.usable_slots ≤ slot → s.slot_states port.0 slot ≡ Free
   pub none_is_parked : s.awaiting_disposition port.0 ≡ []
   pub unended_commands_are_queued_as_asked : (slot : ℕ) (e : Pending) → SlotServesUnanswered s i port slot e
-      → e.ended ≡ false → IsQueuedAsAsked mode i.device port.0 slot e
+      → e.ended ≡ false → SlotCommandIsQueuedUnlessPlain mode i.device port.0 slot e
   pub plain_is_alone : (slot : ℕ) (e : Pending) → SlotServesUnanswered s i port slot e
       → is_plain mode e.request.asked.op ≡ true
       → (slot ≡ 0) × ((other : ℕ) → other ≢ 0 → s.slot_states port.0 other ≡ Free)
@@ -112,7 +112,7 @@ pub record IsStoppedAt (wanted : Wanted) (s : DriverSlots) (i : JointState Devic
     (state : PortState) : Type 0 where
   pub adapter_is_on : IsOn i.device
   pub backs_state : BacksState (serial_of wanted) state port.0 i.device
-  pub shows_disk_if_in : FoundUnusableDevice state → ShowsDiskIfIn (i.device.port port.0)
+  pub shows_disk_if_in : FoundUnusableDevice state → HasDet3IfDiskPresent (i.device.port port.0)
   pub has_nothing_in_slots : HasAllSlotsFreeAndNoneParked s port.0
   pub has_no_unanswered : HasNoUnanswered i.abstract.machine port
   pub none_is_quarantined : NoneKept i.abstract.machine port

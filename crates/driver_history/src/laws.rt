@@ -2,11 +2,11 @@
 ghost use Rattle.std.specs.Prelude.{ℕ, true, false, ◌≡◌, ◌≢◌, ◌⊎◌, ◌<◌, ◌≤◌, None, List, ◌∷◌, Contains};
 ghost use Rattle.ata_types.specs.{declared.Port.{Port}, declared.PortState.TheVariants.{Ready, Dead}, declared.memory.TheConstants.{DRIVER_FRAMES}, declared.request.Frame.{Frame}, declared.request.Outcome.{Outcome}, declared.request.RequestId.{RequestId}};
 ghost use Rattle.adapter.specs.{Device.{Device}, Rules.{IsOn, IsStable}, declared.access.DeviceStep.{DeviceStep}, declared.command.Operation.TheVariants.{ReadLog}, declared.tape.Fault.{Fault}};
-ghost use Rattle.refinement.specs.{Fragments.{GainsNoMove}, PortFacts.{DeviceSparesFrame, RunsWell}, PreservedParts.{NoPlugEvents}, Slots.{ServesRequest}};
-ghost use Rattle.block_machine.specs.{Events.{AbstractCall, AbstractState, AbstractCallResult, steps_of, Service, Tick, Reset, TimesOutAtTick, IsRun, EveryReadHoldsExpected, NoneStaysIssued}, Histories.{JointState, JointEvent, IsReachable, events_of, joint_state_after}, Ports.{PortsWellFormed, Evidence, Ports, SameSerialAndSize, SamePort}, State.{Pending}, Steps.{Answer}};
+ghost use Rattle.refinement.specs.{Fragments.{GainsNoMove}, PortFacts.{DeviceOwnsNoByteOfFrame, RunsWell}, PreservedParts.{NoPlugEvents}, Slots.{ServesRequest}};
+ghost use Rattle.block_machine.specs.{Events.{AbstractCall, AbstractState, AbstractCallResult, steps_of, Service, Tick, Reset, TimesOutAtTick, IsRun, EveryReadHoldsExpected, IssuedOnPortAreIssuedInSteps}, Histories.{JointState, JointEvent, IsReachable, events_of, joint_state_after}, Ports.{PortsWellFormed, Evidence, Ports, SameSerialAndSize, SamePort}, State.{Pending}, Steps.{Answer}};
 ghost use Rattle.identify.specs.declared.wanted.Wanted.{Wanted};
-ghost use Rattle.durability.specs.Durable.{EveryPlugFindsFlushed};
-ghost use Rattle.driver_history.specs.{Claims.{AnswerJustified, GoesWellFor, IsHealthyFor, IsSpared}, Evidence.{ReadyPortHasErrors, ReadyPortHasFatalErrors, IsEvidencedOf, ReadyPortHasLinkChangeOrNoDevice, ShowsLinkChange, StaysHealthy}, Histories.{IsDriverHistory, IssuesAllDue, LosesNoPortError, OfPortsInCalls}, PortInvariants.{DriverInvariant}, ConfinedMoves.{ConfinesCallMovesAndClears}, PortTurn.{HasTurnIn, EvidenceAgreesOn, call_accesses}};
+ghost use Rattle.durability.specs.Durable.{EveryReplugFindsFlushedOrLater};
+ghost use Rattle.driver_history.specs.{Claims.{AnswerJustified, GoesWellFor, IsHealthyFor, IsSpared}, Evidence.{ReadyPortShowedOrHadFailure, ReadyPortShowedOrHadFatalError, IsEvidencedOf, ReadyPortShowedLossOrHadPlugEvent, ShowsLinkChange, StaysHealthy}, Histories.{IsDriverHistory, IssuesAllDue, LosesNoPortError, OfPortsInCalls}, PortInvariants.{DriverInvariant}, ConfinedMoves.{ConfinesCallMovesAndClears}, PortTurn.{HasTurnIn, EvidenceAgreesOn, call_accesses}};
 ghost use Rattle.error_recovery.specs.Evidence.{BringsLastLogPage, HasFailed};
 ghost use Rattle.ata_types.specs.declared.request.Outcome.TheVariants as outcome;
 
@@ -16,8 +16,10 @@ use adapter::laws::law_asked_steps_are_transitions;
 use block_machine::laws::law_rows_shrink_and_owners_stay;
 use durability::laws::law_flushed_writes_survive_replug;
 use port_boot::laws::law_a_port_runs_on;
-use refinement::laws::law_disks_are_told;
-use refinement::port_facts::{law_device_spares_frames, law_running_well_stays_if_undisturbed};
+use refinement::laws::law_plug_events_match_disk_changes;
+use refinement::port_facts::{
+    law_device_never_owns_frames_out_of_use, law_running_well_stays_if_undisturbed,
+};
 
 /// The calls of a history are a run of the block machine. So its laws on runs hold of them: each request that is issued
 /// was accepted and broke no rule, each touch is of an accepted request's own sector at a frame that is lent to it, and
@@ -50,7 +52,7 @@ pub fn law_reads_hold_if_disks_tell()
 pub fn law_replugs_keep_flushed_if_disks_tell()
     ensures { (wanted : List Wanted) (first : JointState Device) (past : List (JointEvent Device DeviceStep))
         → IsDriverHistory wanted first past → first.device.telling ≡ true
-        → EveryPlugFindsFlushed first.abstract.machine (steps_of (events_of past)) }
+        → EveryReplugFindsFlushedOrLater first.abstract.machine (steps_of (events_of past)) }
 {
     law_run_prerequisites();
     law_flushed_writes_survive_replug::<DeviceStep>();
@@ -106,7 +108,7 @@ pub fn law_services_leave_healthy_ports_alone()
         → StaysHealthy port.0 (joint_state_after first past).device h.device
         → IsSpared (joint_state_after first past) h history.2.accesses port }
 {
-    law_disks_are_told();
+    law_plug_events_match_disk_changes();
 }
 
 /// A port that is ready and stays healthy in a call runs well after it, unless the call is a reset, or a tick that
@@ -116,7 +118,7 @@ pub fn law_healthy_calls_leave_ports_well()
         → (h.event.call ≡ Tick → TimesOutAtTick old.abstract port → ⊥)
         → StaysHealthy port.0 old.device h.device → RunsWell (h.device.port port.0)) }
 {
-    law_disks_are_told();
+    law_plug_events_match_disk_changes();
     law_asked_steps_are_transitions();
     law_running_well_stays_if_undisturbed();
     law_a_port_runs_on();
@@ -136,14 +138,14 @@ pub fn law_answers_justified()
 /// A client's frame that isn't lent is one that the device uses no byte of, whatever it does next. (That holds between
 /// calls. Within one, a frame leaves a loan where its request has ended, or its port has stopped: see what each answer
 /// rests on.)
-pub fn law_device_spares_unlent()
+pub fn law_device_never_owns_unlent_client_frames()
     ensures { (wanted : List Wanted) (first : JointState Device) (past : List (JointEvent Device DeviceStep))
         (frame : Frame) → IsDriverHistory wanted first past
         → DRIVER_FRAMES ≤ frame.0 → (joint_state_after first past).abstract.machine.lent frame ≡ None
-        → IsStable (DeviceSparesFrame frame) (joint_state_after first past).device }
+        → IsStable (DeviceOwnsNoByteOfFrame frame) (joint_state_after first past).device }
 {
     law_run_prerequisites();
-    law_device_spares_frames();
+    law_device_never_owns_frames_out_of_use();
 }
 
 /// Unplugged is told of no request whose port had told of no change and showed a device when the call began, of which
@@ -180,7 +182,7 @@ pub fn law_services_answer_where_bits_are_clear()
 /// A tick that brings a request of a port to its age of three leaves no unanswered request of the port its issue.
 pub fn law_timeouts_undo_issues()
     ensures { OfPortsInCalls (λ old h new port. h.event.call ≡ Tick → TimesOutAtTick old.abstract port
-        → NoneStaysIssued h.event.steps new.abstract.machine port) }
+        → IssuedOnPortAreIssuedInSteps h.event.steps new.abstract.machine port) }
 {}
 
 /// Composition on healthy ports: each call of a history that is healthy for a port goes well for it, whatever was
@@ -190,7 +192,7 @@ pub fn law_timeouts_undo_issues()
 pub fn law_healthy_calls_go_well()
     ensures { OfPortsInCalls (λ old h new port. IsHealthyFor old h port → GoesWellFor old h port) }
 {
-    law_disks_are_told();
+    law_plug_events_match_disk_changes();
     law_asked_steps_are_transitions();
     law_running_well_stays_if_undisturbed();
     law_a_port_runs_on();
@@ -235,12 +237,12 @@ pub fn law_a_turns_evidence_is_the_calls()
 pub fn law_healthy_ports_have_no_error()
     ensures link_is_unchanged { (port : Port) (old : JointState Device) (new : Device)
         → StaysHealthy port.0 old.device new
-        → ReadyPortHasLinkChangeOrNoDevice port old new → ⊥ }
+        → ReadyPortShowedLossOrHadPlugEvent port old new → ⊥ }
     ensures has_no_errors { (port : Port) (old : JointState Device) (new : Device) → StaysHealthy port.0 old.device new
-        → ReadyPortHasErrors port old new → ⊥ }
+        → ReadyPortShowedOrHadFailure port old new → ⊥ }
     ensures has_no_fatal_errors { (port : Port) (old : JointState Device) (new : Device)
         → StaysHealthy port.0 old.device new
-        → ReadyPortHasFatalErrors port old new → ⊥ }
+        → ReadyPortShowedOrHadFatalError port old new → ⊥ }
     ensures loses_no_error { (evidence : Evidence) (old : JointState Device) (ports : Ports) (new : Device)
         (port : Port)
         → StaysHealthy port.0 old.device new → LosesNoPortError evidence old ports new port }

@@ -4,30 +4,30 @@ ghost use Rattle.std.specs.Prelude.{ℕ, true, false, ◌≡◌, ◌⊎◌, ◌�
 ghost use Rattle.ata_types.specs.{declared.Port.{Port}, declared.PortState.TheVariants.{Ready}};
 ghost use Rattle.hba_regs.specs.declared.reg.Reg.TheVariants.{Ghc};
 ghost use Rattle.adapter.specs.{Access.{Access, DoesAll}, Device.{Device}, Rules.{IsOn}, Steps.{Steps}, declared.access.DeviceStep.{DeviceStep}};
-ghost use Rattle.refinement.specs.{Fragments.{TapeGrows}, Errors.{IsFatalErrorOf, NoDiskComes}, PortFacts.{IsFaultOf, Undisturbed}, PreservedParts.{ShowsDiskIfIn, NoPlugEvents, DoesNotWrite}};
+ghost use Rattle.refinement.specs.{Fragments.{TapeGrows}, Errors.{IsFatalErrorOf, NoDiskComes}, PortFacts.{IsFaultOf, Undisturbed}, PreservedParts.{HasDet3IfDiskPresent, NoPlugEvents, DoesNotWrite}};
 ghost use Rattle.block_machine.specs.{Events.{AbstractState, AbstractCallResult, Service}, Histories.{JointEvent, JointState, joint_state_after}, Ports.{Evidence, IsStoppedOrStuck, Ports, SamePort}};
 ghost use Rattle.error_recovery.specs.Evidence.{GainsSinceStart};
-ghost use Rattle.driver_history.specs.{Claims.{HandlesShownFailure, HandlesShownLoss}, Evidence.{ShowsLinkChange, ShowsFailure, ShowsLoss}, Histories.{BootsAnewWhereRequired, IsForeignOrUnfit, HasOnlyTaskFileError, LosesNoPortError, OfPortsInCalls, RunsWellAnew, ProbesDisk}, PortTurn.{ChangedUnreadyPortEndsNoLinkDue, HasTurnIn, EvidenceAgreesOn, call_accesses}, AccessTrace.{ClearsNoError, ResetsLink}};
+ghost use Rattle.driver_history.specs.{Claims.{HandlesShownFailure, HandlesShownLoss}, Evidence.{ShowsLinkChange, ShowsFailure, BeganWithLinkChangeOrNoDeviceAndNoneComes}, Histories.{BootsAnewWhereRequired, IsForeignOrUnfit, HasOnlyTaskFileError, LosesNoPortError, OfPortsInCalls, RunsWellAnew, ProbesDisk}, PortTurn.{ForeignOrUnfitShowingXEndsNoLinkDue, HasTurnIn, EvidenceAgreesOn, call_accesses}, AccessTrace.{WritesOneToNoTroubleBit, ResetsLink}};
 ghost use Rattle.identify.specs.declared.wanted.Wanted.{Wanted};
 ghost use Rattle.port_control.specs.Engines.{Stops};
 
 use super::prerequisites::law_prerequisites;
 
 /// A service heeds the failure that a ready port showed when it began, a fault or a fatal error, whatever else it
-/// showed: what had ended is answered, the port was stopped, who waits keeps no issue, and one request is told a fault
-/// at most. With a fatal error nobody is told one; with TFES alone, and in the call no fatal error, and no disk that
-/// goes or comes, a plain request always is.
+/// showed: what had ended is answered Ok, the port was stopped, what is issued then was issued anew, and one request is
+/// told a fault at most. With a fatal error nobody is told one; with TFES alone, and in the call no fatal error, and no
+/// disk that goes or comes, a plain request always is.
 pub fn law_services_heed_shown_failures()
     ensures { OfPortsInCalls (λ old h new port. h.event.call ≡ Service → old.abstract.ports.state port ≡ Ready
         → ShowsFailure (old.device.port port.0) → HandlesShownFailure port old h) }
 {}
 
 /// A service heeds that a ready port showed a change of its link when it began, or no device, with no disk that comes
-/// meanwhile, whatever else it showed: what had ended is answered, all other requests of the port are told that the
+/// meanwhile, whatever else it showed: what had ended is answered Ok, all other requests of the port are told that the
 /// disk is gone, or that the port is dead, and the port was stopped.
 pub fn law_services_heed_shown_losses()
     ensures { OfPortsInCalls (λ old h new port. h.event.call ≡ Service → old.abstract.ports.state port ≡ Ready
-        → ShowsLoss port old.device h.device → HandlesShownLoss port old h) }
+        → BeganWithLinkChangeOrNoDeviceAndNoneComes port old.device h.device → HandlesShownLoss port old h) }
 {}
 
 /// Accesses that leave the adapter on, and clear no bit that tells of a port's trouble, lose none of it; nor does the
@@ -37,7 +37,7 @@ pub fn law_ordinary_accesses_lose_no_error()
     ensures accesses { (port : Port) (old : JointState Device) (new : Device) (accesses : List Access)
         (evidence : Evidence) (ports : Ports)
         → IsOn old.device → DoesAll accesses old.device new → All (DoesNotWrite Ghc) accesses
-        → All (ClearsNoError port) accesses → LosesNoPortError evidence old ports new port }
+        → All (WritesOneToNoTroubleBit port) accesses → LosesNoPortError evidence old ports new port }
     ensures steps { (port : Port) (old : JointState Device) (new : Device) (evidence : Evidence) (ports : Ports)
         → IsOn old.device → Steps old.device new → LosesNoPortError evidence old ports new port }
 {
@@ -102,8 +102,8 @@ pub fn law_a_turn_that_probes_a_disk_is_the_calls()
         (new : Device)
         → IsOn old.device → (t : HasTurnIn port old.device new) → IsOn t.end → SamePort ended ports port
         → SamePort old.abstract.ports begun.ports port
-        → (IsForeignOrUnfit old.abstract.ports port → ShowsDiskIfIn (old.device.port port.0))
-        → ChangedUnreadyPortEndsNoLinkDue port (record { device = t.start; abstract = begun }) ended t.end
+        → (IsForeignOrUnfit old.abstract.ports port → HasDet3IfDiskPresent (old.device.port port.0))
+        → ForeignOrUnfitShowingXEndsNoLinkDue port (record { device = t.start; abstract = begun }) ended t.end
         → (NoDiskComes port.0 t.start t.end
         → ProbesDisk t.turn (record { device = t.start; abstract = begun }) ended t.end
         port)
@@ -112,15 +112,15 @@ pub fn law_a_turn_that_probes_a_disk_is_the_calls()
         (new : Device)
         → IsOn old.device → (t : HasTurnIn port old.device new) → IsOn t.end → SamePort ended ports port
         → SamePort old.abstract.ports begun.ports port
-        → ChangedUnreadyPortEndsNoLinkDue port (record { device = t.start; abstract = begun })
-        ended t.end → ChangedUnreadyPortEndsNoLinkDue port old ports new }
+        → ForeignOrUnfitShowingXEndsNoLinkDue port (record { device = t.start; abstract = begun })
+        ended t.end → ForeignOrUnfitShowingXEndsNoLinkDue port old ports new }
 {
     law_prerequisites();
 }
 
 /// Where no disk of a port went or came, and no fault and no fatal error came since its ST was last set, nothing went
 /// wrong on it after any moment that ST was set before.
-pub fn law_what_is_untroubled_since_st_was_set_is_calm()
+pub fn law_untroubled_since_st_is_undisturbed()
     ensures { (port : ℕ) (old mid new : Device) → TapeGrows old mid → TapeGrows mid new
         → (new.port port).notes.st_set_at
         ≤ length mid.tape
@@ -147,10 +147,9 @@ pub fn law_st_of_a_stopped_port_was_set_since()
     law_prerequisites();
 }
 
-/// Where accesses that leave the adapter on reset a port's link, that is noted: PxSCTL was written since they began. So
-/// where the tape has grown since PxSCTL was written, no service passes over a device that an absent port shows
-/// (`ProbesDisk`).
-pub fn law_a_link_that_was_reset_is_noted()
+/// Where accesses that leave the adapter on reset a port's link, PxSCTL was written since they began. So where the tape
+/// has grown since PxSCTL was written, no service passes over a device that an absent port shows (`ProbesDisk`).
+pub fn law_link_reset_sets_sctl_written_at()
     ensures { (port : Port) (accesses : List Access) (old new : Device) → IsOn old → All (DoesNotWrite Ghc) accesses
         → DoesAll accesses old new → ResetsLink port accesses
         → length old.tape ≤ (new.port port.0).notes.sctl_written_at }

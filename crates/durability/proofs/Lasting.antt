@@ -8,9 +8,9 @@ use Rattle.ata_types.specs.declared.request.Op.TheVariants.{Flush}
 use Rattle.ata_types.specs.declared.request.Outcome.TheVariants.{Ok, DeviceError}
 use Rattle.block_machine.specs.State.{Block, DiskBytes, Accepted, Pending, Machine, sector_of, block_written}
 use Rattle.block_machine.specs.DueRequests.{is_flush, changes_sectors}
-use Rattle.block_machine.specs.Steps.{Step, Accept, Issue, Touch, End, Age, WaitAgain, Answer, Release, Revoke, Unplug, Replace, Store, Load, IsEnabled, MayStillMove, after_step, update_pending, newly_issued, touch, mark_ended, requeued, aged_pending, newly_accepted, put_sector, SameBytes, HoldsOrHeldSinceFlush}
+use Rattle.block_machine.specs.Steps.{Step, Accept, Issue, Touch, End, Age, WaitAgain, Answer, Release, Revoke, Unplug, PlugDisk, Store, Load, IsEnabled, MayStillMove, after_step, update_pending, newly_issued, touch, mark_ended, requeued, aged_pending, newly_accepted, put_sector, SameBytes, HoldsOrHeldSinceFlush}
 use Rattle.block_machine.specs.Expected.{after, IsLegal, IsInitial, IsAccept, IsTouch, HasTouched, plug_count}
-use Rattle.durability.specs.Durable.{AnswersOk, unplugs_disk_of, plugs_other_disk, WriteAcceptedSinceLastUnplug, WriteOkOnSameDisk, FlushAcceptedAfterOkWrite, FlushOkAfterOkWriteOnSameDisk, IsWrittenByOrAfter, ReplugFindsFlushedOrLater, EveryPlugFindsFlushed}
+use Rattle.durability.specs.Durable.{AnswersOk, unplugs_disk_of, plugs_other_disk, WriteAcceptedSinceLastUnplug, WriteOkSinceLastUnplug, FlushAcceptedAfterOkWrite, FlushOkAfterOkWriteOnSameDisk, IsWrittenByOrAfterOnAnyDisk, ReplugFindsFlushedOrLater, EveryReplugFindsFlushedOrLater}
 use Rattle.block_machine.proofs.Members.{map_in, at_cases, without_in, append_in}
 use Rattle.block_machine.proofs.Sound.{Sound}
 use Rattle.block_machine.proofs.Keeps.{older_keeps, older_touched}
@@ -23,7 +23,7 @@ use Rattle.block_machine.specs.Histories.{joint_state_after}
 -- From this step on the bytes of the port's disk last: a flush of it is ended, or another disk is put in.
 abbrev pub starts_lasting : Machine → Port → Step → Bool
 starts_lasting old port (End e) = e.request.port.0 == port.0 && is_flush e.request.asked.op
-starts_lasting old port (Replace p id size disk) = p.0 == port.0 && not (id == old.disk_ids port)
+starts_lasting old port (PlugDisk p id size disk) = p.0 == port.0 && not (id == old.disk_ids port)
 starts_lasting old port _ = false
 
 -- Sector k of the port's disk held this block at some moment since a flush was last ended on that disk, or since the
@@ -36,7 +36,7 @@ HeldSince start port k block (step ∷ past) =
 
 -- the same disk comes back with each sector as it was at some such moment
 abbrev pub ComesBack : Machine → List Step → Step → Type 0
-ComesBack start past (Replace port id size disk) =
+ComesBack start past (PlugDisk port id size disk) =
     id ≡ (after start past).disk_ids port → (k : ℕ) → k < size → HeldSince start port k (disk k) past
 ComesBack start past _ = Unit {0}
 
@@ -47,7 +47,7 @@ IsVolatile start (step ∷ past) = IsVolatile start past × ComesBack start past
 
 -- the step puts a disk in at the port
 abbrev IsReplace : Step → Port → ℕ → ℕ → DiskBytes → Type 0
-IsReplace (Replace p i n d) port id size disk = (p ≡ port) × (i ≡ id) × (n ≡ size) × (d ≡ disk)
+IsReplace (PlugDisk p i n d) port id size disk = (p ≡ port) × (i ≡ id) × (n ≡ size) × (d ≡ disk)
 IsReplace _ port id size disk = ⊥
 
 -- what a step does to a sector: nothing, a writer's touch, or another disk
@@ -110,7 +110,7 @@ effect_touch m e i block port k r lt = by_op (changes_sectors e.request.asked.op
       quiet = λ x writes _ touch. both_ways _ w (subst (λ (j : Accepted). changes_sectors j.asked.op ≡ true) (sym touch.0) writes);
     })
 
-effect_replace : (m : Machine) (p : Port) (id size : ℕ) (disk : DiskBytes) (port : Port) (k : ℕ) → m.present p ≡ false → Effect m (Replace p id size disk) port k
+effect_replace : (m : Machine) (p : Port) (id size : ℕ) (disk : DiskBytes) (port : Port) (k : ℕ) → m.present p ≡ false → Effect m (PlugDisk p id size disk) port k
 effect_replace m p id size disk port k gone = ⊎_elim
     (λ (e : port.0 ≡ p.0). inr (inr (record {
       id = id;
@@ -125,7 +125,7 @@ effect_replace m p id size disk port k gone = ⊎_elim
 
 effect : (m : Machine) (step : Step) (port : Port) (k : ℕ) → IsEnabled m step → Effect m step port k
 effect m (Touch e i block) port k may = effect_touch m e i block port k may.0 may.1
-effect m (Replace p id size disk) port k may = effect_replace m p id size disk port k may.0
+effect m (PlugDisk p id size disk) port k may = effect_replace m p id size disk port k may.0
 effect m (Accept request) port k may = inl (record { same = refl; quiet = λ w _ _ t. t })
 effect m (Issue mode e) port k may = inl (record { same = refl; quiet = λ w _ _ t. t })
 effect m (End e) port k may = inl (record { same = refl; quiet = λ w _ _ t. t })
@@ -141,7 +141,7 @@ effect m (Load client frame offset bytes) port k may = inl (record { same = refl
 -- while no disk is taken out, one stays in
 stays_in : (m : Machine) (step : Step) (port : Port) → IsEnabled m step → unplugs_disk_of port step ≡ false → m.present port ≡ true → (after_step m step).present port ≡ true
 stays_in m (Unplug p) port may out here = cond-false (port.0 == p.0) false (m.present port) (ne_eqb port.0 p.0 (λ e. both_ways _ out (eq-eqb p.0 port.0 (sym e)))) ∙ here
-stays_in m (Replace p id size disk) port may out here = cond_both (port.0 == p.0) true (m.present port) (λ b. b ≡ true) (λ _. refl) (λ _. here)
+stays_in m (PlugDisk p id size disk) port may out here = cond_both (port.0 == p.0) true (m.present port) (λ b. b ≡ true) (λ _. refl) (λ _. here)
 stays_in m (Touch e i block) port may out here = here
 stays_in m (Accept request) port may out here = here
 stays_in m (Issue mode e) port may out here = here
@@ -154,17 +154,17 @@ stays_in m Release port may out here = here
 stays_in m (Store client frame offset bytes) port may out here = here
 stays_in m (Load client frame offset bytes) port may out here = here
 
-since_more : (w : Accepted) (k : ℕ) (step : Step) (h : List Step) (block : Block) → IsWrittenByOrAfter w k h block → IsWrittenByOrAfter w k (step ∷ h) block
+since_more : (w : Accepted) (k : ℕ) (step : Step) (h : List Step) (block : Block) → IsWrittenByOrAfterOnAnyDisk w k h block → IsWrittenByOrAfterOnAnyDisk w k (step ∷ h) block
 since_more w k step h block s = record { writer = s.writer; op_changes_sectors = s.op_changes_sectors; port_is = s.port_is; is_not_accepted_before = s.is_not_accepted_before; disk_number = s.disk_number; touched = inr s.touched; block_is = s.block_is }
 
-since_bytes : (w : Accepted) (k : ℕ) (h : List Step) (a b : Block) → SameBytes a b → IsWrittenByOrAfter w k h b → IsWrittenByOrAfter w k h a
+since_bytes : (w : Accepted) (k : ℕ) (h : List Step) (a b : Block) → SameBytes a b → IsWrittenByOrAfterOnAnyDisk w k h b → IsWrittenByOrAfterOnAnyDisk w k h a
 since_bytes w k h a b e s = record { writer = s.writer; op_changes_sectors = s.op_changes_sectors; port_is = s.port_is; is_not_accepted_before = s.is_not_accepted_before; disk_number = s.disk_number; touched = s.touched; block_is = λ x lt. e x lt ∙ s.block_is x lt }
 
-since_same : (w : Accepted) (k : ℕ) (h : List Step) (a b : Block) → a ≡ b → IsWrittenByOrAfter w k h b → IsWrittenByOrAfter w k h a
+since_same : (w : Accepted) (k : ℕ) (h : List Step) (a b : Block) → a ≡ b → IsWrittenByOrAfterOnAnyDisk w k h b → IsWrittenByOrAfterOnAnyDisk w k h a
 since_same w k h a b e s = since_bytes w k h a b (λ x lt. ap (λ (c : Block). c x) e) s
 
 -- a writer's touch after w's is of w or a later request
-since_written : (m : Machine) (step : Step) (h : List Step) (w : Accepted) (k : ℕ) → Seen m w k → changes_sectors w.asked.op ≡ true → (t : IsWritten m step w.port k) → IsWrittenByOrAfter w k (step ∷ h) ((after_step m step).disk_bytes w.port k)
+since_written : (m : Machine) (step : Step) (h : List Step) (w : Accepted) (k : ℕ) → Seen m w k → changes_sectors w.asked.op ≡ true → (t : IsWritten m step w.port k) → IsWrittenByOrAfterOnAnyDisk w k (step ∷ h) ((after_step m step).disk_bytes w.port k)
 since_written m step h w k seen writes t = record {
   writer = t.entry.request;
   op_changes_sectors = t.writes;
@@ -184,11 +184,11 @@ record Stage (start : Machine) (h : List Step) (w : Accepted) (k : ℕ) : Type 0
   inside : k < (after start h).sizes w.port
   disk : ℕ
   touched : HasTouched w k disk h
-  since : IsWrittenByOrAfter w k h ((after start h).disk_bytes w.port k)
+  since : IsWrittenByOrAfterOnAnyDisk w k h ((after start h).disk_bytes w.port k)
 
 -- the disk keeps its size, unless another comes
 sizes_stay : (m : Machine) (step : Step) (port : Port) → IsEnabled m step → plugs_other_disk m port step ≡ false → (after_step m step).sizes port ≡ m.sizes port
-sizes_stay m (Replace p id size disk) port may other = ⊎_elim
+sizes_stay m (PlugDisk p id size disk) port may other = ⊎_elim
     (λ (ne : (p.0 == port.0) ≡ false). cond-false (port.0 == p.0) size (m.sizes port) (ne_eqb port.0 p.0 (λ e. eqb-false p.0 port.0 ne (sym e))))
     (λ (same : not (id == m.disk_ids port) ≡ false). cond_both (port.0 == p.0) size (m.sizes port) (λ n. n ≡ m.sizes port)
     (λ here. let at : p ≡ port = sym (ap (λ (n : ℕ). record { 0 = n }) (eqb-true port.0 p.0 here)) in
@@ -199,7 +199,7 @@ sizes_stay m _ port may other = refl
 
 -- another disk comes only where none is in
 other_absent : (m : Machine) (step : Step) (port : Port) → IsEnabled m step → plugs_other_disk m port step ≡ true → m.present port ≡ false
-other_absent m (Replace p i n d) port may t = ap m.present (sym (ap (λ (n : ℕ). record { 0 = n }) (eqb-true p.0 port.0 (and_parts _ _ t).0))) ∙ may.0
+other_absent m (PlugDisk p i n d) port may t = ap m.present (sym (ap (λ (n : ℕ). record { 0 = n }) (eqb-true p.0 port.0 (and_parts _ _ t).0))) ∙ may.0
 other_absent m (Answer e outcome) port may t = absurd (false≢true t)
 other_absent m (Accept request) port may t = absurd (false≢true t)
 other_absent m (Issue mode e) port may t = absurd (false≢true t)
@@ -275,7 +275,7 @@ came m (Answer e outcome) may s x i hx t = inl (x, (without_in e.request.id m.bo
 came m (Revoke client number) may s x i hx t = inl (x, hx, refl, t)
 came m Release may s x i hx t = inl (x, hx, refl, t)
 came m (Unplug port) may s x i hx t = inl (x, hx, refl, t)
-came m (Replace port id size disk) may s x i hx t = inl (x, hx, refl, t)
+came m (PlugDisk port id size disk) may s x i hx t = inl (x, hx, refl, t)
 came m (Store client frame offset bytes) may s x i hx t = inl (x, hx, refl, t)
 came m (Load client frame offset bytes) may s x i hx t = inl (x, hx, refl, t)
 
@@ -346,7 +346,7 @@ accepted_stage start (step ∷ past) w s legal writes (inr a) x hx same i t = �
     (λ (q : IsTouchAt step x.request i). stage_now start step past w i s legal writes a.0 (subst (λ (j : Accepted). IsTouchAt step j i) same q))
     (came (after start past) step legal.1 (traced start past s legal.0).sound x i hx t)
 
-stored_stage : (start : Machine) (h : List Step) (w : Accepted) → IsInitial start → IsLegal start h → AllWhole h → changes_sectors w.asked.op ≡ true → WriteOkOnSameDisk w h → (i : ℕ) → i < w.asked.count → Stage start h w (w.asked.first.0 + i)
+stored_stage : (start : Machine) (h : List Step) (w : Accepted) → IsInitial start → IsLegal start h → AllWhole h → changes_sectors w.asked.op ≡ true → WriteOkSinceLastUnplug w h → (i : ℕ) → i < w.asked.count → Stage start h w (w.asked.first.0 + i)
 stored_stage start [] w s legal whole writes a i lt = absurd a
 stored_stage start (step ∷ past) w s legal whole writes (inl a) i lt =
     let e = ok_entry (after start past) step w legal.1 whole.1 a.0 in
@@ -364,7 +364,7 @@ record Lasts (start : Machine) (h : List Step) (w : Accepted) (k : ℕ) : Type 0
   inside : k < (after start h).sizes w.port
   disk : ℕ
   touched : HasTouched w k disk h
-  since : (block : Block) → HeldSince start w.port k block h → IsWrittenByOrAfter w k h block
+  since : (block : Block) → HeldSince start w.port k block h → IsWrittenByOrAfterOnAnyDisk w k h block
 
 pub held_now : (start : Machine) (port : Port) (k : ℕ) (h : List Step) → HeldSince start port k ((after start h).disk_bytes port k) h
 held_now start port k [] = inl (λ b lt. refl)
@@ -372,7 +372,7 @@ held_now start port k (step ∷ past) = inl (λ b lt. refl)
 
 same_disk : (start : Machine) (past : List Step) (step : Step) (port : Port) (k id size : ℕ) (disk : DiskBytes) → IsEnabled (after start past) step → ComesBack start past step → plugs_other_disk (after start past) port step ≡ false
     → k < (after start past).sizes port → IsReplace step port id size disk → HeldSince start port k (disk k) past
-same_disk start past (Replace p i n d) port k id size disk may back other inside t =
+same_disk start past (PlugDisk p i n d) port k id size disk may back other inside t =
     let named : i ≡ (after start past).disk_ids port = ⊎_elim
     (λ (f : (p.0 == port.0) ≡ false). absurd (eqb-false p.0 port.0 f (ap (λ (q : Port). q.0) t.0)))
     (λ (f : not (i == (after start past).disk_ids port) ≡ false). eqb-true i ((after start past).disk_ids port) (not-false _ f))
@@ -395,7 +395,7 @@ lasts_step start step past w k s legal writes back other g = record {
       held;
 }
   where
-    current : IsWrittenByOrAfter w k (step ∷ past) ((after start (step ∷ past)).disk_bytes w.port k)
+    current : IsWrittenByOrAfterOnAnyDisk w k (step ∷ past) ((after start (step ∷ past)).disk_bytes w.port k)
     current = ⊎_elim
         (λ (idle : IsIdle (after start past) step w.port k). since_same w k (step ∷ past) _ _ idle.same (since_more w k step past _ (g.since _ (held_now start w.port k past))))
         (λ (x : IsWritten (after start past) step w.port k ⊎ IsReplaced (after start past) step w.port). ⊎_elim
@@ -444,7 +444,7 @@ ended m (Answer e outcome) may s x hx t = inl (x, (without_in e.request.id m.boo
 ended m (Revoke client number) may s x hx t = inl (x, hx, refl, t)
 ended m Release may s x hx t = inl (x, hx, refl, t)
 ended m (Unplug port) may s x hx t = inl (x, hx, refl, t)
-ended m (Replace port id size disk) may s x hx t = inl (x, hx, refl, t)
+ended m (PlugDisk port id size disk) may s x hx t = inl (x, hx, refl, t)
 ended m (Store client frame offset bytes) may s x hx t = inl (x, hx, refl, t)
 ended m (Load client frame offset bytes) may s x hx t = inl (x, hx, refl, t)
 
@@ -492,17 +492,17 @@ flushed_lasts start (step ∷ past) w flush s legal whole back writes port op (i
 
 -- a disk that comes back has the writes that were flushed
 finds : (start : Machine) (past : List Step) (step : Step) → IsInitial start → IsLegal start (step ∷ past) → AllWhole past → IsVolatile start (step ∷ past) → ReplugFindsFlushedOrLater start past step
-finds start past (Replace port id size disk) s legal whole back = λ same w flush here f i lt.
+finds start past (PlugDisk port id size disk) s legal whole back = λ same w flush here f i lt.
     let lasts = flushed_lasts start past w flush s legal.0 whole back.0 f.op_changes_sectors f.flush_port_is f.flush_is f.flush_is_ok_after_write i lt in
     let inside : sector_of w i < (after start past).sizes port = subst (λ (p : Port). sector_of w i < (after start past).sizes p) here lasts.inside in
     let large = legal.1.1 same in
     lasts.since (disk (sector_of w i)) (subst (λ (p : Port). HeldSince start p (sector_of w i) (disk (sector_of w i)) past) (sym here) (back.1 same (sector_of w i) (omega (arith, inside, large))))
 finds start past _ s legal whole back = tt
 
-pub law_flushed_writes_survive_replug : (start : Machine) (h : List Step) → IsInitial start → IsLegal start h → AllWhole h → IsVolatile start h → EveryPlugFindsFlushed start h
+pub law_flushed_writes_survive_replug : (start : Machine) (h : List Step) → IsInitial start → IsLegal start h → AllWhole h → IsVolatile start h → EveryReplugFindsFlushedOrLater start h
 law_flushed_writes_survive_replug start [] s legal whole back = tt
 law_flushed_writes_survive_replug start (step ∷ past) s legal whole back = (law_flushed_writes_survive_replug start past s legal.0 whole.0 back.0, finds start past step s legal whole.0 back)
 
 -- a disk that comes back in a run has the writes that were flushed
-pub run_finds : {D : Type 0} (first : AbstractState) (run : List (CallRecord D)) → IsRun first run → IsVolatile first.machine (steps_of run) → EveryPlugFindsFlushed first.machine (steps_of run)
+pub run_finds : {D : Type 0} (first : AbstractState) (run : List (CallRecord D)) → IsRun first run → IsVolatile first.machine (steps_of run) → EveryReplugFindsFlushedOrLater first.machine (steps_of run)
 run_finds first run r back = law_flushed_writes_survive_replug first.machine (steps_of run) (run_starts first run r) (run_legal first run r) (run_whole first run r) back

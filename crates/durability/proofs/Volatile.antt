@@ -5,9 +5,9 @@ use Rattle.std.specs.List.{Contains}
 use Rattle.ata_types.specs.declared.Port.{Port}
 use Rattle.block_machine.specs.State.{Block, DiskBytes, Pending, Machine, sector_of}
 use Rattle.block_machine.specs.DueRequests.{is_flush, changes_sectors}
-use Rattle.block_machine.specs.Steps.{Step, Touch, End, Replace, SameBytes, after_step}
+use Rattle.block_machine.specs.Steps.{Step, Touch, End, PlugDisk, SameBytes, after_step}
 use Rattle.block_machine.specs.Expected.{after, AllStepsFaithful, StepIsFaithful}
-use Rattle.durability.specs.Durable.{EveryPlugFindsFlushed}
+use Rattle.durability.specs.Durable.{EveryReplugFindsFlushedOrLater}
 use Rattle.block_machine.proofs.Members.{contains_none, contains_cases}
 use Rattle.block_machine.specs.Events.{AbstractState, CallRecord, IsRun, steps_of}
 use Rattle.durability.proofs.Lasting.{starts_lasting, HeldSince, ComesBack, IsVolatile, held_now, run_finds as flushed_found}
@@ -30,14 +30,14 @@ aside_end m e port k old h = go ((e.request.port.0 == port.0) && is_flush e.requ
     go true t c = absurd (contains_none old c)
     go false t c = (t, inr c)
 
-aside_replace : (m : Machine) (p : Port) (id size : ℕ) (disk : DiskBytes) (port : Port) (k : ℕ) (old : Block) → Contains ((after_step m (Replace p id size disk)).overwritten_since_flush port k) old → Aside m (Replace p id size disk) port k old
+aside_replace : (m : Machine) (p : Port) (id size : ℕ) (disk : DiskBytes) (port : Port) (k : ℕ) (old : Block) → Contains ((after_step m (PlugDisk p id size disk)).overwritten_since_flush port k) old → Aside m (PlugDisk p id size disk) port k old
 aside_replace m p id size disk port k old h = go (port.0 == p.0) (id == m.disk_ids port) refl refl h
   where
     other : (b : Bool) → (port.0 == p.0) ≡ b → (p.0 == port.0) ≡ b
     other true t = eq-eqb p.0 port.0 (sym (eqb-true port.0 p.0 t))
     other false t = ne_eqb p.0 port.0 (λ e. eqb-false port.0 p.0 t (sym e))
 
-    go : (here same : Bool) → (port.0 == p.0) ≡ here → (id == m.disk_ids port) ≡ same → Contains (cond here (cond same (m.disk_bytes port k ∷ m.overwritten_since_flush port k) []) (m.overwritten_since_flush port k)) old → Aside m (Replace p id size disk) port k old
+    go : (here same : Bool) → (port.0 == p.0) ≡ here → (id == m.disk_ids port) ≡ same → Contains (cond here (cond same (m.disk_bytes port k ∷ m.overwritten_since_flush port k) []) (m.overwritten_since_flush port k)) old → Aside m (PlugDisk p id size disk) port k old
     go true true t u c = (ap (λ (b : Bool). b && not (id == m.disk_ids port)) (other true t) ∙ ap not u, contains_cases (m.disk_bytes port k) (m.overwritten_since_flush port k) old c)
     go true false t u c = absurd (contains_none old c)
     go false same t u c = (ap (λ (b : Bool). b && not (id == m.disk_ids port)) (other false t), inr c)
@@ -45,7 +45,7 @@ aside_replace m p id size disk port k old h = go (port.0 == p.0) (id == m.disk_i
 aside : (m : Machine) (step : Step) (port : Port) (k : ℕ) (old : Block) → Contains ((after_step m step).overwritten_since_flush port k) old → Aside m step port k old
 aside m (Touch e i block) port k old h = aside_touch m e i block port k old h
 aside m (End e) port k old h = aside_end m e port k old h
-aside m (Replace p id size disk) port k old h = aside_replace m p id size disk port k old h
+aside m (PlugDisk p id size disk) port k old h = aside_replace m p id size disk port k old h
 aside m _ port k old h = (refl, inr h)
 
 -- of what is put aside each was held since a flush was last ended
@@ -68,7 +68,7 @@ held_bytes start port k (step ∷ past) one other same (inl now) = inl (λ b lt.
 held_bytes start port k (step ∷ past) one other same (inr (kept, before)) = inr (kept, held_bytes start port k past one other same before)
 
 comes_back : (start : Machine) (past : List Step) (step : Step) → StepIsFaithful (after start past) step → ComesBack start past step
-comes_back start past (Replace port id size disk) told = λ same k lt. ⊎_elim
+comes_back start past (PlugDisk port id size disk) told = λ same k lt. ⊎_elim
     (λ now. held_bytes start port k past (disk k) ((after start past).disk_bytes port k) now (held_now start port k past))
     (λ (a : (old : Block) × Contains ((after start past).overwritten_since_flush port k) old × SameBytes (disk k) old). held_bytes start port k past (disk k) a.0 a.2 (aside_held start past port k a.0 a.1))
     (told same k lt)
@@ -80,5 +80,5 @@ volatile start [] told = tt
 volatile start (step ∷ past) told = (volatile start past told.0, comes_back start past step told.1)
 
 -- a disk that comes back in a run has the writes that were flushed
-pub run_finds : {D : Type 0} (first : AbstractState) (run : List (CallRecord D)) → IsRun first run → AllStepsFaithful first.machine (steps_of run) → EveryPlugFindsFlushed first.machine (steps_of run)
+pub run_finds : {D : Type 0} (first : AbstractState) (run : List (CallRecord D)) → IsRun first run → AllStepsFaithful first.machine (steps_of run) → EveryReplugFindsFlushedOrLater first.machine (steps_of run)
 run_finds first run r told = flushed_found first run r (volatile first.machine (steps_of run) told)

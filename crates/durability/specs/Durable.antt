@@ -5,7 +5,7 @@ use Rattle.ata_types.specs.declared.request.Op.TheVariants.{Flush}
 use Rattle.ata_types.specs.declared.request.Outcome.TheVariants.{Ok}
 use Rattle.block_machine.specs.DueRequests.{changes_sectors}
 use Rattle.block_machine.specs.State.{Block, DiskBytes, Accepted, Machine, sector_of, block_written}
-use Rattle.block_machine.specs.Steps.{Step, Answer, Unplug, Replace, SameBytes}
+use Rattle.block_machine.specs.Steps.{Step, Answer, Unplug, PlugDisk, SameBytes}
 use Rattle.block_machine.specs.Expected.{after, IsAccept, HasTouched}
 
 -- the step answers the request Ok
@@ -20,7 +20,7 @@ unplugs_disk_of port _ = false
 
 -- the step puts another disk in at the port
 abbrev pub plugs_other_disk : Machine → Port → Step → Bool
-plugs_other_disk old port (Replace p id size disk) = p.0 == port.0 && not (id == old.disk_ids port)
+plugs_other_disk old port (PlugDisk p id size disk) = p.0 == port.0 && not (id == old.disk_ids port)
 plugs_other_disk old port _ = false
 
 -- the write or trim was accepted, and no disk of its port was taken out since
@@ -30,16 +30,16 @@ WriteAcceptedSinceLastUnplug w (step ∷ past) = IsAccept step w ⊎ ((unplugs_d
     × WriteAcceptedSinceLastUnplug w past)
 
 -- and then it was answered Ok
-abbrev pub WriteOkOnSameDisk : Accepted → List Step → Type 0
-WriteOkOnSameDisk w [] = ⊥
-WriteOkOnSameDisk w (step ∷ past) = (AnswersOk step w × WriteAcceptedSinceLastUnplug w past)
-    ⊎ ((unplugs_disk_of w.port step ≡ false) × WriteOkOnSameDisk w past)
+abbrev pub WriteOkSinceLastUnplug : Accepted → List Step → Type 0
+WriteOkSinceLastUnplug w [] = ⊥
+WriteOkSinceLastUnplug w (step ∷ past) = (AnswersOk step w × WriteAcceptedSinceLastUnplug w past)
+    ⊎ ((unplugs_disk_of w.port step ≡ false) × WriteOkSinceLastUnplug w past)
 
 -- and then this flush was accepted
 abbrev pub FlushAcceptedAfterOkWrite : Accepted → Accepted → List Step → Type 0
 FlushAcceptedAfterOkWrite w flush [] = ⊥
 FlushAcceptedAfterOkWrite w flush (step ∷ past) =
-    (IsAccept step flush × WriteOkOnSameDisk w past)
+    (IsAccept step flush × WriteOkSinceLastUnplug w past)
     ⊎ ((unplugs_disk_of w.port step ≡ false) × FlushAcceptedAfterOkWrite w flush past)
 
 -- and then it was answered Ok, and no other disk was put in since
@@ -60,7 +60,7 @@ pub record IsFlushed (start : Machine) (w flush : Accepted) (history : List Step
 -- The block is what w, or a write or trim of its port accepted later, put on sector k of the disk that was in,
 -- whichever it was. (The law is on flushed writes and trims. Since such a one was accepted one disk alone was in at its
 -- port, maybe several times.)
-pub record IsWrittenByOrAfter (w : Accepted) (k : ℕ) (history : List Step) (block : Block) : Type 0 where
+pub record IsWrittenByOrAfterOnAnyDisk (w : Accepted) (k : ℕ) (history : List Step) (block : Block) : Type 0 where
   pub writer : Accepted
   pub op_changes_sectors : changes_sectors writer.asked.op ≡ true
   pub port_is : writer.port ≡ w.port
@@ -72,15 +72,16 @@ pub record IsWrittenByOrAfter (w : Accepted) (k : ℕ) (history : List Step) (bl
 -- each sector of the write or trim has, on this disk, what it put there, or what one accepted later did
 abbrev pub HoldsWriteOrLater : Accepted → List Step → DiskBytes → Type 0
 HoldsWriteOrLater w history disk = (i : ℕ) → i < w.asked.count
-    → IsWrittenByOrAfter w (sector_of w i) history (disk (sector_of w i))
+    → IsWrittenByOrAfterOnAnyDisk w (sector_of w i) history (disk (sector_of w i))
 
 -- a disk that comes back with this step has the writes and trims that were flushed
 abbrev pub ReplugFindsFlushedOrLater : Machine → List Step → Step → Type 0
-ReplugFindsFlushedOrLater start past (Replace port id size disk) = id ≡ (after start past).disk_ids port
+ReplugFindsFlushedOrLater start past (PlugDisk port id size disk) = id ≡ (after start past).disk_ids port
     → (w flush : Accepted) → w.port ≡ port → IsFlushed start w flush past → HoldsWriteOrLater w past disk
 ReplugFindsFlushedOrLater start past _ = Unit {0}
 
 -- so it is with each step of the history
-abbrev pub EveryPlugFindsFlushed : Machine → List Step → Type 0
-EveryPlugFindsFlushed start [] = Unit {0}
-EveryPlugFindsFlushed start (step ∷ past) = EveryPlugFindsFlushed start past × ReplugFindsFlushedOrLater start past step
+abbrev pub EveryReplugFindsFlushedOrLater : Machine → List Step → Type 0
+EveryReplugFindsFlushedOrLater start [] = Unit {0}
+EveryReplugFindsFlushedOrLater start (step ∷ past) = EveryReplugFindsFlushedOrLater start past
+    × ReplugFindsFlushedOrLater start past step

@@ -3,7 +3,7 @@
 
 ghost use Rattle.std.specs.Prelude.{List};
 ghost use Rattle.block_machine.specs.{Expected.{AllStepsFaithful}, Events.{AbstractState, CallRecord, IsRun, steps_of}};
-ghost use Rattle.durability.specs.Durable.{EveryPlugFindsFlushed};
+ghost use Rattle.durability.specs.Durable.{EveryReplugFindsFlushedOrLater};
 
 /// Over every run of calls on disks that tell what they hold: where a write or trim was answered Ok before a flush of
 /// its port was accepted, the flush was answered Ok, and no disk was taken out between, the same disk has what that put
@@ -11,5 +11,5 @@ ghost use Rattle.durability.specs.Durable.{EveryPlugFindsFlushed};
 pub fn law_flushed_writes_survive_replug<D>()
     ensures { (first : AbstractState) (run : List (CallRecord D)) → IsRun first run
         → AllStepsFaithful first.machine (steps_of run)
-        → EveryPlugFindsFlushed first.machine (steps_of run) }
+        → EveryReplugFindsFlushedOrLater first.machine (steps_of run) }
 {}

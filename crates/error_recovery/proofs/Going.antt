@@ -15,8 +15,8 @@ use Rattle.refinement.specs.Fragments.{TapeGrows, SparesOtherPorts}
 use Rattle.refinement.specs.Errors.{LinkErrorsRiseByDisks, NoFaults, NoFatalErrors}
 use Rattle.refinement.specs.PreservedParts.{NoPlugEvents, DoesNotWrite}
 use Rattle.refinement.specs.HaltRecovery.{IsLinked, RunsLinked}
-use Rattle.refinement.specs.StartedPort.{ClearsNoStart}
-use Rattle.disk_page.specs.PageRequests.{IsPageAccess}
+use Rattle.refinement.specs.StartedPort.{WritesCmdOnlyWithStSet}
+use Rattle.disk_page.specs.PageRequests.{IsSlot0CiOrPageMemoryAccess}
 use Rattle.error_recovery.specs.Laws.{Laws}
 use Rattle.error_recovery.specs.Laws.RegisterSet.{RecoveryRegisters}
 use Rattle.error_recovery.specs.Recovery.{IsCmdSerrOrIs, IsRecoveryAccess}
@@ -24,7 +24,7 @@ use Rattle.error_recovery.specs.Recovery.{IsCmdSerrOrIs, IsRecoveryAccess}
 -- ---- which registers are spared
 
 -- of the registers that are asked by, PxCI alone is written
-asking_spares : (port : Port) (r : PortReg) → r ≢ Ci → (access : Access) → IsPageAccess port access → DoesNotWrite (Px port r) access
+asking_spares : (port : Port) (r : PortReg) → r ≢ Ci → (access : Access) → IsSlot0CiOrPageMemoryAccess port access → DoesNotWrite (Px port r) access
 asking_spares port r other (Reading q v) is = tt
 asking_spares port r other (Writing q v) is = λ (e : q ≡ Px port r). let both : Px port r ≡ Px port Ci = sym e ∙ is.0 in let same : r ≡ Ci = cc in other same
 asking_spares port r other (Loading at bytes) is = tt
@@ -185,13 +185,13 @@ module _ (laws : Laws) where
         y.runs n.1 m.1 (x.runs n.0 m.0 h);
   }
 
-  access_asks : (port : Port) (access : Access) (old new : Device) → IsOn old → IsPageAccess port access → Does access old new → Asks port old new
+  access_asks : (port : Port) (access : Access) (old new : Device) → IsOn old → IsSlot0CiOrPageMemoryAccess port access → Does access old new → Asks port old new
   access_asks port access old new on is does =
       let link = asking_spares port Sctl (λ e. absurd (let k : Sctl ≡ Ci = e in cc)) access is in
       let causes = asking_spares port Is (λ e. absurd (let k : Is ≡ Ci = e in cc)) access is in
       let errors = asking_spares port Serr (λ e. absurd (let k : Serr ≡ Ci = e in cc)) access is in
       let command = asking_spares port Cmd (λ e. absurd (let k : Cmd ≡ Ci = e in cc)) access is in
-      let starts : ClearsNoStart port access = λ v e. absurd (subst (DoesNotWrite (Px port Cmd)) e command refl) in
+      let starts : WritesCmdOnlyWithStSet port access = λ v e. absurd (subst (DoesNotWrite (Px port Cmd)) e command refl) in
       record {
         grows = laws.tape.access_grows access old new does;
         raises = λ none h place from to. (laws.access_changes_by_errors port access old new does).fatal none place from to (h place from to);
@@ -201,9 +201,9 @@ module _ (laws : Laws) where
         runs = λ none calm h. laws.access_runs_linked port access old new on.no_reset starts link none calm does h;
       }
 
-  pub asks_over : (port : Port) (accesses : List Access) (old new : Device) → IsOn old → All (IsPageAccess port) accesses → DoesAll accesses old new → Asks port old new
+  pub asks_over : (port : Port) (accesses : List Access) (old new : Device) → IsOn old → All (IsSlot0CiOrPageMemoryAccess port) accesses → DoesAll accesses old new → Asks port old new
   asks_over port [] old new on all is = subst (Asks port old) (sym is) (asks_none port old)
   asks_over port (access ∷ accesses) old new on all (mid, does, rest) =
-      let kind = All-head (IsPageAccess port) access accesses all in
+      let kind = All-head (IsSlot0CiOrPageMemoryAccess port) access accesses all in
       let later = on_after port access old mid on (laws.asking_spares_other_ports port access kind) does in
-      asks_more port old mid new (access_asks port access old mid on kind does) (asks_over port accesses mid new later (All-tail (IsPageAccess port) access accesses all) rest)
+      asks_more port old mid new (access_asks port access old mid on kind does) (asks_over port accesses mid new later (All-tail (IsSlot0CiOrPageMemoryAccess port) access accesses all) rest)

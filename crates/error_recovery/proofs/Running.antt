@@ -9,9 +9,9 @@ use Rattle.adapter.specs.Device.{Device, Notes, DevicePort}
 use Rattle.adapter.specs.Device.Halt.{LogOnly, NotHalted}
 use Rattle.adapter.specs.Steps.{halt_after_start}
 use Rattle.adapter.specs.declared.tape.Entry.{Entry}
-use Rattle.refinement.specs.Fragments.{TapeGrows, HasNoCommand}
+use Rattle.refinement.specs.Fragments.{TapeGrows, NoCommandIsIssuedOrTaken}
 use Rattle.refinement.specs.Errors.{IsFatalErrorOf, NoFatalErrors}
-use Rattle.refinement.specs.PortFacts.{RecordsFaults, IsFaultOf, IsFaulted}
+use Rattle.refinement.specs.PortFacts.{RecordsFaults, IsFaultOf, IsHaltedPlainOrQueued}
 use Rattle.refinement.specs.PreservedParts.{IsPlugEvent}
 use Rattle.refinement.specs.Slots.{IsOver}
 use Rattle.disk_page.specs.PageRequests.{LeavesPortWhileAsking}
@@ -82,7 +82,7 @@ shows_trouble port old start new set a = record {
   plug_is_shown = λ g. set_unless_clear (new.port port.0).serr_n (λ clear. let n = (a.disk clear).1 in gained_since (IsPlugEvent port.0) port.0 old start new set n.new_entries n.tape_is n.no_such_entry g);
 }
 
-pub no_command : (port : ℕ) (p : DevicePort) → RunsInPlaceWithoutCommands port p → HasNoCommand p
+pub no_command : (port : ℕ) (p : DevicePort) → RunsInPlaceWithoutCommands port p → NoCommandIsIssuedOrTaken p
 no_command port p runs slot = record { is_not_issued = runs.ci_is_clear slot; is_not_taken = runs.none_is_taken slot }
 
 -- ST was set at such a moment
@@ -157,10 +157,10 @@ module _ (laws : Laws) (port : Port) (outstanding : ℕ) (queued : Bool) (before
     unflagged : (new.port port.0).is 30 ≡ false
     unflagged = by ((new.port port.0).is 30) refl
       where
-        unhalted : IsFaulted (new.port port.0).halt → ⊥
-        unhalted f = not_faulted (subst IsFaulted running f)
+        unhalted : IsHaltedPlainOrQueued (new.port port.0).halt → ⊥
+        unhalted f = not_faulted (subst IsHaltedPlainOrQueued running f)
           where
-            not_faulted : IsFaulted NotHalted → ⊥
+            not_faulted : IsHaltedPlainOrQueued NotHalted → ⊥
             not_faulted (inl e) = absurd cc
             not_faulted (inr e) = absurd cc
 

@@ -11,9 +11,9 @@ use Rattle.adapter.specs.FirstRead.{first_read_device}
 use Rattle.adapter.specs.Memory.{changed}
 use Rattle.refinement.specs.Relation.{port_at}
 use Rattle.refinement.specs.Fragments.{SomeMachineAgrees}
-use Rattle.refinement.specs.PortFacts.{RecordsFaults, IsFaulted}
+use Rattle.refinement.specs.PortFacts.{RecordsFaults, IsHaltedPlainOrQueued}
 use Rattle.refinement.specs.RecoveryWitness.{CommandMayHaveFailedBySstsRead}
-use Rattle.refinement.specs.TwoReadsWitness.{TwoReadsWitness, armed_uses, second_id, two_issued, two_reads_driver_state}
+use Rattle.refinement.specs.TwoReadsWitness.{TwoReadsWitness, armed_slot_states, second_id, two_issued, two_reads_driver_state}
 use Rattle.refinement.specs.Slots.{Free, Serves, SlotState, SlotStates, set_slot_state}
 use Rattle.refinement.specs.ReadWitness.{FirstReadWitness, first_id, first_slot_states}
 use Rattle.port_control.specs.Ports.{programmed_bases}
@@ -49,7 +49,7 @@ module _ (laws : Laws) (old : Device) (slot : ℕ) (halt : Halt) (runs : RunsPla
       laws.fragments.some_machine_agrees (Recovering AnyUses (port_at 0)) (λ uses. uses) uses old f.seen tt
       (laws.fragments.reads (Recovering AnyUses (port_at 0)) (Px (port_at 0) Ssts) 3 old f.seen (inl refl) f.sees).is_simulated agreed
 
-  seen_may : IsFaulted halt → PortMayRecover 0 f.seen
+  seen_may : IsHaltedPlainOrQueued halt → PortMayRecover 0 f.seen
   seen_may faulted =
       let s = laws.read_changes_port_register (port_at 0) Ssts 3 old f.seen f.sees runs.room.adapter_is_on.no_reset in
       let c = s.keeps.keeps_outside_reset.controls_are_kept 0 in
@@ -61,7 +61,7 @@ module _ (laws : Laws) (old : Device) (slot : ℕ) (halt : Halt) (runs : RunsPla
         no_comreset = c.sctl_det_is_kept ∙ runs.det;
         link_was_seen = ap (λ (n : Notes). n.last_ssts % 16) s.notes;
         faults_are_on_record = laws.read_keeps_fault_record 0 (Px (port_at 0) Ssts) 3 old f.seen f.sees (λ _. runs.recorded) (c.st_is_kept ∙ runs.st);
-        halted = subst IsFaulted (sym f.halted) faulted;
+        halted = subst IsHaltedPlainOrQueued (sym f.halted) faulted;
       }
 
 -- ---- the two ports
@@ -140,7 +140,7 @@ module _ (laws : Laws)
     fault_is_on_tape = f.fault_is_on_tape;
     fault_is_of_slot = f.fault_is_of_slot;
     halt_is = f.halted;
-    serves = (second_id, ap (λ (slot : ℕ). uses 0 slot) f.fault_is_of_slot.1 ∙ here (set_slot_state armed_uses 0 0 (Serves first_id)) 0 1 (Serves second_id));
+    serves = (second_id, ap (λ (slot : ℕ). uses 0 slot) f.fault_is_of_slot.1 ∙ here (set_slot_state armed_slot_states 0 0 (Serves first_id)) 0 1 (Serves second_id));
     is_outstanding = ap (λ (slot : ℕ). bit 3 slot) f.fault_is_of_slot.1;
   }
     where

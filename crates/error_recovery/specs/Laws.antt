@@ -17,18 +17,18 @@ use Rattle.adapter.specs.declared.tape.Entry.{Entry}
 use Rattle.block_machine.specs.State.{Machine}
 use Rattle.refinement.specs.Laws.{FragmentLaws, TapeLaws}
 use Rattle.refinement.specs.Relation.{StateRelation}
-use Rattle.refinement.specs.Fragments.{AnyAccess, AnySlotStates, HasNoCommand, ReadsPortOrWrites, IsDrivenBy, SparesOtherPorts, GainsNoMove}
+use Rattle.refinement.specs.Fragments.{AnyAccess, AnySlotStates, NoCommandIsIssuedOrTaken, ReadsPortOrWrites, IsDrivenBy, SparesOtherPorts, GainsNoMove}
 use Rattle.refinement.specs.Driver.{AllFree, DriverState, DriverRelation}
 use Rattle.refinement.specs.Errors.{ErrorBitsRiseByErrors, NoFaults, NoFatalErrors}
-use Rattle.refinement.specs.PortFacts.{IsFaulted, IsEngineStopped, RecordsFaultsIfSt, RunsWell, ShowsFault, ShowsNoTrouble}
+use Rattle.refinement.specs.PortFacts.{IsHaltedPlainOrQueued, IsEngineStopped, RecordsFaultsIfSt, RunsWell, ShowsFault, ShowsNoTrouble}
 use Rattle.refinement.specs.GivingUp.{with_all_parked}
 use Rattle.refinement.specs.PreservedParts.{ControlsChangeOnlyByTheirWrites, NoPlugEvents, SameAdapter, DoesNotWrite}
 use Rattle.refinement.specs.PortNotes.{ReadingNotesChangeByReadOrSctlWriteOnly}
 use Rattle.refinement.specs.HaltRecovery.{IsLinked, RunsLinked, WorksOnUnqueuedCommandsOnly}
 use Rattle.refinement.specs.Slots.{Free, IsOver, Own, SlotStates, set_slot_state}
-use Rattle.refinement.specs.StartedPort.{ClearsNoStart, IsStarted, IsUpForStart}
-use Rattle.command_table.specs.TableStores.{IsUnused}
-use Rattle.disk_page.specs.PageRequests.{IsPageAccess, LeavesPortWhileAsking, WaitsForSlot0InVain}
+use Rattle.refinement.specs.StartedPort.{WritesCmdOnlyWithStSet, IsStarted, IsUpForStart}
+use Rattle.command_table.specs.TableStores.{IsSlotStateFree}
+use Rattle.disk_page.specs.PageRequests.{IsSlot0CiOrPageMemoryAccess, LeavesPortWhileAsking, WaitsForSlot0InVain}
 use Rattle.port_control.specs.Engines.{FailsToStop, EngineFalls, EngineSticks}
 use Rattle.port_control.specs.Ports.{IsSerrOrIs, IsCommandRegister}
 use Rattle.error_recovery.specs.Recovery.{IsCmdSerrOrIs, IsRecoveryAccess}
@@ -65,12 +65,12 @@ pub data AccessPurpose : Type 0 where
 
 abbrev pub accesses_for : AccessPurpose → Access → Type 0
 accesses_for (Controlling set fitting port) = ReadsPortOrWrites (registers_of set) port
-accesses_for (Asking port) = IsPageAccess port
+accesses_for (Asking port) = IsSlot0CiOrPageMemoryAccess port
 accesses_for (Recovering fitting port) = IsRecoveryAccess port
 
 abbrev pub slot_uses_for : AccessPurpose → SlotStates → Type 0
 slot_uses_for (Controlling set fitting port) = slot_uses_meeting fitting port
-slot_uses_for (Asking port) = IsUnused port.0 0
+slot_uses_for (Asking port) = IsSlotStateFree port.0 0
 slot_uses_for (Recovering fitting port) = slot_uses_meeting fitting port
 
 -- ---- laws
@@ -107,7 +107,7 @@ pub record Laws : Type 0 where
       → DoesNotWrite (Px port Sctl) access → NoPlugEvents port.0 old new → Does access old new
       → IsLinked (old.port port.0) → IsLinked (new.port port.0)
   pub access_runs_linked : (port : Port) (access : Access) (old new : Device) → old.hr ≡ false
-      → ClearsNoStart port access → DoesNotWrite (Px port Sctl) access → NoPlugEvents port.0 old new
+      → WritesCmdOnlyWithStSet port access → DoesNotWrite (Px port Sctl) access → NoPlugEvents port.0 old new
       → NoFatalErrors port.0 old new → Does access old new → RunsLinked (old.port port.0) → RunsLinked (new.port port.0)
   pub linked_plain_port_is_up : (p : DevicePort) → IsLinked p → WorksOnUnqueuedCommandsOnly p → IsUpForStart p
   pub started_quiet_port_runs_well : (p : DevicePort) → IsStarted p → ShowsNoTrouble p → RunsWell p
@@ -115,7 +115,7 @@ pub record Laws : Type 0 where
       → p.serr_x ≡ false → ((place : ℕ) → 27 ≤ place → place ≤ 29 → p.is place ≡ false) → RunsWell p
   -- the fault
   pub fault_shown : (port : Port) (v : ℕ) (old new : Device) → old.hr ≡ false → (old.port port.0).st ≡ true
-      → RecordsFaultsIfSt old.tape (old.port port.0) port.0 → IsFaulted (old.port port.0).halt
+      → RecordsFaultsIfSt old.tape (old.port port.0) port.0 → IsHaltedPlainOrQueued (old.port port.0).halt
       → Reads (Px port Tfd) v old new
       → (s : ShowsFault (drop (new.port port.0).notes.st_set_at new.tape) (new.port port.0) port.0)
       × (v % 256 ≡ s.fault.status) × (v / 256 % 256 ≡ s.fault.error)
@@ -127,9 +127,9 @@ pub record Laws : Type 0 where
   pub no_moves_compose : (port : ℕ) (o : Operation) (old mid new : Device) → GainsNoMove port o old mid
       → GainsNoMove port o mid new → GainsNoMove port o old new
   pub accesses_gain_no_move : (port : Port) (o : Operation) (old new : Device)
-      → IsDrivenBy (ReadsPortOrWrites (λ r. r ≢ Ci) port) old new → HasNoCommand (old.port port.0)
+      → IsDrivenBy (ReadsPortOrWrites (λ r. r ≢ Ci) port) old new → NoCommandIsIssuedOrTaken (old.port port.0)
       → GainsNoMove port.0 o old new
-      × HasNoCommand (new.port port.0)
+      × NoCommandIsIssuedOrTaken (new.port port.0)
   pub giving_up_keeps_relation : (k : DriverState) (m : Machine) (port : ℕ) → DriverRelation m k
       → IsEngineStopped (k.device.port port)
       → DriverRelation m (with_all_parked k port)
@@ -147,11 +147,11 @@ pub record Laws : Type 0 where
   pub accesses_of_port_spare_others : (port q : Port) (r : PortReg) → q.0 ≢ port.0 → (access : Access)
       → SparesOtherPorts port access
       → DoesNotWrite (Px q r) access
-  pub asking_spares_other_ports : (port : Port) (access : Access) → IsPageAccess port access
+  pub asking_spares_other_ports : (port : Port) (access : Access) → IsSlot0CiOrPageMemoryAccess port access
       → SparesOtherPorts port access
   pub asking_leaves_no_command : (port : ℕ) (old new : Device) → LeavesPortWhileAsking port old new
-      → HasNoCommand (old.port port)
-      → IsOver (new.port port) 0 → HasNoCommand (new.port port)
+      → NoCommandIsIssuedOrTaken (old.port port)
+      → IsOver (new.port port) 0 → NoCommandIsIssuedOrTaken (new.port port)
   -- what is told of engines, and of waits
   pub failing_sticks : (port : Port) (accesses : List Access) → FailsToStop port accesses → EngineSticks port accesses
   pub falls_with_later_accesses : (early late : List Access) (start running : ℕ) (port : Port)

@@ -53,7 +53,7 @@ pub fn law_what_stands_behind_a_fault_stays()
 }
 
 /// A port shows a fatal error, unless the bits of all three are clear.
-pub fn law_fatal_errors_show_unless_clear()
+pub fn law_fatal_bits_are_all_clear_or_shown()
     ensures { (p : DevicePort) → (((place : ℕ) → 27 ≤ place → place ≤ 29 → p.is place ≡ false) → ⊥) → ShowsFatal p }
 {}
 

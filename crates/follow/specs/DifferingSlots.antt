@@ -24,16 +24,16 @@ slots_behind_difference r d = 0
 
 -- Of the slots that are noted by port, this one of this port is among the new ones if it was, or if it is added, and
 -- each other one if it was.
-abbrev pub NotesSlot : (is_added : Bool) (port slot : ℕ) (old new : List ℕ) → Type 0
-NotesSlot is_added port slot old new =
+abbrev pub AddsSlotIf : (is_added : Bool) (port slot : ℕ) (old new : List ℕ) → Type 0
+AddsSlotIf is_added port slot old new =
     (q k : ℕ) → q < 4 → k < 32
     → bit (slice_index new q) k ≡ (bit (slice_index old q) k || (is_added && (nat_eq q port && nat_eq k slot)))
 
 -- It is noted that a slot's command has failed, a queued one or a plain one, and nothing else.
 pub record NotesFailed (port slot : ℕ) (is_queued : Bool) (old new : DifferingSlotMasks) : Type 0 where
-  pub failed_slots_are : NotesSlot true port slot old.failed new.failed
-  pub plain_slots_are : NotesSlot (not is_queued) port slot old.plain new.plain
-  pub untaken_slots_are : new.untaken ≡ old.untaken
+  pub failed_slots_gain_it : AddsSlotIf true port slot old.failed new.failed
+  pub plain_slots_are : AddsSlotIf (not is_queued) port slot old.plain new.plain
+  pub untaken_slots_stay : new.untaken ≡ old.untaken
 
 -- what was met before, and this difference, if there is one
 abbrev pub with_difference_met : Option KnownDifference → List Bool → List Bool

@@ -1,7 +1,7 @@
 // The model, followed beside its peer.
 ghost use Rattle.std.specs.Prelude.{◌≡◌, ◌+◌, ◌<◌, ◌||◌, IfSome, None, is_some, slice_index, true};
 ghost use Rattle.adapter.specs.{Access.{Reads}, Rules.{MayRead}};
-ghost use Rattle.follow.specs.{ComparedBits.{MatchesUpToKnownDifferences, shown_difference}, DifferingSlots.{NotesSlot, GoesOnBySteps, NotesFailed, with_difference_met, slots_behind_difference}};
+ghost use Rattle.follow.specs.{ComparedBits.{MatchesUpToKnownDifferences, shown_difference}, DifferingSlots.{AddsSlotIf, GoesOnBySteps, NotesFailed, with_difference_met, slots_behind_difference}};
 
 use crate::differences::{MetDifferences, matches_up_to_known_differences, shown_difference_of};
 use crate::divergence::Divergence;
@@ -80,7 +80,7 @@ fn slots_at(slots: &[u32; PORTS], port: Port) -> u32
 fn add_slot(slots: &mut [u32; PORTS], port: Port, slot: u32)
     requires port { port.0 < 4 }
     requires slot { slot < 32 }
-    ensures { NotesSlot true port.0 slot slots.old slots.new }
+    ensures { AddsSlotIf true port.0 slot slots.old slots.new }
 {
     let place = usize::from(port.0);
     slots[place] = with_bit(slots[place], slot);

@@ -14,7 +14,7 @@ use Rattle.ata_types.specs.declared.refusal.FrameFault.TheVariants.{FrameForeign
 use Rattle.ata_types.specs.declared.refusal.Rule.{Rule}
 use Rattle.ata_types.specs.declared.refusal.Rule.TheVariants.{NoGrant, NoRight, BadCount, OutsideGrant, FrameCount, Frames}
 use Rattle.ata_types.specs.declared.refusal.Refusal.TheVariants as refused
-use Rattle.block_machine.specs.Rules.{IsNamed, IsAllowedCount, frame_count_for, Breaks, RanksBefore, refusal_rank, HasNoFault, IsFirstFault, BreaksNone, IsFirstBroken}
+use Rattle.block_machine.specs.Rules.{IsNamed, IsAllowedCount, frame_count_for, Breaks, RanksBefore, refusal_rank, HasNoFault, IsFirstFaultByKindThenPlace, BreaksNone, IsFirstBroken}
 use Rattle.block_machine.proofs.RuleLemmas.{same_rule, number, place, fault_number}
 
 -- the faults of frames come after the other rules
@@ -58,7 +58,7 @@ module _ (rows : List GrantRow) (owner : Frame → Option ClientId) (lent : Fram
         | inr same ↦ absurd (omega (arith, same.1, early_place rule early))
       ]
 
-  first_fault : (fault : FrameFault) → KeptBelow 6 → IsFirstFault owner lent r.client r.frames.items fault → IsFirstBroken rows owner lent r (Frames fault)
+  first_fault : (fault : FrameFault) → KeptBelow 6 → IsFirstFaultByKindThenPlace owner lent r.client r.frames.items fault → IsFirstBroken rows owner lent r (Frames fault)
   first_fault fault kept first = (first.0, none_before)
     where
       none_before : (other : Rule) → RanksBefore (refusal_rank (refused.Rule other)) (refusal_rank (refused.Rule (Frames fault))) → Breaks rows owner lent r other → ⊥
@@ -127,7 +127,7 @@ module _ (rows : List GrantRow) (owner : Frame → Option ClientId) (lent : Fram
             kept_frames : KeptBelow 6
             kept_frames = kept_more FrameCount (omega arith) kept_sectors (λ not. not fits)
 
-            pub fault : (fault : FrameFault) → IsFirstFault owner lent r.client r.frames.items fault → IsFirstBroken rows owner lent r (Frames fault)
+            pub fault : (fault : FrameFault) → IsFirstFaultByKindThenPlace owner lent r.client r.frames.items fault → IsFirstBroken rows owner lent r (Frames fault)
             fault one first = first_fault one kept_frames first
 
             pub nothing : HasNoFault owner lent r.client r.frames.items → BreaksNone rows owner lent r

@@ -47,7 +47,7 @@ impl Flags for Capabilities {
 
 impl Capabilities {
     /// The number of ports less one: NP, bits 4:0 (AHCI 1.3.1, 3.1.1).
-    pub fn last_port(self) -> u32
+    pub fn port_count_less_one(self) -> u32
         ensures { result ≡ field self.0 0 5 }
     {
         self.0 & 0x1f

@@ -417,7 +417,7 @@ impl SataError {
     }
 
     /// Whether a device came or went: X (AHCI 1.3.1, 3.3.12).
-    pub fn has_exchanged(self) -> bool
+    pub fn has_device_presence_change(self) -> bool
         ensures { result ≡ bit self.0 26 }
     {
         has(self.0, Self::X.0)

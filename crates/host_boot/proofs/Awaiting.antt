@@ -11,7 +11,7 @@ use Rattle.adapter.specs.Access.Access.{Reading, Writing}
 use Rattle.adapter.specs.Device.{Device}
 use Rattle.refinement.specs.Fragments.{AnySlotStates, IsSimulatedAlong}
 use Rattle.refinement.specs.PreservedParts.{SameAdapter}
-use Rattle.host_boot.specs.Resets.{ReadsGlobalControl, AwaitsHr, AwaitsResetInVain, IsResetAccess, Resets, ResetStaysPending}
+use Rattle.host_boot.specs.Resets.{ReadsGlobalControl, SetsHrAndLastReads, IsResetAccess, Resets, ResetStaysPending}
 use Rattle.host_boot.specs.Laws.{Laws}
 use Rattle.host_boot.specs.Laws.AccessPurpose.{Resetting}
 use Rattle.host_boot.proofs.Stretching.{told_both, told_more}
@@ -22,7 +22,7 @@ pub record AsksAgain (n : ℕ) (accesses : List Access) : Type 0 where
   pub here : accesses ≡ Writing Ghc 0x80000001 ∷ asked
   pub only : All ReadsGlobalControl asked
   pub long : length asked ≡ n
-  pub last : 0 < n → AwaitsResetInVain accesses
+  pub last : 0 < n → SetsHrAndLastReads true accesses
 
 -- the reset is pending after so many readings
 pub record IsResetting (start : Device) (n : ℕ) (d : Device) : Type 0 where
@@ -38,7 +38,7 @@ module _ (n v : ℕ) (early late : List Access) (a : AsksAgain n early) (is : la
   joined : early ++ late ≡ Writing Ghc 0x80000001 ∷ (a.asked ++ Reading Ghc v ∷ [])
   joined = ap (λ (l : List Access). l ++ late) a.here ∙ ap (λ (l : List Access). Writing Ghc 0x80000001 ∷ (a.asked ++ l)) is
 
-  asks_shown : (hr : Bool) → bit v 0 ≡ hr → AwaitsHr hr (early ++ late)
+  asks_shown : (hr : Bool) → bit v 0 ≡ hr → SetsHrAndLastReads hr (early ++ late)
   asks_shown hr shows = record { polls = a.asked; last_ghc = v; accesses_are = joined; only_reads_ghc = a.only; hr_is = shows }
 
   asked_few : n < MOST_READINGS → length (early ++ late) ≤ MOST_READINGS + 1
@@ -84,7 +84,7 @@ module _ (laws : Laws) (start : Device) where
 
     pub resetting_ends : n < MOST_READINGS → bit v 0 ≡ false → Resets start e
     resetting_ends few clear =
-        let told = with_reading (λ accesses. AwaitsHr false accesses × (length accesses ≤ 65))
+        let told = with_reading (λ accesses. SetsHrAndLastReads false accesses × (length accesses ≤ 65))
         (λ early late a is. (asks_shown n v early late a is false clear, asked_few n v early late a is few)) in
         record { followed = told.is_simulated; awaited = told.accesses_are_such.0; count_is_allowed = told.accesses_are_such.1; idle = laws.ended_reset_is_idle v d e w.pending call clear; adapter_is_kept = same }
 

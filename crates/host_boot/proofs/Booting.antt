@@ -13,14 +13,14 @@ use Rattle.refinement.specs.Fragments.{AnySlotStates, ReadsPortOrWrites, IsDrive
 use Rattle.refinement.specs.Driver.{AllFree}
 use Rattle.identify.specs.declared.wanted.Wanted.{Wanted}
 use Rattle.identify.specs.declared.wanted.Wanted.TheVariants.{Nothing}
-use Rattle.port_control.specs.Engines.{Stops, StopsBothEngines}
+use Rattle.port_control.specs.Engines.{Stops, StopsEachEngine}
 use Rattle.port_control.specs.Ports.{IsSerrOrIs, IsStopped, BacksFault, IsCommandRegister}
 use Rattle.port_control.specs.declared.PortFault.TheVariants.{NoDevice}
-use Rattle.port_boot.specs.States.{IsBootTo, IsOnWithPortMemoryAndFreeSlots, IsBootAccess}
-use Rattle.host_boot.specs.Reboots.{RebootsPort, RebootsIfPresent, BootsStopped, IsCapPiOrBootAccess}
+use Rattle.port_boot.specs.States.{IsSimulatedBootTo, IsOnWithPortMemoryAndFreeSlots, IsBootAccess}
+use Rattle.host_boot.specs.Reboots.{RebootsPort, RebootsWithDet3OrFindsAbsent, EndsReadyOrUnready, IsCapPiOrBootAccess}
 use Rattle.host_boot.specs.Laws.{Laws}
 use Rattle.host_boot.specs.Laws.AccessPurpose.{Clearing, Rebooting, ReadingCapAndPi}
-use Rattle.host_boot.specs.TakeOver.{BootsPortOrSticksShowingEnginesIfServed, BootsPortOrSticksIfServed, ReadyQueuedHaltIsOfTaken, ReadsCapOrPi, BacksProbeResult, WroteSctlUnlessUnservedOrDead}
+use Rattle.host_boot.specs.TakeOver.{IsSimulatedBootOrNothing, StopsAndBootsOrDoesNothing, ReadyQueuedHaltIsOfTaken, ReadsCapOrPi, BacksProbeResult, WroteSctlUnlessUnservedOrDead}
 use Rattle.host_boot.specs.declared.Booted.{Booted}
 use Rattle.host_boot.specs.declared.ProbeResult.{ProbeResult}
 use Rattle.host_boot.specs.declared.ProbeResult.TheVariants.{Unserved, Ready, Unready}
@@ -42,8 +42,8 @@ stopped_on old new l is = record {
 }
 
 -- what halts a port that is ready then
-pub found_halts : (wanted : Wanted) (port : Port) (old new : Device) (found : ProbeResult) → BootsStopped wanted port found old new → ReadyQueuedHaltIsOfTaken found port.0 new
-found_halts wanted port old new found b info is = (subst (λ (f : ProbeResult). BootsStopped wanted port f old new) is b).halt_is_of_taken
+pub found_halts : (wanted : Wanted) (port : Port) (old new : Device) (found : ProbeResult) → EndsReadyOrUnready wanted port found old new → ReadyQueuedHaltIsOfTaken found port.0 new
+found_halts wanted port old new found b info is = (subst (λ (f : ProbeResult). EndsReadyOrUnready wanted port f old new) is b).halt_is_of_taken
 
 -- looking at a port is of its boot
 clearing_of_start : (port : Port) (access : Access) → ReadsPortOrWrites IsSerrOrIs port access → IsCapPiOrBootAccess port access
@@ -56,7 +56,7 @@ clearing_of_start port (Storing at bytes) is = absurd is
 
 -- a port was booted, once this was read of CAP, which is as it was
 abbrev boots_again : (port : Port) (v : ℕ) (booted : Booted) (wanted : Wanted) (old asked new : Device) → IsSimulated (IsCapPiOrBootAccess port) (λ uses. AllFree uses port.0) old asked →
-    BootsStopped wanted port booted.found asked new → booted.slot_count ≡ field v 8 5 + 1 → booted.supports_ncq ≡ bit v 30 → v ≡ new.cap → RebootsPort wanted port booted old new
+    EndsReadyOrUnready wanted port booted.found asked new → booted.slot_count ≡ field v 8 5 + 1 → booted.supports_ncq ≡ bit v 30 → v ≡ new.cap → RebootsPort wanted port booted old new
 boots_again port v booted wanted old asked new asks boots slots queued cap = record {
   device_after_survey = asked;
   surveys = asks;
@@ -67,7 +67,7 @@ boots_again port v booted wanted old asked new asks boots slots queued cap = rec
 
 module _ (laws : Laws) where
   -- the accesses of a boot
-  pub booted_driven : (wanted : Wanted) (port : Port) (found : ProbeResult) (old new : Device) → BootsStopped wanted port found old new → IsDrivenBy (IsBootAccess port) old new
+  pub booted_driven : (wanted : Wanted) (port : Port) (found : ProbeResult) (old new : Device) → EndsReadyOrUnready wanted port found old new → IsDrivenBy (IsBootAccess port) old new
   booted_driven wanted port Unserved old new b = absurd b
   booted_driven wanted port (Ready info) old new b = b.boots.is_simulated.is_driven
   booted_driven wanted port (Unready state) old new b = laws.boot_on_way_is_driven port state old new b.boots
@@ -75,22 +75,22 @@ module _ (laws : Laws) where
   -- ---- when the adapter is taken over: the port was stopped before
 
   module _ (port : Port) (old mid : Device) (stops : IsSimulatedAlong (Stops port) (ReadsPortOrWrites IsCommandRegister port) AnySlotStates old mid) (wanted : Wanted) (new : Device) where
-    pub found_boots : (found : ProbeResult) → BootsStopped wanted port found mid new → BootsPortOrSticksShowingEnginesIfServed port found old new
+    pub found_boots : (found : ProbeResult) → EndsReadyOrUnready wanted port found mid new → IsSimulatedBootOrNothing port found old new
     found_boots Unserved b = absurd b
     found_boots (Ready info) b = then_boot laws port old mid stops new b.boots
     found_boots (Unready state) b = then_boot_to laws port old mid stops new state b.boots
 
-    pub found_stands : (found : ProbeResult) → BootsStopped wanted port found mid new → wanted ≢ Nothing → HasPort old port.0 → BacksProbeResult wanted found port.0 new
+    pub found_stands : (found : ProbeResult) → EndsReadyOrUnready wanted port found mid new → wanted ≢ Nothing → HasPort old port.0 → BacksProbeResult wanted found port.0 new
     found_stands Unserved b wants there = absurd b
     found_stands (Ready info) b wants there = ((wants, (still_there port old new (boots_same laws port old new (Ready info) (found_boots (Ready info) b)) there).1), b.ready)
     found_stands (Unready state) b wants there = ((wants, (still_there port old new (boots_same laws port old new (Unready state) (found_boots (Unready state) b)) there).1), b.state_is_backed)
 
-    pub found_reset : (found : ProbeResult) → BootsStopped wanted port found mid new → WroteSctlUnlessUnservedOrDead found port.0 (length old.tape) new
+    pub found_reset : (found : ProbeResult) → EndsReadyOrUnready wanted port found mid new → WroteSctlUnlessUnservedOrDead found port.0 (length old.tape) new
     found_reset Unserved b = absurd b
     found_reset (Ready info) b = since_stop laws port old mid stops _ b.sctl_written_in_boot
     found_reset (Unready state) b = ended_since laws port old mid stops new state b.sctl_written_in_boot
 
-    pub found_way : (found : ProbeResult) → BootsStopped wanted port found mid new → BootsPortOrSticksIfServed port found old new
+    pub found_way : (found : ProbeResult) → EndsReadyOrUnready wanted port found mid new → StopsAndBootsOrDoesNothing port found old new
     found_way Unserved b = absurd b
     found_way (Ready info) b = (mid, stops.is_simulated.is_driven, b.boots.is_simulated.is_driven, b.brings_ready, b.shows_only_new_errors)
     found_way (Unready state) b = (
@@ -99,7 +99,7 @@ module _ (laws : Laws) where
       laws.boot_on_way_is_driven port state mid new b.boots,
       b.unstarted_state_ends_before_start,
       b.stopped_state_ends_after_start,
-      λ dead. boot_sticks (StopsBothEngines port) port old new (subst (λ (s : ShownState). IsBootTo (StopsBothEngines port) port s old new) dead (then_boot_to laws port old mid stops new state b.boots)),
+      λ dead. boot_sticks (StopsEachEngine port) port old new (subst (λ (s : ShownState). IsSimulatedBootTo (StopsEachEngine port) port s old new) dead (then_boot_to laws port old mid stops new state b.boots)),
     )
 
   -- ---- later: CAP is read before
@@ -122,7 +122,7 @@ module _ (laws : Laws) where
       pub asked_stopped : OnlyDeviceChangesPort (old.port port.0) (asked.port port.0) → IsStopped (old.port port.0) → IsStopped (asked.port port.0)
       asked_stopped = stopped_on (old.port port.0) (asked.port port.0)
 
-      pub asked_boots : (booted : Booted) (wanted : Wanted) (new : Device) → BootsStopped wanted port booted.found asked new → booted.slot_count ≡ field v 8 5 + 1 → booted.supports_ncq ≡ bit v 30 →
+      pub asked_boots : (booted : Booted) (wanted : Wanted) (new : Device) → EndsReadyOrUnready wanted port booted.found asked new → booted.slot_count ≡ field v 8 5 + 1 → booted.supports_ncq ≡ bit v 30 →
           RebootsPort wanted port booted old new
       asked_boots booted wanted new boots slots queued =
           boots_again port v booted wanted old asked new asked_starts boots slots queued (asked_cap (IsBootAccess port) new (booted_driven wanted port booted.found asked new boots))
@@ -136,8 +136,8 @@ module _ (laws : Laws) where
         seen_bootable on b = bootable_over laws (Clearing port) port asked seen (λ uses free. tt) looks b.has_port b.driver_memory_fits b.machine_is_related on
 
         -- it shows a device, and is booted
-        pub seen_boots : (booted : Booted) (wanted : Wanted) (new : Device) → (seen.port port.0).ssts_det ≡ 3 → BootsStopped wanted port booted.found seen new →
-            booted.slot_count ≡ field v 8 5 + 1 → booted.supports_ncq ≡ bit v 30 → RebootsIfPresent wanted port booted old new
+        pub seen_boots : (booted : Booted) (wanted : Wanted) (new : Device) → (seen.port port.0).ssts_det ≡ 3 → EndsReadyOrUnready wanted port booted.found seen new →
+            booted.slot_count ≡ field v 8 5 + 1 → booted.supports_ncq ≡ bit v 30 → RebootsWithDet3OrFindsAbsent wanted port booted old new
         seen_boots booted wanted new there boots slots queued =
             let its : IsDrivenBy (IsCapPiOrBootAccess port) seen new = driven_as (IsBootAccess port) (IsCapPiOrBootAccess port) seen new (λ access is. inr is) (booted_driven wanted port booted.found seen new boots) in
             let all : IsDrivenBy (IsCapPiOrBootAccess port) asked new = by_then laws (driven_as (ReadsPortOrWrites IsSerrOrIs port) (IsCapPiOrBootAccess port) asked seen (clearing_of_start port) looks.is_driven) its in
@@ -145,5 +145,5 @@ module _ (laws : Laws) where
 
         -- or it shows none, and is absent
         pub seen_absent : (booted : Booted) (wanted : Wanted) (new : Device) → new ≡ seen → booted.found ≡ Unready Absent → IsStopped (seen.port port.0) →
-            BacksFault NoDevice (seen.port port.0).notes → RebootsIfPresent wanted port booted old new
-        seen_absent booted wanted new same found stopped none = subst (RebootsIfPresent wanted port booted old) (sym same) (inr (found, seen_starts, (stopped, none)))
+            BacksFault NoDevice (seen.port port.0).notes → RebootsWithDet3OrFindsAbsent wanted port booted old new
+        seen_absent booted wanted new same found stopped none = subst (RebootsWithDet3OrFindsAbsent wanted port booted old) (sym same) (inr (found, seen_starts, (stopped, none)))

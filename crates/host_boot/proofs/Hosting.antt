@@ -7,7 +7,7 @@ use Rattle.adapter.specs.Device.{Device}
 use Rattle.adapter.specs.Rules.{IsOn}
 use Rattle.refinement.specs.Fragments.{AnySlotStates, IsSimulated}
 use Rattle.refinement.specs.PreservedParts.{SameAdapter}
-use Rattle.host_boot.specs.TakeOver.{IsHostAccess}
+use Rattle.host_boot.specs.TakeOver.{ReadsCapOrPiOrSetsAe}
 use Rattle.host_boot.specs.Laws.{Laws}
 use Rattle.host_boot.specs.Laws.AccessPurpose.{AccessingHostRegisters}
 
@@ -15,18 +15,18 @@ pub pi_is : (w : ℕ) (old new : Device) → Reads Pi w old new → w ≡ new.pi
 pi_is w old new call = call.shows ∙ sym (ap (λ (d : Device). d.pi) call.effect)
 
 module _ (laws : Laws) where
-  pub ghc_followed : (v : ℕ) (old new : Device) → IsHostAccess (Writing Ghc v) → Writes Ghc v old new → IsSimulated IsHostAccess AnySlotStates old new
+  pub ghc_followed : (v : ℕ) (old new : Device) → ReadsCapOrPiOrSetsAe (Writing Ghc v) → Writes Ghc v old new → IsSimulated ReadsCapOrPiOrSetsAe AnySlotStates old new
   ghc_followed v old new kind call = (laws.fragments.writes AccessingHostRegisters Ghc v old new kind (λ mid steps. tt) (λ uses is. tt) call).is_simulated
 
   -- and another after it
-  pub hosted_then : (old mid new : Device) → IsSimulated IsHostAccess AnySlotStates old mid → IsSimulated IsHostAccess AnySlotStates mid new → IsSimulated IsHostAccess AnySlotStates old new
+  pub hosted_then : (old mid new : Device) → IsSimulated ReadsCapOrPiOrSetsAe AnySlotStates old mid → IsSimulated ReadsCapOrPiOrSetsAe AnySlotStates mid new → IsSimulated ReadsCapOrPiOrSetsAe AnySlotStates old new
   hosted_then old mid new a b = (laws.fragments.fragments_join AccessingHostRegisters AccessingHostRegisters (λ uses. uses) (λ uses. uses) (λ access may. may) (λ uses any. tt) old mid new a b).is_simulated
 
   -- a reading of CAP or PI
-  pub cap_followed : (v : ℕ) (old new : Device) → Reads Cap v old new → IsSimulated IsHostAccess AnySlotStates old new
+  pub cap_followed : (v : ℕ) (old new : Device) → Reads Cap v old new → IsSimulated ReadsCapOrPiOrSetsAe AnySlotStates old new
   cap_followed v old new call = (laws.fragments.reads AccessingHostRegisters Cap v old new tt call).is_simulated
 
-  pub pi_followed : (v : ℕ) (old new : Device) → Reads Pi v old new → IsSimulated IsHostAccess AnySlotStates old new
+  pub pi_followed : (v : ℕ) (old new : Device) → Reads Pi v old new → IsSimulated ReadsCapOrPiOrSetsAe AnySlotStates old new
   pi_followed v old new call = (laws.fragments.reads AccessingHostRegisters Pi v old new tt call).is_simulated
 
   pub cap_on : (v : ℕ) (old new : Device) → IsOn old → Reads Cap v old new → IsOn new

@@ -16,7 +16,7 @@ use Rattle.refinement.specs.PortFacts.{RecordsFaultsIfSt, RunsWell, Undisturbed}
 use Rattle.refinement.specs.Fragments.{TapeGrows}
 use Rattle.identify.specs.declared.DiskInfo.{DiskInfo}
 use Rattle.port_boot.specs.States.{IsBootAccess, StaysRunningIfUndisturbed, ShownDiskIsIn}
-use Rattle.host_boot.specs.TakeOver.{SwitchesOnBootsAndEnablesInterrupts, BootsPortOrSticksIfServed, BootsEachServedPortOrSticks, ReadsCapOrPi, probe_result_of}
+use Rattle.host_boot.specs.TakeOver.{SwitchesOnBootsAndEnablesInterrupts, StopsAndBootsOrDoesNothing, BootsEachServedPortOrSticks, ReadsCapOrPi, probe_result_of}
 use Rattle.host_boot.specs.declared.ProbeResult.{ProbeResult}
 use Rattle.host_boot.specs.declared.ProbeResult.TheVariants.{Unserved, Ready, Unready}
 use Rattle.host_boot.specs.Laws.{Laws}
@@ -56,14 +56,14 @@ module _ (laws : Laws) where
 
   -- ---- the way of a port
 
-  through_driven : (port : Port) (found : ProbeResult) (old new : Device) → BootsPortOrSticksIfServed port found old new → IsDrivenBy (SparesOtherPorts port) old new
+  through_driven : (port : Port) (found : ProbeResult) (old new : Device) → StopsAndBootsOrDoesNothing port found old new → IsDrivenBy (SparesOtherPorts port) old new
   through_driven port Unserved old new same = subst (λ (d : Device). IsDrivenBy (SparesOtherPorts port) old d) (sym same) (by_none (SparesOtherPorts port) old)
   through_driven port (Ready info) old new (stopped, stop, boot, ready, news) =
       by_then laws (stop_driven laws port old stopped stop) (driven_as (IsBootAccess port) (SparesOtherPorts port) stopped new (laws.boot_access_is_of_port port) boot)
   through_driven port (Unready state) old new (stopped, stop, boot, early, late, sticks) =
       by_then laws (stop_driven laws port old stopped stop) (driven_as (IsBootAccess port) (SparesOtherPorts port) stopped new (laws.boot_access_is_of_port port) boot)
 
-  through_well : (port : Port) (info : DiskInfo) (old new : Device) → BootsPortOrSticksIfServed port (Ready info) old new → Undisturbed port.0 old new → RunsWell (new.port port.0)
+  through_well : (port : Port) (info : DiskInfo) (old new : Device) → StopsAndBootsOrDoesNothing port (Ready info) old new → Undisturbed port.0 old new → RunsWell (new.port port.0)
   through_well port info old new (stopped, stop, boot, ready, news) calm =
       news.port_runs_well (calm_in_parts laws port.0 old stopped new (tape_over laws (SparesOtherPorts port) old stopped (stop_driven laws port old stopped stop)) (tape_over laws (IsBootAccess port) stopped new boot) calm).1
 
@@ -83,7 +83,7 @@ module _ (laws : Laws) where
   go_well port info first [] k old new at is on way calm = absurd (let e : Unserved ≡ Ready info = is in cc)
   go_well port info first (found ∷ rest) zero old new at is on (mid, way, more) calm =
       let same : port_at first ≡ port = ap port_at (sym (at ∙ (omega arith))) in
-      let its : BootsPortOrSticksIfServed port (Ready info) old mid = subst (λ (p : Port). BootsPortOrSticksIfServed p (Ready info) old mid) same (subst (λ (f : ProbeResult). BootsPortOrSticksIfServed (port_at first) f old mid) is way) in
+      let its : StopsAndBootsOrDoesNothing port (Ready info) old mid = subst (λ (p : Port). StopsAndBootsOrDoesNothing p (Ready info) old mid) same (subst (λ (f : ProbeResult). StopsAndBootsOrDoesNothing (port_at first) f old mid) is way) in
       let early = through_driven (port_at first) found old mid way in
       let late = go_driven (first + 1) (first + 1) rest mid new (omega arith) more in
       let parts = calm_in_parts laws port.0 old mid new (tape_over laws (SparesOtherPorts (port_at first)) old mid early) (tape_over laws (IsOfFrom (first + 1)) mid new late) calm in
@@ -99,13 +99,13 @@ module _ (laws : Laws) where
   -- ---- what lasts, whatever goes wrong
 
   -- What holds once a port went its way, and lasts over accesses of other ports, holds once they all went theirs.
-  go_last : (P : Device → Type 0) (port : Port) (its : ProbeResult) → its ≢ Unserved → ((old new : Device) → IsOn old → BootsPortOrSticksIfServed port its old new → P new)
+  go_last : (P : Device → Type 0) (port : Port) (its : ProbeResult) → its ≢ Unserved → ((old new : Device) → IsOn old → StopsAndBootsOrDoesNothing port its old new → P new)
       → ((old new : Device) → IsOn old → IsDrivenBy (IsOfOther port.0) old new → P old → P new)
       → (first : ℕ) (ports : List ProbeResult) (k : ℕ) (old new : Device) → port.0 ≡ first + k → slice_index_or ports k Unserved ≡ its → IsOn old → BootsEachServedPortOrSticks first ports old new → P new
   go_last P port its served through lasting first [] k old new at is on way = absurd (served (sym is))
   go_last P port its served through lasting first (found ∷ rest) zero old new at is on (mid, way, more) =
       let same : port_at first ≡ port = ap port_at (sym (at ∙ (omega arith))) in
-      let own : BootsPortOrSticksIfServed port its old mid = subst (λ (p : Port). BootsPortOrSticksIfServed p its old mid) same (subst (λ (f : ProbeResult). BootsPortOrSticksIfServed (port_at first) f old mid) is way) in
+      let own : StopsAndBootsOrDoesNothing port its old mid = subst (λ (p : Port). StopsAndBootsOrDoesNothing p its old mid) same (subst (λ (f : ProbeResult). StopsAndBootsOrDoesNothing (port_at first) f old mid) is way) in
       let early = through_driven (port_at first) found old mid way in
       let late = go_driven (first + 1) (first + 1) rest mid new (omega arith) more in
       lasting mid new (on_over laws (SparesOtherPorts (port_at first)) old mid early (laws.one_port_spares_ghc (port_at first)) on)
@@ -130,7 +130,7 @@ module _ (laws : Laws) where
       laws.stays_well_if_undisturbed port.0 way.device_after_boots new last parts.1 (go_well port info 0 ports port.0 way.device_after_survey way.device_after_boots (omega arith) is surveyed way.boots within.1)
 
   -- and once the adapter was let interrupt, if that leaves it
-  pub taken_last : (P : Device → Type 0) (port : Port) (its : ProbeResult) → its ≢ Unserved → ((old new : Device) → IsOn old → BootsPortOrSticksIfServed port its old new → P new)
+  pub taken_last : (P : Device → Type 0) (port : Port) (its : ProbeResult) → its ≢ Unserved → ((old new : Device) → IsOn old → StopsAndBootsOrDoesNothing port its old new → P new)
       → ((old new : Device) → IsOn old → IsDrivenBy (IsOfOther port.0) old new → P old → P new) → ((old new : Device) → IsOn old → Writes Ghc 0x80000002 old new → P old → P new)
       → (ports : List ProbeResult) (old new : Device) → IsIdle old → probe_result_of ports port.0 ≡ its → SwitchesOnBootsAndEnablesInterrupts ports old new → P new
   taken_last P port its served through lasting enabling ports old new idle is way =

@@ -11,11 +11,11 @@ use Rattle.adapter.specs.Access.Access.{Reading, Writing, Loading, Storing}
 use Rattle.adapter.specs.Device.{Device}
 use Rattle.adapter.specs.Rules.{IsOn}
 use Rattle.refinement.specs.Fragments.{ReadsPortOrWrites, IsDrivenBy, SparesOtherPorts}
-use Rattle.refinement.specs.PreservedParts.{ShowsDiskIfIn}
+use Rattle.refinement.specs.PreservedParts.{HasDet3IfDiskPresent}
 use Rattle.identify.specs.declared.wanted.Wanted.{Wanted}
 use Rattle.port_control.specs.Ports.{IsCommandRegister}
-use Rattle.port_boot.specs.States.{IsBootTo, IsBootAccess, StopsOnWay}
-use Rattle.host_boot.specs.Reboots.{RebootsPort, RebootsIfPresent, BootsStopped, IsCapPiOrBootAccess}
+use Rattle.port_boot.specs.States.{IsSimulatedBootTo, IsBootAccess, StopsReceivingAndStartedEngine}
+use Rattle.host_boot.specs.Reboots.{RebootsPort, RebootsWithDet3OrFindsAbsent, EndsReadyOrUnready, IsCapPiOrBootAccess}
 use Rattle.host_boot.specs.Laws.{Laws}
 use Rattle.host_boot.specs.TakeOver.{FoundUnusableDevice, IsServed, ReadsCapOrPi, BacksProbeResult}
 use Rattle.host_boot.specs.declared.Booted.{Booted}
@@ -63,14 +63,14 @@ module _ (laws : Laws) where
         still : IsServed wanted port.0 new
         still = served_over wanted port old new again_driven served
 
-        by : (found : ProbeResult) → BootsStopped wanted port found b.device_after_survey new → BacksProbeResult wanted found port.0 new
+        by : (found : ProbeResult) → EndsReadyOrUnready wanted port found b.device_after_survey new → BacksProbeResult wanted found port.0 new
         by Unserved none = absurd none
         by (Ready info) is = (still, is.ready)
         by (Unready state) is = (still, is.state_is_backed)
 
-    pub again_shown : (state : PortState) → IsOn old → FoundUnusableDevice state → booted.found ≡ Unready state → ShowsDiskIfIn (new.port port.0)
+    pub again_shown : (state : PortState) → IsOn old → FoundUnusableDevice state → booted.found ≡ Unready state → HasDet3IfDiskPresent (new.port port.0)
     again_shown state on bad is =
-        let boots : BootsStopped wanted port (Unready state) b.device_after_survey new = subst (λ (found : ProbeResult). BootsStopped wanted port found b.device_after_survey new) is b.boots in
+        let boots : EndsReadyOrUnready wanted port (Unready state) b.device_after_survey new = subst (λ (found : ProbeResult). EndsReadyOrUnready wanted port found b.device_after_survey new) is b.boots in
         let asked : IsOn b.device_after_survey = on_over laws (SparesOtherPorts port) old b.device_after_survey surveyed (laws.one_port_spares_ghc port) on in
         way_shown laws port state b.device_after_survey new bad asked (
           b.device_after_survey,
@@ -78,28 +78,28 @@ module _ (laws : Laws) where
           booted_driven laws wanted port (Unready state) b.device_after_survey new boots,
           boots.unstarted_state_ends_before_start,
           boots.stopped_state_ends_after_start,
-          λ dead. boot_sticks (StopsOnWay port Dead) port b.device_after_survey new (subst (λ (s : PortState). IsBootTo (StopsOnWay port s) port s b.device_after_survey new) dead boots.boots),
+          λ dead. boot_sticks (StopsReceivingAndStartedEngine port Dead) port b.device_after_survey new (subst (λ (s : PortState). IsSimulatedBootTo (StopsReceivingAndStartedEngine port s) port s b.device_after_survey new) dead boots.boots),
         )
 
   -- ---- or it is booted only if a device shows
 
   module _ (wanted : Wanted) (port : Port) (booted : Booted) (old new : Device) where
-    pub there_driven : RebootsIfPresent wanted port booted old new → IsDrivenBy (SparesOtherPorts port) old new
+    pub there_driven : RebootsWithDet3OrFindsAbsent wanted port booted old new → IsDrivenBy (SparesOtherPorts port) old new
     there_driven (inl is) = again_driven wanted port booted old new is.0
     there_driven (inr is) = start_driven port old new is.1.is_driven
 
-    pub there_stands : RebootsIfPresent wanted port booted old new → IsServed wanted port.0 old → BacksProbeResult wanted booted.found port.0 new
+    pub there_stands : RebootsWithDet3OrFindsAbsent wanted port booted old new → IsServed wanted port.0 old → BacksProbeResult wanted booted.found port.0 new
     there_stands (inl is) served = again_stands wanted port booted old new is.0 served
     there_stands (inr is) served =
         subst (λ (found : ProbeResult). BacksProbeResult wanted found port.0 new) (sym is.0) (served_over wanted port old new (start_driven port old new is.1.is_driven) served, is.2)
 
-    pub there_shown : (state : PortState) → IsOn old → RebootsIfPresent wanted port booted old new → FoundUnusableDevice state → booted.found ≡ Unready state → ShowsDiskIfIn (new.port port.0)
+    pub there_shown : (state : PortState) → IsOn old → RebootsWithDet3OrFindsAbsent wanted port booted old new → FoundUnusableDevice state → booted.found ≡ Unready state → HasDet3IfDiskPresent (new.port port.0)
     there_shown state on (inl is) bad found = again_shown wanted port booted old new is.0 state on bad found
     there_shown state on (inr is) bad found =
         let absent : Absent ≡ state = let k : Unready Absent ≡ Unready state = sym is.0 ∙ found in cc in
         absurd (subst FoundUnusableDevice (sym absent) bad)
 
-  pub beside_shown : (port other : Port) (old new : Device) → port.0 ≢ other.0 → IsOn old → IsDrivenBy (SparesOtherPorts other) old new → ShowsDiskIfIn (old.port port.0) → ShowsDiskIfIn (new.port port.0)
+  pub beside_shown : (port other : Port) (old new : Device) → port.0 ≢ other.0 → IsOn old → IsDrivenBy (SparesOtherPorts other) old new → HasDet3IfDiskPresent (old.port port.0) → HasDet3IfDiskPresent (new.port port.0)
   beside_shown port other old new apart on driven =
       gently laws port old new on
       (driven_as (SparesOtherPorts other) _ old new (λ access is. (laws.one_port_spares_ghc other access is, laws.one_port_spares_registers other port Sctl apart access is)) driven)

@@ -14,13 +14,13 @@ use Rattle.adapter.specs.Device.{Device}
 use Rattle.adapter.specs.Idle.{IsIdle}
 use Rattle.adapter.specs.Rules.{IsOn}
 use Rattle.refinement.specs.Fragments.{ReadsPortOrWrites, IsDrivenBy, SparesOtherPorts}
-use Rattle.refinement.specs.PreservedParts.{ShowsDiskIfIn, DoesNotWrite}
-use Rattle.disk_page.specs.PageRequests.{IsPageAccess}
+use Rattle.refinement.specs.PreservedParts.{HasDet3IfDiskPresent, DoesNotWrite}
+use Rattle.disk_page.specs.PageRequests.{IsSlot0CiOrPageMemoryAccess}
 use Rattle.port_control.specs.Ports.{FindsLinkAndClearsErrors, FindsSignature, HasLink, IsPlacingRegister, SeesResetFault, IsVainReading, ReadsUntil, ReadsInVain, ShowsIdle, SendsComresetThen, IsCommandRegister}
 use Rattle.port_control.specs.declared.PortFault.{PortFault}
 use Rattle.port_control.specs.declared.PortFault.TheVariants.{NoDevice, Busy, EngineStuck, NotAta}
 use Rattle.port_boot.specs.States.{EndsBeforeStart, EndsAfterStart, IsStateOfFault}
-use Rattle.host_boot.specs.TakeOver.{FoundUnusableDevice, SwitchesOnBootsAndEnablesInterrupts, BootsPortOrSticksIfServed, probe_result_of}
+use Rattle.host_boot.specs.TakeOver.{FoundUnusableDevice, SwitchesOnBootsAndEnablesInterrupts, StopsAndBootsOrDoesNothing, probe_result_of}
 use Rattle.host_boot.specs.declared.ProbeResult.{ProbeResult}
 use Rattle.host_boot.specs.declared.ProbeResult.TheVariants.{Unserved, Unready}
 use Rattle.host_boot.proofs.Running.{IsOfOther, other_spares, taken_last}
@@ -55,7 +55,7 @@ module _ (laws : Laws) where
 
   module _ (port : Port) where
     abbrev Shown : Device → Type 0
-    Shown d = ShowsDiskIfIn (d.port port.0)
+    Shown d = HasDet3IfDiskPresent (d.port port.0)
 
     gently_over : (accesses : List Access) (old new : Device) → IsOn old → All (IsGentle port) accesses → DoesAll accesses old new → Shown old → Shown new
     gently_over [] old new on all is h = subst Shown (sym is) h
@@ -118,7 +118,7 @@ module _ (laws : Laws) where
         driven_as (ReadsPortOrWrites IsCommandRegister port) (IsGentle port) old new
         (λ access is. let c = laws.cmd_access_is_of_port port access is in (laws.one_port_spares_ghc port access c.0, c.1)) driven
 
-    asking_gentle : (access : Access) → IsPageAccess port access → IsGentle port access
+    asking_gentle : (access : Access) → IsSlot0CiOrPageMemoryAccess port access → IsGentle port access
     asking_gentle (Reading r v) is = (tt, tt)
     asking_gentle (Writing r v) is =
         ((λ e. absurd (let z : Px port Ci ≡ Ghc = sym is.0 ∙ e in cc)), (λ e. absurd (let z : Px port Ci ≡ Px port Sctl = sym is.0 ∙ e in cc)))
@@ -132,7 +132,7 @@ module _ (laws : Laws) where
         let found : IsOn up.found = signature_on up.resets.ended up.found ended up.resets.does_rest in
         gently up.found new found
         (by_then laws (stop_gentle up.found e.up up.starts)
-        (by_then laws (driven_as (IsPageAccess port) (IsGentle port) e.up e.asks_then_stops.asked asking_gentle e.asks_then_stops.asks) (stop_gentle e.asks_then_stops.asked new e.asks_then_stops.stops)))
+        (by_then laws (driven_as (IsSlot0CiOrPageMemoryAccess port) (IsGentle port) e.up e.asks_then_stops.asked asking_gentle e.asks_then_stops.asks) (stop_gentle e.asks_then_stops.asked new e.asks_then_stops.stops)))
         (signature_shown 0x101 up.resets.ended up.found ended up.resets.does_rest)
       where
         signature_on : (a b : Device) → IsOn a → FindsSignature port 0x101 a b → IsOn b
@@ -141,7 +141,7 @@ module _ (laws : Laws) where
             (by_then laws (until_gentle port Tfd ShowsIdle f.linked f.idle f.waits) (read_gentle port Sig 0x101 f.idle b f.reads))
 
     -- where a disk was found that isn't served, its way ends so
-    pub way_shown : (state : PortState) (old new : Device) → FoundUnusableDevice state → IsOn old → BootsPortOrSticksIfServed port (Unready state) old new → Shown new
+    pub way_shown : (state : PortState) (old new : Device) → FoundUnusableDevice state → IsOn old → StopsAndBootsOrDoesNothing port (Unready state) old new → Shown new
     way_shown Foreign old new bad on (stopped, stop, boot, early, late, sticks) =
         late_shown stopped new (on_over laws (SparesOtherPorts port) old stopped (stop_driven laws port old stopped stop) (laws.one_port_spares_ghc port) on) (late tt)
     way_shown (Unfit n) old new bad on (stopped, stop, boot, early, late, sticks) = ⊎_elim
@@ -160,9 +160,9 @@ module _ (laws : Laws) where
 
   -- and so it is once all were booted
   pub taken_shown : (port : Port) (state : PortState) (ports : List ProbeResult) (old new : Device) → IsIdle old → FoundUnusableDevice state → probe_result_of ports port.0 ≡ Unready state
-      → SwitchesOnBootsAndEnablesInterrupts ports old new → ShowsDiskIfIn (new.port port.0)
+      → SwitchesOnBootsAndEnablesInterrupts ports old new → HasDet3IfDiskPresent (new.port port.0)
   taken_shown port state ports old new idle bad is way =
-      taken_last laws (λ d. ShowsDiskIfIn (d.port port.0)) port (Unready state) (λ e. absurd (let z : Unready state ≡ Unserved = e in cc))
+      taken_last laws (λ d. HasDet3IfDiskPresent (d.port port.0)) port (Unready state) (λ e. absurd (let z : Unready state ≡ Unserved = e in cc))
       (λ a b on through. way_shown port state a b bad on through)
       (λ a b on driven h. gently port a b on
       (driven_as (IsOfOther port.0) (IsGentle port) a b (λ access is. (laws.one_port_spares_ghc is.0 access is.2, other_spares laws port Sctl access is)) driven) h)

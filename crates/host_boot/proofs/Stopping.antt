@@ -14,9 +14,9 @@ use Rattle.refinement.specs.Fragments.{SomeMachineAgreesWith, AnySlotStates, Rea
 use Rattle.refinement.specs.Driver.{AllFree}
 use Rattle.refinement.specs.Slots.{Own, SlotStates, set_slot_state}
 use Rattle.refinement.specs.PreservedParts.{SameAdapter}
-use Rattle.port_control.specs.Engines.{FailsToStop, Stops, StopsBothEngines, StopsReceiving, EngineSticks}
+use Rattle.port_control.specs.Engines.{FailsToStop, Stops, StopsEachEngine, StopsReceiving, EngineSticks}
 use Rattle.port_control.specs.Ports.{IsCommandRegister}
-use Rattle.port_boot.specs.States.{IsBoot, IsBootTo, IsOnWithPortMemoryAndFreeSlots, IsBootAccess, StopsOnWay}
+use Rattle.port_boot.specs.States.{IsSimulatedBoot, IsSimulatedBootTo, IsOnWithPortMemoryAndFreeSlots, IsBootAccess, StopsReceivingAndStartedEngine}
 use Rattle.host_boot.specs.TakeOver.{EngineSticksDuringBoot, ShowsEnginesStoppedOrStuck, WroteSctlUnlessUnservedOrDead}
 use Rattle.host_boot.specs.declared.ProbeResult.{ProbeResult}
 use Rattle.host_boot.specs.declared.ProbeResult.TheVariants.{Unserved, Ready, Unready}
@@ -29,7 +29,7 @@ pub still_there : (port : Port) (old new : Device) → SameAdapter old new → H
 still_there port old new same there = (there.0, ap (λ (pi : ℕ). bit pi port.0) same.pi ∙ there.1)
 
 -- a boot to a dead port tells of the engine that is stuck
-pub boot_sticks : (TapeTells : List Access → Type 0) (port : Port) (old new : Device) → IsBootTo TapeTells port Dead old new → EngineSticksDuringBoot port old new
+pub boot_sticks : (TapeTells : List Access → Type 0) (port : Port) (old new : Device) → IsSimulatedBootTo TapeTells port Dead old new → EngineSticksDuringBoot port old new
 boot_sticks TapeTells port old new (inl b) = record { driven = b.is_simulated.is_driven; sticks = b.accesses_are_such }
 boot_sticks TapeTells port old new (inr b) = record { driven = b.is_simulated.is_driven; sticks = b.accesses_are_such }
 
@@ -46,11 +46,11 @@ module _ (laws : Laws) where
         machine_is_related = (a.0, a.1, laws.fragments.some_machine_agrees kind (λ uses. uses) a.0 old new (fits a.0 a.1) f a.2);
       }
 
-  stop_boots : (TapeTells : List Access → Type 0) (port : Port) (old mid : Device) → IsSimulatedAlong TapeTells (ReadsPortOrWrites IsCommandRegister port) AnySlotStates old mid → IsBoot TapeTells port old mid
+  stop_boots : (TapeTells : List Access → Type 0) (port : Port) (old mid : Device) → IsSimulatedAlong TapeTells (ReadsPortOrWrites IsCommandRegister port) AnySlotStates old mid → IsSimulatedBoot TapeTells port old mid
   stop_boots TapeTells port old mid stops = told_wider laws TapeTells (Commanding port) (Booting port) (λ uses. uses) old mid (laws.cmd_access_is_boot_access port) (λ uses free. tt) stops
 
   -- where it didn't stop, its engine is stuck
-  pub stuck_boots : (port : Port) (old mid : Device) → IsSimulatedAlong (FailsToStop port) (ReadsPortOrWrites IsCommandRegister port) AnySlotStates old mid → IsBoot (EngineSticks port) port old mid
+  pub stuck_boots : (port : Port) (old mid : Device) → IsSimulatedAlong (FailsToStop port) (ReadsPortOrWrites IsCommandRegister port) AnySlotStates old mid → IsSimulatedBoot (EngineSticks port) port old mid
   stuck_boots port old mid f = told_more (FailsToStop port) (EngineSticks port) (IsBootAccess port) (λ uses. AllFree uses port.0) (λ uses. uses) old mid (laws.failed_stop_sticks port) (stop_boots (FailsToStop port) port old mid f)
 
   module _ (port : Port) (old mid : Device) (stops : IsSimulatedAlong (Stops port) (ReadsPortOrWrites IsCommandRegister port) AnySlotStates old mid) where
@@ -65,8 +65,8 @@ module _ (laws : Laws) where
 
     module _ (new : Device) where
       -- both engines fell: the one before the boot, and the other in it
-      both : (TapeTells : List Access → Type 0) → ((accesses : List Access) → TapeTells accesses → StopsReceiving port accesses) → IsBoot TapeTells port mid new → IsBoot (StopsBothEngines port) port old new
-      both TapeTells tells f = told_both laws (Stops port) TapeTells (StopsBothEngines port) (λ early late first then. (laws.fall_holds_with_later early late 0 15 port first, laws.fall_holds_with_earlier early late 4 14 port (tells late then)))
+      both : (TapeTells : List Access → Type 0) → ((accesses : List Access) → TapeTells accesses → StopsReceiving port accesses) → IsSimulatedBoot TapeTells port mid new → IsSimulatedBoot (StopsEachEngine port) port old new
+      both TapeTells tells f = told_both laws (Stops port) TapeTells (StopsEachEngine port) (λ early late first then. (laws.fall_holds_with_later early late 0 15 port first, laws.fall_holds_with_earlier early late 4 14 port (tells late then)))
           (Booting port) (Booting port) (λ uses. uses) (λ uses. uses) (λ access may. may) (λ uses free. free) old mid new (stop_boots (Stops port) port old mid stops) f
 
       -- or one is stuck
@@ -74,16 +74,16 @@ module _ (laws : Laws) where
       dies next f = told_both laws (Stops port) (EngineSticks port) (EngineSticks port) (λ early late any is. laws.sticking_holds_with_earlier early late port is) (Booting port) (Booting port) (λ uses. uses) next
           (λ access may. may) (λ uses free. free) old mid new (stop_boots (Stops port) port old mid stops) f
 
-      pub then_boot : IsBoot (StopsReceiving port) port mid new → IsBoot (StopsBothEngines port) port old new
+      pub then_boot : IsSimulatedBoot (StopsReceiving port) port mid new → IsSimulatedBoot (StopsEachEngine port) port old new
       then_boot f = both (StopsReceiving port) (λ accesses is. is) f
 
-      pub then_boot_to : (state : PortState) → IsBootTo (StopsOnWay port state) port state mid new → IsBootTo (StopsBothEngines port) port state old new
+      pub then_boot_to : (state : PortState) → IsSimulatedBootTo (StopsReceivingAndStartedEngine port state) port state mid new → IsSimulatedBootTo (StopsEachEngine port) port state old new
       then_boot_to Dead (inl f) = inl (dies (λ uses. uses) f)
       then_boot_to Dead (inr f) = inr (dies (λ uses. set_slot_state uses port.0 0 (Own Identify)) f)
-      then_boot_to Absent f = both (StopsOnWay port Absent) (λ accesses is. is.0) f
-      then_boot_to ReadyState f = both (StopsOnWay port ReadyState) (λ accesses is. is.0) f
-      then_boot_to Foreign f = both (StopsOnWay port Foreign) (λ accesses is. is.0) f
-      then_boot_to (Unfit n) f = both (StopsOnWay port (Unfit n)) (λ accesses is. is.0) f
+      then_boot_to Absent f = both (StopsReceivingAndStartedEngine port Absent) (λ accesses is. is.0) f
+      then_boot_to ReadyState f = both (StopsReceivingAndStartedEngine port ReadyState) (λ accesses is. is.0) f
+      then_boot_to Foreign f = both (StopsReceivingAndStartedEngine port Foreign) (λ accesses is. is.0) f
+      then_boot_to (Unfit n) f = both (StopsReceivingAndStartedEngine port (Unfit n)) (λ accesses is. is.0) f
 
       pub ended_since : (state : PortState) → (state ≢ Dead → length mid.tape ≤ (new.port port.0).notes.sctl_written_at) → WroteSctlUnlessUnservedOrDead (Unready state) port.0 (length old.tape) new
       ended_since Dead is = tt
@@ -94,14 +94,14 @@ module _ (laws : Laws) where
 
   -- ---- what accesses tell of engines
 
-  both_then : (port : Port) (early late : List Access) → StopsBothEngines port early → StopsBothEngines port (early ++ late)
+  both_then : (port : Port) (early late : List Access) → StopsEachEngine port early → StopsEachEngine port (early ++ late)
   both_then port early late is = (laws.fall_holds_with_later early late 0 15 port is.0, laws.fall_holds_with_later early late 4 14 port is.1)
 
-  both_since : (port : Port) (early late : List Access) → StopsBothEngines port late → StopsBothEngines port (early ++ late)
+  both_since : (port : Port) (early late : List Access) → StopsEachEngine port late → StopsEachEngine port (early ++ late)
   both_since port early late is = (laws.fall_holds_with_earlier early late 0 15 port is.0, laws.fall_holds_with_earlier early late 4 14 port is.1)
 
   -- what one property goes on with, and the other, they tell of each port
-  tells_on : (port : Port) (found : ProbeResult) (a b : List Access) → (StopsBothEngines port a → StopsBothEngines port b) → (EngineSticks port a → EngineSticks port b) → ShowsEnginesStoppedOrStuck port found a → ShowsEnginesStoppedOrStuck port found b
+  tells_on : (port : Port) (found : ProbeResult) (a b : List Access) → (StopsEachEngine port a → StopsEachEngine port b) → (EngineSticks port a → EngineSticks port b) → ShowsEnginesStoppedOrStuck port found a → ShowsEnginesStoppedOrStuck port found b
   tells_on port Unserved a b both stick is = tt
   tells_on port (Ready info) a b both stick is = both is
   tells_on port (Unready Dead) a b both stick is = stick is

@@ -20,16 +20,16 @@ use Rattle.adapter.specs.Rules.{IsOn}
 use Rattle.adapter.specs.declared.command.Operation.{Operation}
 use Rattle.adapter.specs.declared.command.Operation.TheVariants.{Identify}
 use Rattle.refinement.specs.Relation.{port_at}
-use Rattle.refinement.specs.Fragments.{AnySlotStates, SomeMachineAgrees, IsDrivenBy, IsSimulated, IsSimulatedChangingUses, SparesOtherPorts, IsSimulatedAlongChangingUses, SameSlotStates, OnlyDeviceChangesPort, NoneWrites, GainsNoMove, DeviceStepsKeepUnwrittenPortSlots}
+use Rattle.refinement.specs.Fragments.{AnySlotStates, SomeMachineAgrees, IsDrivenBy, IsSimulated, IsSimulatedChangingUses, SparesOtherPorts, IsSimulatedAlongChangingUses, SameSlotStates, OnlyDeviceChangesPort, NoneWrites, GainsNoMove, AllByDeviceAndPortsKeepSlotsIfKindWritesNoCiSact}
 use Rattle.refinement.specs.Driver.{AllFree}
-use Rattle.refinement.specs.Halting.{HaltOfTakenIfSt}
+use Rattle.refinement.specs.Halting.{NotLogOnlyAndQueuedHaltHasTakenCommandIfSt}
 use Rattle.refinement.specs.PreservedParts.{SameAdapter, DoesNotWrite}
 use Rattle.refinement.specs.Slots.{Free, Own, SlotStates, set_slot_state}
 use Rattle.identify.specs.declared.wanted.Wanted.{Wanted}
 use Rattle.identify.specs.declared.wanted.Wanted.TheVariants.{Nothing}
-use Rattle.port_control.specs.Engines.{StopsBothEngines}
-use Rattle.port_boot.specs.States.{IsBoot, IsBootTo, IsBootAccess}
-use Rattle.host_boot.specs.TakeOver.{BootsPortOrSticksShowingEnginesIfServed, SwitchesOnBootsAndEnablesInterrupts, ReadyQueuedHaltIsOfTaken, IsUnusedOrIdentifyOfDeadPort, IsHostAccess, IsTakeOverAccess, OnlyDeviceChangesPorts, BacksProbeResult, TakesOver, ShowsEnginesStoppedOrStuck, WroteSctlUnlessUnservedOrDead, probe_result_of, unused_slots, wanted_of}
+use Rattle.port_control.specs.Engines.{StopsEachEngine}
+use Rattle.port_boot.specs.States.{IsSimulatedBoot, IsSimulatedBootTo, IsBootAccess}
+use Rattle.host_boot.specs.TakeOver.{IsSimulatedBootOrNothing, SwitchesOnBootsAndEnablesInterrupts, ReadyQueuedHaltIsOfTaken, IsUnusedOrIdentifyOfDeadPort, ReadsCapOrPiOrSetsAe, IsTakeOverAccess, OnlyDeviceChangesPorts, BacksProbeResult, TakesOver, ShowsEnginesStoppedOrStuck, WroteSctlUnlessUnservedOrDead, probe_result_of, unused_slots, wanted_of}
 use Rattle.host_boot.specs.declared.Host.{Host}
 use Rattle.host_boot.specs.declared.ProbeResult.{ProbeResult}
 use Rattle.host_boot.specs.declared.ProbeResult.TheVariants.{Unserved, Ready, Unready}
@@ -65,7 +65,7 @@ pub record IsUnderway (wanted : List Wanted) (ports : List ProbeResult) (n : ℕ
   pub halts : (port : ℕ) → port < n → ReadyQueuedHaltIsOfTaken (probe_result_of ports port) port d
   pub idle : (port : ℕ) → n ≤ port → IsIdlePort (d.port port)
 
-host_spares : (q : Port) (r : PortReg) → NoneWrites IsHostAccess (Px q r)
+host_spares : (q : Port) (r : PortReg) → NoneWrites ReadsCapOrPiOrSetsAe (Px q r)
 host_spares q r (Reading x v) is = tt
 host_spares q r (Loading driver_state_of_slots bytes) is = absurd is
 host_spares q r (Storing driver_state_of_slots bytes) is = absurd is
@@ -85,7 +85,7 @@ module _ (laws : Laws) where
   still_halts May Fits next uses q old new spares fits f a wanted found stands halts info is =
       let slots : DriverSlots = record { slot_states = uses; awaiting_disposition = a.parked } in
       let c = f.acts_reach slots a.machine a.reached a.driver_relation fits in
-      let then : HaltOfTakenIfSt (new.port q) =
+      let then : NotLogOnlyAndQueuedHaltHasTakenCommandIfSt (new.port q) =
       laws.halt_of_taken_stays_over_acts (port_at q) c.acts (driver_state_of_slots slots old) (driver_state_of_slots (record slots { slot_states = next uses }) new) a.machine a.reached a.driver_relation c.acts_are_done
       (subst (All (DoesNotWrite (Px (port_at q) Cmd))) (sym c.accesses_match_acts) (All-weaker May (DoesNotWrite (Px (port_at q) Cmd)) spares f.is_driven.accesses f.is_driven.accesses_are_of_kind)) (λ _. halts info is) in
       then (subst (λ (x : ProbeResult). BacksProbeResult wanted x q new) is stands).1.runs.st_is_set
@@ -96,7 +96,7 @@ module _ (laws : Laws) where
     goes_on old new a = record {
       is_driven = a.is_driven;
       acts_reach = λ s m reached x is.
-          subst (λ (u : SlotStates). ActsReach a.is_driven.accesses (driver_state_of_slots s old) m (driver_state_of_slots (record s { slot_states = u }) new) (DeviceStepsKeepUnwrittenPortSlots (IsTakeOverAccess wanted) s.slot_states)) is (a.acts_reach s m reached x tt);
+          subst (λ (u : SlotStates). ActsReach a.is_driven.accesses (driver_state_of_slots s old) m (driver_state_of_slots (record s { slot_states = u }) new) (AllByDeviceAndPortsKeepSlotsIfKindWritesNoCiSact (IsTakeOverAccess wanted) s.slot_states)) is (a.acts_reach s m reached x tt);
     }
 
     -- and then others, with what is told of both
@@ -238,7 +238,7 @@ module _ (laws : Laws) where
           (wanted_of wanted q) (probe_result_of (slice_set ports port.0 found) q) (stand q less) (subst Q (sym (other_is q other)) (u.halts q (omega (arith, less, other))))
     ]
 
-    pub booted : found ≢ Unserved → IsBoot (ShowsEnginesStoppedOrStuck port found) port old new → Later
+    pub booted : found ≢ Unserved → IsSimulatedBoot (ShowsEnginesStoppedOrStuck port found) port old new → Later
     booted served told =
         let f : IsSimulated (IsBootAccess port) (λ uses. AllFree uses port.0) old new = told.is_simulated in
         let quiet : (q : Port) → q.0 ≢ port.0 → (u.uses q.0 0 ≡ Own Identify → ⊥) → GainsNoMove q.0 Identify old new =
@@ -360,13 +360,13 @@ module _ (laws : Laws) where
         })
 
     -- whatever it was found to be
-    pub next : BootsPortOrSticksShowingEnginesIfServed port found old new → Later
+    pub next : IsSimulatedBootOrNothing port found old new → Later
     next boots = by found refl boots
       where
-        booted_as : (f : ProbeResult) → found ≡ f → f ≢ Unserved → IsBoot (ShowsEnginesStoppedOrStuck port f) port old new → Later
-        booted_as f is served b = booted (λ e. served (sym is ∙ e)) (subst (λ (x : ProbeResult). IsBoot (ShowsEnginesStoppedOrStuck port x) port old new) (sym is) b)
+        booted_as : (f : ProbeResult) → found ≡ f → f ≢ Unserved → IsSimulatedBoot (ShowsEnginesStoppedOrStuck port f) port old new → Later
+        booted_as f is served b = booted (λ e. served (sym is ∙ e)) (subst (λ (x : ProbeResult). IsSimulatedBoot (ShowsEnginesStoppedOrStuck port x) port old new) (sym is) b)
 
-        by_state : (state : PortState) → found ≡ Unready state → IsBootTo (StopsBothEngines port) port state old new → Later
+        by_state : (state : PortState) → found ≡ Unready state → IsSimulatedBootTo (StopsEachEngine port) port state old new → Later
         by_state Dead is (inl b) = booted_as (Unready Dead) is (λ e. absurd cc) b
         by_state Dead is (inr b) = died is (subst (λ (x : ProbeResult). IsSimulatedAlongChangingUses (ShowsEnginesStoppedOrStuck port x) (IsBootAccess port) (λ uses. AllFree uses port.0) Asked old new) (sym is) b)
         by_state Absent is b = booted_as (Unready Absent) is (λ e. absurd cc) b
@@ -374,27 +374,27 @@ module _ (laws : Laws) where
         by_state Foreign is b = booted_as (Unready Foreign) is (λ e. absurd cc) b
         by_state (Unfit n) is b = booted_as (Unready (Unfit n)) is (λ e. absurd cc) b
 
-        by : (f : ProbeResult) → found ≡ f → BootsPortOrSticksShowingEnginesIfServed port f old new → Later
+        by : (f : ProbeResult) → found ≡ f → IsSimulatedBootOrNothing port f old new → Later
         by Unserved is same = passed is same
         by (Ready info) is b = booted_as (Ready info) is (λ e. absurd cc) b
         by (Unready state) is b = by_state state is b
 
   -- the adapter is what it was
-  pub boots_same : (port : Port) (old new : Device) (found : ProbeResult) → BootsPortOrSticksShowingEnginesIfServed port found old new → SameAdapter old new
+  pub boots_same : (port : Port) (old new : Device) (found : ProbeResult) → IsSimulatedBootOrNothing port found old new → SameAdapter old new
   boots_same port old new Unserved is = subst (SameAdapter old) (sym is) (laws.same_adapter_is_reflexive old)
   boots_same port old new (Ready info) f = same_over laws (IsBootAccess port) old new f.is_simulated.is_driven
   boots_same port old new (Unready state) f = same_over laws (IsBootAccess port) old new (laws.boot_with_stops_is_driven port state old new f)
 
-  hosting : (wanted : List Wanted) (old new : Device) → IsSimulated IsHostAccess AnySlotStates old new → IsSimulated (IsTakeOverAccess wanted) AnySlotStates old new
+  hosting : (wanted : List Wanted) (old new : Device) → IsSimulated ReadsCapOrPiOrSetsAe AnySlotStates old new → IsSimulated (IsTakeOverAccess wanted) AnySlotStates old new
   hosting wanted old new f = (laws.fragments.is_of_wider_kind AccessingHostRegisters (TakingOver wanted AnyUses) (λ uses. uses) (λ access may. inl may) (λ uses is. is) old new f).is_simulated
 
   module _ (wanted : List Wanted) (start : Device) where
     -- no port was booted yet
-    pub begins : (ports : List ProbeResult) (d : Device) → length ports ≡ 4 → IsIdle start → SomeMachineAgrees unused_slots start → IsOn d → OnlyDeviceChangesPorts start d → IsSimulated IsHostAccess AnySlotStates start d →
+    pub begins : (ports : List ProbeResult) (d : Device) → length ports ≡ 4 → IsIdle start → SomeMachineAgrees unused_slots start → IsOn d → OnlyDeviceChangesPorts start d → IsSimulated ReadsCapOrPiOrSetsAe AnySlotStates start d →
         IsUnderway wanted ports 0 start d
     begins ports d long idle agreed on leaves f = record {
       on = on;
-      same = same_over laws IsHostAccess start d f.is_driven;
+      same = same_over laws ReadsCapOrPiOrSetsAe start d f.is_driven;
       long = long;
       uses = unused_slots;
       left = λ port slot. inl refl;
@@ -408,7 +408,7 @@ module _ (laws : Laws) where
     }
 
     -- all were
-    module _ (ports : List ProbeResult) (d new : Device) (u : IsUnderway wanted ports 4 start d) (leaves : OnlyDeviceChangesPorts d new) (f : IsSimulated IsHostAccess AnySlotStates d new) where
+    module _ (ports : List ProbeResult) (d new : Device) (u : IsUnderway wanted ports 4 start d) (leaves : OnlyDeviceChangesPorts d new) (f : IsSimulated ReadsCapOrPiOrSetsAe AnySlotStates d new) where
       abbrev Silent : ℕ → Type 0
       Silent port = GainsNoMove port Identify d new
 
@@ -427,19 +427,19 @@ module _ (laws : Laws) where
       ends host is slots queued on tells way = record {
         adapter_is_on = on;
         ie_is_set = tells;
-        adapter_is_kept = laws.same_adapter_is_transitive start d new u.same (same_over laws IsHostAccess d new f.is_driven);
+        adapter_is_kept = laws.same_adapter_is_transitive start d new u.same (same_over laws ReadsCapOrPiOrSetsAe d new f.is_driven);
         slot_count_is_of_cap = slots;
         ncq_is_of_cap = queued;
         results_are_backed = λ port less.
             let P : List ProbeResult → Type 0 = λ ps. BacksProbeResult (wanted_of wanted port) (probe_result_of ps port) port new in
-            subst P (sym is) (stands_on laws.probe_results port d new (leaves port) (same_over laws IsHostAccess d new f.is_driven) (wanted_of wanted port) (probe_result_of ports port) (silent port) (u.stands port less));
+            subst P (sym is) (stands_on laws.probe_results port d new (leaves port) (same_over laws ReadsCapOrPiOrSetsAe d new f.is_driven) (wanted_of wanted port) (probe_result_of ports port) (silent port) (u.stands port less));
         sctl_was_written_unless_unserved_or_dead = λ port less.
             let P : List ProbeResult → Type 0 = λ ps. WroteSctlUnlessUnservedOrDead (probe_result_of ps port) port (length start.tape) new in
             subst P (sym is) (reset_on port d new (leaves port) (probe_result_of ports port) (length start.tape) (u.reset port less));
         halt_is_of_taken = λ port less.
             let P : List ProbeResult → Type 0 = λ ps. ReadyQueuedHaltIsOfTaken (probe_result_of ps port) port new in
-            subst P (sym is) (still_halts IsHostAccess AnySlotStates (λ uses. uses) u.uses port d new (host_spares (port_at port) Cmd) tt f u.agreed (wanted_of wanted port) (probe_result_of ports port)
-            (stands_on laws.probe_results port d new (leaves port) (same_over laws IsHostAccess d new f.is_driven) (wanted_of wanted port) (probe_result_of ports port) (silent port) (u.stands port less)) (u.halts port less));
+            subst P (sym is) (still_halts ReadsCapOrPiOrSetsAe AnySlotStates (λ uses. uses) u.uses port d new (host_spares (port_at port) Cmd) tt f u.agreed (wanted_of wanted port) (probe_result_of ports port)
+            (stands_on laws.probe_results port d new (leaves port) (same_over laws ReadsCapOrPiOrSetsAe d new f.is_driven) (wanted_of wanted port) (probe_result_of ports port) (silent port) (u.stands port less)) (u.halts port less));
         switches_on_and_boots = let P : List ProbeResult → Type 0 = λ ps. SwitchesOnBootsAndEnablesInterrupts ps start new in subst P (sym is) way;
         uses = u.uses;
         slots_are_unused_or_dead = λ port slot. let P : List ProbeResult → Type 0 = λ ps. IsUnusedOrIdentifyOfDeadPort ps u.uses port slot in subst P (sym is) (u.left port slot);

@@ -7,7 +7,7 @@ use Rattle.adapter.specs.Access.{Writes}
 use Rattle.adapter.specs.Device.{Device}
 use Rattle.refinement.specs.Relation.{port_at}
 use Rattle.refinement.specs.Fragments.{IsDrivenBy}
-use Rattle.host_boot.specs.TakeOver.{BootsPortOrSticksIfServed, BootsEachServedPortOrSticks, SwitchesOnBootsAndEnablesInterrupts, ReadsCapOrPi}
+use Rattle.host_boot.specs.TakeOver.{StopsAndBootsOrDoesNothing, BootsEachServedPortOrSticks, SwitchesOnBootsAndEnablesInterrupts, ReadsCapOrPi}
 use Rattle.host_boot.specs.declared.ProbeResult.{ProbeResult}
 
 -- the adapter was switched on and surveyed, and so many ports have gone their way
@@ -20,14 +20,14 @@ pub record IsOnWay (ports : List ProbeResult) (n : ℕ) (old d : Device) : Type 
 
 -- one more port goes its way
 pub go_more : (ports : List ProbeResult) (first next : ℕ) (found : ProbeResult) (old mid new : Device) → next ≡ first + length ports → BootsEachServedPortOrSticks first ports old mid →
-    BootsPortOrSticksIfServed (port_at next) found mid new → BootsEachServedPortOrSticks first (ports ++ found ∷ []) old new
+    StopsAndBootsOrDoesNothing (port_at next) found mid new → BootsEachServedPortOrSticks first (ports ++ found ∷ []) old new
 go_more [] first next found old mid new at so way =
-    let P : ℕ → Device → Type 0 = λ n d. BootsPortOrSticksIfServed (port_at n) found d new in
+    let P : ℕ → Device → Type 0 = λ n d. StopsAndBootsOrDoesNothing (port_at n) found d new in
     let is : next ≡ first = omega (arith, at) in
     (new, subst (λ n. P n old) is (subst (λ d. P next d) so way), refl)
 go_more (one ∷ rest) first next found old mid new at (after, here, so) way = (after, here, go_more rest (first + 1) next found after mid new (omega (arith, at)) so way)
 
-pub way_more : (ports : List ProbeResult) (n : ℕ) (found : ProbeResult) (old d new : Device) → length ports ≡ 4 → n < 4 → IsOnWay ports n old d → BootsPortOrSticksIfServed (port_at n) found d new →
+pub way_more : (ports : List ProbeResult) (n : ℕ) (found : ProbeResult) (old d new : Device) → length ports ≡ 4 → n < 4 → IsOnWay ports n old d → StopsAndBootsOrDoesNothing (port_at n) found d new →
     IsOnWay (slice_set ports n found) (n + 1) old new
 way_more ports n found old d new long less w way = record {
   switched = w.switched;

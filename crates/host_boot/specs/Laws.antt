@@ -10,21 +10,21 @@ use Rattle.hba_regs.specs.declared.reg.PortReg.TheVariants.{Cmd, Sctl, Ssts}
 use Rattle.ata_types.specs.declared.PortState.TheVariants.{Dead}
 use Rattle.adapter.specs.Device.{Device, DevicePort}
 use Rattle.identify.specs.declared.DiskInfo.{DiskInfo}
-use Rattle.port_boot.specs.States.{BacksState, BringsReady, HasFitDiskAndInterrupts, IsBootTo, IsBootAccess, IsReadyAfterBoot, StaysRunningIfUndisturbed, ShownDiskIsIn, StopsOnWay}
+use Rattle.port_boot.specs.States.{BacksState, BringsReady, HasFitDiskAndInterrupts, IsSimulatedBootTo, IsBootAccess, IsReadyAfterBoot, StaysRunningIfUndisturbed, ShownDiskIsIn, StopsReceivingAndStartedEngine}
 use Rattle.adapter.specs.declared.tape.Entry.{Entry}
-use Rattle.port_control.specs.Engines.{FailsToStop, EngineFalls, EngineSticks, StopsBothEngines}
+use Rattle.port_control.specs.Engines.{FailsToStop, EngineFalls, EngineSticks, StopsEachEngine}
 use Rattle.refinement.specs.Slots.{Free, SlotState, SlotStates, set_slot_state}
 use Rattle.hba_regs.specs.declared.reg.Reg.TheVariants.{Ghc, Px}
 use Rattle.refinement.specs.Acts.{Act, AreActsDone, accesses_of}
-use Rattle.refinement.specs.Halting.{HaltOfTakenIfSt}
-use Rattle.refinement.specs.PreservedParts.{ShowsDiskIfIn, SameAdapter, DoesNotWrite}
+use Rattle.refinement.specs.Halting.{NotLogOnlyAndQueuedHaltHasTakenCommandIfSt}
+use Rattle.refinement.specs.PreservedParts.{HasDet3IfDiskPresent, SameAdapter, DoesNotWrite}
 use Rattle.block_machine.specs.Histories.{IsReachable}
 use Rattle.block_machine.specs.State.{Machine}
 use Rattle.adapter.specs.declared.command.Operation.TheVariants.{Identify}
 use Rattle.adapter.specs.Idle.{IsIdle, DisksAreKnownIfTelling}
 use Rattle.host_boot.specs.Reboots.{IsCapPiOrBootAccess}
 use Rattle.host_boot.specs.Resets.{IsResetAccess}
-use Rattle.host_boot.specs.TakeOver.{IsHostAccess, IsTakeOverAccess, ReadsCapOrPi}
+use Rattle.host_boot.specs.TakeOver.{ReadsCapOrPiOrSetsAe, IsTakeOverAccess, ReadsCapOrPi}
 use Rattle.adapter.specs.Rules.{IsOn}
 use Rattle.port_control.specs.Ports.{IsSerrOrIs, IsPlacingRegister, IsCommandRegister}
 use Rattle.adapter.specs.KeptBySteps.{KeepsOverSteps}
@@ -64,7 +64,7 @@ pub data AccessPurpose : Type 0 where
 abbrev pub accesses_for : AccessPurpose → Access → Type 0
 accesses_for (Commanding port) = ReadsPortOrWrites IsCommandRegister port
 accesses_for (Booting port) = IsBootAccess port
-accesses_for AccessingHostRegisters = IsHostAccess
+accesses_for AccessingHostRegisters = ReadsCapOrPiOrSetsAe
 accesses_for ReadingCapAndPi = ReadsCapOrPi
 accesses_for (Clearing port) = ReadsPortOrWrites IsSerrOrIs port
 accesses_for (Rebooting port) = IsCapPiOrBootAccess port
@@ -114,8 +114,8 @@ pub record Laws : Type 0 where
   pub ended_reset_is_idle : (v : ℕ) (old new : Device) → old.hr ≡ true → Reads Ghc v old new → bit v 0 ≡ false
       → IsIdle new
   pub disk_in_stays_shown_over_access : (port : Port) (access : Access) (old new : Device) → old.hr ≡ false
-      → DoesNotWrite (Px port Sctl) access → Does access old new → ShowsDiskIfIn (old.port port.0)
-      → ShowsDiskIfIn (new.port port.0)
+      → DoesNotWrite (Px port Sctl) access → Does access old new → HasDet3IfDiskPresent (old.port port.0)
+      → HasDet3IfDiskPresent (new.port port.0)
   pub shown_disk_stays_in_over_access : (port : ℕ) (access : Access) (old new : Device) → Does access old new
       → ShownDiskIsIn (old.port port)
       → ShownDiskIsIn (new.port port)
@@ -124,7 +124,7 @@ pub record Laws : Type 0 where
   pub ready_boot_has_shown_disk_in : (port : Port) (old new : Device) → BringsReady port old new
       → ShownDiskIsIn (new.port port.0)
   pub ssts_reading_shows_disk : (port : Port) (v : ℕ) (old new : Device) → Reads (Px port Ssts) v old new → v % 16 ≡ 3
-      → ShowsDiskIfIn (new.port port.0)
+      → HasDet3IfDiskPresent (new.port port.0)
   -- fragments
   pub does_append : (early late : List Access) (old mid new : Device) → DoesAll early old mid → DoesAll late mid new
       → DoesAll (early ++ late) old new
@@ -175,9 +175,10 @@ pub record Laws : Type 0 where
       → EngineSticks port (early ++ late)
   pub boot_access_is_of_port : (port : Port) (access : Access) → IsBootAccess port access → SparesOtherPorts port access
   pub boot_on_way_is_driven : (port : Port) (state : ShownState) (old new : Device)
-      → IsBootTo (StopsOnWay port state) port state old new → IsDrivenBy (IsBootAccess port) old new
+      → IsSimulatedBootTo (StopsReceivingAndStartedEngine port state) port state old new
+      → IsDrivenBy (IsBootAccess port) old new
   pub boot_with_stops_is_driven : (port : Port) (state : ShownState) (old new : Device)
-      → IsBootTo (StopsBothEngines port) port state old new → IsDrivenBy (IsBootAccess port) old new
+      → IsSimulatedBootTo (StopsEachEngine port) port state old new → IsDrivenBy (IsBootAccess port) old new
   pub cmd_access_is_boot_access : (port : Port) (access : Access) → ReadsPortOrWrites IsCommandRegister port access
       → IsBootAccess port access
   pub runs_on_after_access : (port : Port) (access : Access) (old new : Device) → IsOn old
@@ -193,6 +194,7 @@ pub record Laws : Type 0 where
       → IsReachable m
       → DriverRelation m k
       → AreActsDone acts k m later → All (DoesNotWrite (Px port Cmd)) (accesses_of acts)
-      → HaltOfTakenIfSt (k.device.port port.0) → HaltOfTakenIfSt (later.device.port port.0)
+      → NotLogOnlyAndQueuedHaltHasTakenCommandIfSt (k.device.port port.0)
+      → NotLogOnlyAndQueuedHaltHasTakenCommandIfSt (later.device.port port.0)
   -- this crate's kinds of accesses
   pub fragments : FragmentLaws AccessPurpose accesses_for slot_uses_for

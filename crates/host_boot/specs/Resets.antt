@@ -23,21 +23,17 @@ IsResetAccess (Writing Ghc v) = v ≡ 0x80000001
 IsResetAccess access = ⊥
 
 -- The adapter was reset first of all.
-pub record BeginsReset (accesses : List Access) : Type 0 where
+pub record WritesHrFirst (accesses : List Access) : Type 0 where
   pub rest : List Access
   pub accesses_are : accesses ≡ Writing Ghc 0x80000001 ∷ rest
 
 -- HR was set, and then GHC alone was read, at last with HR as it is here.
-pub record AwaitsHr (hr : Bool) (accesses : List Access) : Type 0 where
+pub record SetsHrAndLastReads (hr : Bool) (accesses : List Access) : Type 0 where
   pub polls : List Access
   pub last_ghc : ℕ
   pub accesses_are : accesses ≡ Writing Ghc 0x80000001 ∷ (polls ++ Reading Ghc last_ghc ∷ [])
   pub only_reads_ghc : All ReadsGlobalControl polls
   pub hr_is : bit last_ghc 0 ≡ hr
-
--- It was reset, and then GHC alone was read, at last with HR still one.
-abbrev pub AwaitsResetInVain : List Access → Type 0
-AwaitsResetInVain accesses = AwaitsHr true accesses
 
 -- ---- the whole
 
@@ -45,7 +41,7 @@ AwaitsResetInVain accesses = AwaitsHr true accesses
 -- command any more. A machine that agreed followed, by steps of the device alone.
 pub record Resets (old new : Device) : Type 0 where
   pub followed : IsSimulated IsResetAccess AnySlotStates old new
-  pub awaited : AwaitsHr false followed.is_driven.accesses
+  pub awaited : SetsHrAndLastReads false followed.is_driven.accesses
   pub count_is_allowed : length followed.is_driven.accesses ≤ 65
   pub idle : IsIdle new
   pub adapter_is_kept : SameAdapter old new
@@ -54,7 +50,7 @@ pub record Resets (old new : Device) : Type 0 where
 -- agreed followed.
 pub record ResetStaysPending (old new : Device) : Type 0 where
   pub followed : IsSimulated IsResetAccess AnySlotStates old new
-  pub awaited : AwaitsResetInVain followed.is_driven.accesses
+  pub awaited : SetsHrAndLastReads true followed.is_driven.accesses
   pub count_is : length followed.is_driven.accesses ≡ 65
   pub hr_is_set : new.hr ≡ true
   pub adapter_is_kept : SameAdapter old new

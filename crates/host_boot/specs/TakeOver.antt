@@ -16,16 +16,16 @@ use Rattle.adapter.specs.declared.command.Operation.TheVariants.{Identify}
 use Rattle.refinement.specs.Relation.{port_at}
 use Rattle.refinement.specs.Fragments.{SomeMachineAgreesWith, SomeMachineAgrees, ReadsPortOrWrites, IsDrivenBy, IsSimulatedChangingUses, SameSlotStates, OnlyDeviceChangesPort}
 use Rattle.refinement.specs.Driver.{AllFree}
-use Rattle.refinement.specs.Halting.{HaltIsOfTaken}
+use Rattle.refinement.specs.Halting.{NotLogOnlyAndQueuedHaltHasTakenCommand}
 use Rattle.refinement.specs.PreservedParts.{SameAdapter}
 use Rattle.refinement.specs.Slots.{Free, Own, SlotStates}
 use Rattle.identify.specs.Wanted.{serial_of}
 use Rattle.identify.specs.declared.DiskInfo.{DiskInfo}
 use Rattle.identify.specs.declared.wanted.Wanted.{Wanted}
 use Rattle.identify.specs.declared.wanted.Wanted.TheVariants.{Nothing}
-use Rattle.port_control.specs.Engines.{StopsBothEngines, EngineSticks}
+use Rattle.port_control.specs.Engines.{StopsEachEngine, EngineSticks}
 use Rattle.port_control.specs.Ports.{IsCommandRegister}
-use Rattle.port_boot.specs.States.{BacksState, EndsBeforeStart, EndsAfterStart, BringsReady, HasFitDiskAndInterrupts, IsBoot, IsBootTo, IsBeforeStart, IsStateStoppedAfterStart, IsBootAccess, IsReadyAfterBoot, ShowsOnlyNewErrors}
+use Rattle.port_boot.specs.States.{BacksState, EndsBeforeStart, EndsAfterStart, BringsReady, HasFitDiskAndInterrupts, IsSimulatedBoot, IsSimulatedBootTo, IsBeforeStart, IsStateStoppedAfterStart, IsBootAccess, IsReadyAfterBoot, ShowsOnlyGainedErrors}
 use Rattle.host_boot.specs.declared.ProbeResult.{ProbeResult}
 use Rattle.host_boot.specs.declared.ProbeResult.TheVariants.{Unserved, Ready, Unready}
 use Rattle.host_boot.specs.declared.Host.{Host}
@@ -79,30 +79,31 @@ WroteSctlUnlessUnservedOrDead _ port since d = since ≤ (d.port port).notes.sct
 
 -- what halts a port that was found ready is of a command that is taken
 abbrev pub ReadyQueuedHaltIsOfTaken : ProbeResult → ℕ → Device → Type 0
-ReadyQueuedHaltIsOfTaken found port d = (info : DiskInfo) → found ≡ Ready info → HaltIsOfTaken (d.port port)
+ReadyQueuedHaltIsOfTaken found port d = (info : DiskInfo) → found ≡ Ready info
+    → NotLogOnlyAndQueuedHaltHasTakenCommand (d.port port)
 
 -- What accesses tell of the engines of a port that was found to be this: both fell, as was read after each was cleared.
 -- Of a dead port 64 readings in a row showed one that runs still; and one that isn't served wasn't stopped.
 abbrev pub ShowsEnginesStoppedOrStuck : Port → ProbeResult → List Access → Type 0
 ShowsEnginesStoppedOrStuck port Unserved accesses = Unit {0}
 ShowsEnginesStoppedOrStuck port (Unready Dead) accesses = EngineSticks port accesses
-ShowsEnginesStoppedOrStuck port _ accesses = StopsBothEngines port accesses
+ShowsEnginesStoppedOrStuck port _ accesses = StopsEachEngine port accesses
 
 -- A port that isn't served isn't touched; another was stopped and booted, and its accesses tell of its engines.
-abbrev pub BootsPortOrSticksShowingEnginesIfServed : Port → ProbeResult → Device → Device → Type 0
-BootsPortOrSticksShowingEnginesIfServed port Unserved old new = new ≡ old
-BootsPortOrSticksShowingEnginesIfServed port (Ready info) old new = IsBoot (StopsBothEngines port) port old new
-BootsPortOrSticksShowingEnginesIfServed port (Unready state) old new = IsBootTo
-    (StopsBothEngines port) port state old new
+abbrev pub IsSimulatedBootOrNothing : Port → ProbeResult → Device → Device → Type 0
+IsSimulatedBootOrNothing port Unserved old new = new ≡ old
+IsSimulatedBootOrNothing port (Ready info) old new = IsSimulatedBoot (StopsEachEngine port) port old new
+IsSimulatedBootOrNothing port (Unready state) old new = IsSimulatedBootTo
+    (StopsEachEngine port) port state old new
 
 -- ---- accesses
 
 -- it reads CAP or PI, or writes GHC with AE alone, or with AE and IE
-abbrev pub IsHostAccess : Access → Type 0
-IsHostAccess (Reading Cap v) = Unit {0}
-IsHostAccess (Reading Pi v) = Unit {0}
-IsHostAccess (Writing Ghc v) = (v ≡ 0x80000000) ⊎ (v ≡ 0x80000002)
-IsHostAccess access = ⊥
+abbrev pub ReadsCapOrPiOrSetsAe : Access → Type 0
+ReadsCapOrPiOrSetsAe (Reading Cap v) = Unit {0}
+ReadsCapOrPiOrSetsAe (Reading Pi v) = Unit {0}
+ReadsCapOrPiOrSetsAe (Writing Ghc v) = (v ≡ 0x80000000) ⊎ (v ≡ 0x80000002)
+ReadsCapOrPiOrSetsAe access = ⊥
 
 -- it reads CAP or PI
 abbrev pub ReadsCapOrPi : Access → Type 0
@@ -112,7 +113,7 @@ ReadsCapOrPi access = ⊥
 
 -- it is one of these, or one of the boot of a port in which a disk is wanted
 abbrev pub IsTakeOverAccess : List Wanted → Access → Type 0
-IsTakeOverAccess wanted access = IsHostAccess access ⊎ ((port : Port) × (wanted_of wanted port.0 ≢ Nothing)
+IsTakeOverAccess wanted access = ReadsCapOrPiOrSetsAe access ⊎ ((port : Port) × (wanted_of wanted port.0 ≢ Nothing)
     × IsBootAccess port access)
 
 -- every port is left to the device
@@ -127,15 +128,16 @@ pub record EngineSticksDuringBoot (port : Port) (old new : Device) : Type 0 wher
   pub driven : IsDrivenBy (IsBootAccess port) old new
   pub sticks : EngineSticks port driven.accesses
 
--- The port was stopped, and then booted, by accesses of a boot of this port alone: it is ready, and each access of that
--- is told, with what it shows of trouble; or it isn't, and what was seen is told. Of each dead one the engine that is
--- stuck is told.
-abbrev pub BootsPortOrSticksIfServed : Port → ProbeResult → Device → Device → Type 0
-BootsPortOrSticksIfServed port Unserved old new = new ≡ old
-BootsPortOrSticksIfServed port (Ready info) old new = (stopped : Device)
+-- A port that isn't served isn't touched. Another was stopped, and then booted, by accesses of a boot of this port
+-- alone: it is ready, and each access of that is told, with what it shows of trouble; or it isn't, and what was seen is
+-- told. Of each dead one the engine that is stuck is told.
+abbrev pub StopsAndBootsOrDoesNothing : Port → ProbeResult → Device → Device → Type 0
+StopsAndBootsOrDoesNothing port Unserved old new = new ≡ old
+StopsAndBootsOrDoesNothing port (Ready info) old new = (stopped : Device)
     × IsDrivenBy (ReadsPortOrWrites IsCommandRegister port) old stopped
-    × IsDrivenBy (IsBootAccess port) stopped new × BringsReady port stopped new × ShowsOnlyNewErrors port.0 stopped new
-BootsPortOrSticksIfServed port (Unready state) old new = (stopped : Device)
+    × IsDrivenBy (IsBootAccess port) stopped new × BringsReady port stopped new
+    × ShowsOnlyGainedErrors port.0 stopped new
+StopsAndBootsOrDoesNothing port (Unready state) old new = (stopped : Device)
     × IsDrivenBy (ReadsPortOrWrites IsCommandRegister port) old stopped
     × IsDrivenBy (IsBootAccess port) stopped new × (IsBeforeStart state → EndsBeforeStart port state stopped new)
     × (IsStateStoppedAfterStart state → EndsAfterStart port stopped new) × (state ≡ Dead
@@ -145,10 +147,10 @@ BootsPortOrSticksIfServed port (Unready state) old new = (stopped : Device)
 
 -- An idle port may be booted, if it is wanted and the adapter has it: the ports that it has are these, by bit; memory
 -- has the driver's areas; and no slot of the port is used.
-pub record MayBootIdle (port : Port) (implemented : ℕ) (d : Device) : Type 0 where
+pub record MayBootIdlePort (port : Port) (implemented : ℕ) (d : Device) : Type 0 where
   pub adapter_is_on : IsOn d
   pub port_in_range : port.0 < 4
-  pub implemented_is_pi : implemented ≡ d.pi
+  pub implemented_is_pi_of_device : implemented ≡ d.pi
   pub driver_memory_fits : DRIVER_BYTES ≤ d.memory_size
   pub machine_is_related : SomeMachineAgreesWith (λ uses. AllFree uses port.0) d
   pub idle : IsIdlePort (d.port port.0)
@@ -159,8 +161,8 @@ pub record BootsAndFindsPort (wanted : Wanted) (port : Port) (found : ProbeResul
   pub result_is_backed : BacksProbeResult wanted found port.0 new
   pub sctl_was_written_unless_unserved_or_dead : WroteSctlUnlessUnservedOrDead found port.0 (length old.tape) new
   pub halt_is_of_taken : ReadyQueuedHaltIsOfTaken found port.0 new
-  pub boots : BootsPortOrSticksShowingEnginesIfServed port found old new
-  pub stops_and_boots : BootsPortOrSticksIfServed port found old new
+  pub boots : IsSimulatedBootOrNothing port found old new
+  pub stops_and_boots : StopsAndBootsOrDoesNothing port found old new
 
 -- ---- the whole way
 
@@ -168,7 +170,7 @@ pub record BootsAndFindsPort (wanted : Wanted) (port : Port) (found : ProbeResul
 abbrev pub BootsEachServedPortOrSticks : ℕ → List ProbeResult → Device → Device → Type 0
 BootsEachServedPortOrSticks port [] old new = new ≡ old
 BootsEachServedPortOrSticks port (found ∷ rest) old new = (mid : Device)
-    × BootsPortOrSticksIfServed (port_at port) found old mid × BootsEachServedPortOrSticks (port + 1) rest mid new
+    × StopsAndBootsOrDoesNothing (port_at port) found old mid × BootsEachServedPortOrSticks (port + 1) rest mid new
 
 -- The adapter was switched on with interrupts off, and CAP and PI were read; then each port went its way, in rising
 -- number; and last of all the adapter was let interrupt (AHCI 1.3.1, 3.1.2 and 10.1.2).

@@ -2,9 +2,9 @@
 ghost use Rattle.std.specs.Prelude.{ℕ, true, false, ◌≡◌, ◌≢◌, ◌<◌, List};
 ghost use Rattle.ata_types.specs.{declared.Port.{Port}, declared.PortState.{PortState}, declared.PortState.TheVariants.{Dead}};
 ghost use Rattle.adapter.specs.{Access.{Access}, Device.{Device}, Idle.{IsIdle}, Rules.{IsOn, HasPort}, Steps.{Steps}, declared.command.Operation.TheVariants.{Identify}};
-ghost use Rattle.refinement.specs.{Fragments.{IsDrivenBy, SparesOtherPorts, GainsNoMove}, PortFacts.{RecordsFaultsIfSt, RunsWell, Undisturbed}, PreservedParts.{ShowsDiskIfIn, SameAdapter}, MemoryLayout.{command_list_address}};
+ghost use Rattle.refinement.specs.{Fragments.{IsDrivenBy, SparesOtherPorts, GainsNoMove}, PortFacts.{RecordsFaultsIfSt, RunsWell, Undisturbed}, PreservedParts.{HasDet3IfDiskPresent, SameAdapter}, MemoryLayout.{command_list_address}};
 ghost use Rattle.identify.specs.{declared.DiskInfo.{DiskInfo}, declared.wanted.Wanted.{Wanted}};
-ghost use Rattle.host_boot.specs.{Reboots.{RebootsPort, RebootsIfPresent, IsCapPiOrBootAccess}, TakeOver.{FoundUnusableDevice, IsServed, KeepsWhatBacksProbeResult, OnlyDeviceChangesPorts, BacksProbeResult, StillBacksProbeResult, TakesOver, probe_result_of}, declared.Booted.{Booted}, declared.ProbeResult.{ProbeResult}, declared.ProbeResult.TheVariants.{Unserved, Ready, Unready}, declared.Host.{Host}};
+ghost use Rattle.host_boot.specs.{Reboots.{RebootsPort, RebootsWithDet3OrFindsAbsent, IsCapPiOrBootAccess}, TakeOver.{FoundUnusableDevice, IsServed, KeepsWhatBacksProbeResult, OnlyDeviceChangesPorts, BacksProbeResult, StillBacksProbeResult, TakesOver, probe_result_of}, declared.Booted.{Booted}, declared.ProbeResult.{ProbeResult}, declared.ProbeResult.TheVariants.{Unserved, Ready, Unready}, declared.Host.{Host}};
 ghost use Rattle.port_boot.specs.States.{ShownDiskIsIn};
 
 use super::prerequisites::law_prerequisites;
@@ -24,9 +24,10 @@ pub fn law_what_was_found_still_stands()
     law_prerequisites();
 }
 
-/// What the device does by itself leaves every port to it, while no reset is pending; and the adapter is what it was.
-pub fn law_only_device_changes_ports_unless_reset()
-    ensures ports_are_left { (old new : Device) → old.hr ≡ false → Steps old new → OnlyDeviceChangesPorts old new }
+/// Over steps of the device, while no reset is pending, only the device changes ports; and the adapter is what it was.
+pub fn law_only_device_changes_ports_outside_reset()
+    ensures only_device_changes_ports { (old new : Device) → old.hr ≡ false → Steps old new
+        → OnlyDeviceChangesPorts old new }
     ensures adapter_is_kept { (old new : Device) → Steps old new → SameAdapter old new }
 {
     law_prerequisites();
@@ -55,7 +56,7 @@ pub fn law_what_was_taken_over_may_be_served()
     ensures bad_disk_shows_if_in { (wanted : List Wanted) (host : Host) (port : ℕ) (state : PortState)
         (old new : Device) → IsIdle old
         → TakesOver wanted host old new → FoundUnusableDevice state → probe_result_of host.ports port ≡ Unready state
-        → ShowsDiskIfIn (new.port port) }
+        → HasDet3IfDiskPresent (new.port port) }
     ensures disk_is_in_if_shown { (wanted : List Wanted) (host : Host) (port : ℕ) (info : DiskInfo) (old new : Device)
         → IsIdle old
         → TakesOver wanted host old new → probe_result_of host.ports port ≡ Ready info
@@ -65,7 +66,7 @@ pub fn law_what_was_taken_over_may_be_served()
 }
 
 /// A port that runs well does so still after accesses of another port, where nothing goes wrong on it meanwhile.
-pub fn law_undisturbed_port_still_runs_well()
+pub fn law_other_port_access_keeps_running_well()
     ensures { (port other : Port) (old new : Device) → port.0 ≢ other.0 → IsOn old
         → IsDrivenBy (SparesOtherPorts other) old new
         → Undisturbed port.0 old new → RunsWell (old.port port.0) → RunsWell (new.port port.0) }
@@ -73,34 +74,34 @@ pub fn law_undisturbed_port_still_runs_well()
     law_prerequisites();
 }
 
-/// A server may go on with a port that was booted again. The accesses are of the port alone; what stands behind it is
-/// what was found; and one that was found unfit or foreign shows a device, or has no disk in. A port that does so still
-/// does after accesses of another port. The same is so of a port that was booted if a device showed; and so are the
-/// accesses of either of the port, one by one.
-pub fn law_what_was_booted_again_may_be_served()
+/// A reboot's accesses are of the port alone; what stands behind it is what was found; and one that was found unfit or
+/// foreign shows a device, or has no disk in. A port that does so still does after accesses of another port. The same
+/// is so of a port that was booted if a device showed; and so are the accesses of either of the port, one by one.
+pub fn law_reboot_is_of_port_and_backs_result()
     ensures reboot_is_of_port { (wanted : Wanted) (port : Port) (booted : Booted) (old new : Device)
         → RebootsPort wanted port booted old new → IsDrivenBy (SparesOtherPorts port) old new }
     ensures conditional_boot_is_of_port { (wanted : Wanted) (port : Port) (booted : Booted) (old new : Device)
-        → RebootsIfPresent wanted port booted old new → IsDrivenBy (SparesOtherPorts port) old new }
+        → RebootsWithDet3OrFindsAbsent wanted port booted old new → IsDrivenBy (SparesOtherPorts port) old new }
     ensures reboot_backs_result { (wanted : Wanted) (port : Port) (booted : Booted) (old new : Device)
         → RebootsPort wanted port booted old new → IsServed wanted port.0 old
         → BacksProbeResult wanted booted.found port.0 new }
     ensures conditional_boot_backs_result { (wanted : Wanted) (port : Port) (booted : Booted) (old new : Device)
-        → RebootsIfPresent wanted port booted old new → IsServed wanted port.0 old
+        → RebootsWithDet3OrFindsAbsent wanted port booted old new → IsServed wanted port.0 old
         → BacksProbeResult wanted booted.found port.0 new }
     ensures reboot_shows_bad_disk { (wanted : Wanted) (port : Port) (booted : Booted) (state : PortState)
         (old new : Device) → IsOn old
         → RebootsPort wanted port booted old new → FoundUnusableDevice state → booted.found ≡ Unready state
-        → ShowsDiskIfIn (new.port port.0) }
+        → HasDet3IfDiskPresent (new.port port.0) }
     ensures conditional_boot_shows_bad_disk { (wanted : Wanted) (port : Port) (booted : Booted) (state : PortState)
         (old new : Device) → IsOn old
-        → RebootsIfPresent wanted port booted old new → FoundUnusableDevice state → booted.found ≡ Unready state
-        → ShowsDiskIfIn (new.port port.0) }
+        → RebootsWithDet3OrFindsAbsent wanted port booted old new → FoundUnusableDevice state → booted.found
+        ≡ Unready state
+        → HasDet3IfDiskPresent (new.port port.0) }
     ensures boot_start_access_is_of_port { (port : Port) (access : Access) → IsCapPiOrBootAccess port access
         → SparesOtherPorts port access }
     ensures other_port_keeps_shown_disk { (port other : Port) (old new : Device) → port.0 ≢ other.0 → IsOn old
-        → IsDrivenBy (SparesOtherPorts other) old new → ShowsDiskIfIn (old.port port.0)
-        → ShowsDiskIfIn (new.port port.0) }
+        → IsDrivenBy (SparesOtherPorts other) old new → HasDet3IfDiskPresent (old.port port.0)
+        → HasDet3IfDiskPresent (new.port port.0) }
 {
     law_prerequisites();
 }

@@ -13,14 +13,14 @@ ghost use Rattle.adapter.specs.{Access.{Writes}, Idle.{IsIdle}, Rules.{IsOn}, Ac
 ghost use Rattle.refinement.specs.Fragments.{AnySlotStates, IsDrivenBy, IsSimulated};
 ghost use Rattle.port_boot.specs.{States.{IsOnWithPortMemoryAndFreeSlots}, Costs.{BOOT_ACCESSES}};
 ghost use Rattle.port_control.specs.Ports.{IsStopped};
-ghost use Rattle.host_boot.specs.{Reboots.{RebootsPort, RebootsIfPresent, BootsStopped}, TakeOver.{BootsAndFindsPort, IsHostAccess, ReadsCapOrPi, MayBootIdle, OnlyDeviceChangesPorts, TakesOver}, Costs.{REBOOT_ACCESSES, REBOOT_IF_PRESENT_ACCESSES, STOP_AND_BOOT_ACCESSES, TAKE_OVER_ACCESSES}};
+ghost use Rattle.host_boot.specs.{Reboots.{RebootsPort, RebootsWithDet3OrFindsAbsent, EndsReadyOrUnready}, TakeOver.{BootsAndFindsPort, ReadsCapOrPiOrSetsAe, ReadsCapOrPi, MayBootIdlePort, OnlyDeviceChangesPorts, TakesOver}, Costs.{REBOOT_ACCESSES, REBOOT_IF_PRESENT_ACCESSES, STOP_AND_BOOT_ACCESSES, TAKE_OVER_ACCESSES}};
 
 use adapter::Adapter;
 use ata_types::{DRIVER_BYTES, MOST_READINGS, PORTS, Port, PortState};
 use hba_regs::{Capabilities, GlobalControl, Reg, is_set};
 use identify::{DiskInfo, Wanted};
 use port_boot::boot;
-use port_control::{Stopped, clear_serr_and_detect, stop};
+use port_control::{Stopped, clear_serr_and_read_ssts, stop};
 use prerequisites::law_prerequisites;
 
 mod hba_reset;
@@ -68,7 +68,7 @@ fn power_on<A: Adapter>(adapter: &mut A)
     ensures adapter_is_on { IsOn (A.device adapter.new) }
     ensures switches { Writes Ghc 0x80000000 (A.device adapter.old) (A.device adapter.new) }
     ensures leaves { OnlyDeviceChangesPorts (A.device adapter.old) (A.device adapter.new) }
-    ensures followed { IsSimulated IsHostAccess AnySlotStates (A.device adapter.old) (A.device adapter.new) }
+    ensures followed { IsSimulated ReadsCapOrPiOrSetsAe AnySlotStates (A.device adapter.old) (A.device adapter.new) }
     ensures cost { MakesAtMost 1 (A.access_count adapter.old) (A.access_count adapter.new) }
 {
     law_prerequisites();
@@ -80,7 +80,7 @@ fn survey<A: Adapter>(adapter: &mut A) -> (Capabilities, u32)
     requires adapter_is_on { IsOn (A.device adapter.old) }
     ensures adapter_is_on { IsOn (A.device adapter.new) }
     ensures leaves { OnlyDeviceChangesPorts (A.device adapter.old) (A.device adapter.new) }
-    ensures followed { IsSimulated IsHostAccess AnySlotStates (A.device adapter.old) (A.device adapter.new) }
+    ensures followed { IsSimulated ReadsCapOrPiOrSetsAe AnySlotStates (A.device adapter.old) (A.device adapter.new) }
     ensures surveys { IsDrivenBy ReadsCapOrPi (A.device adapter.old) (A.device adapter.new) }
     ensures told { (result.0.0 ≡ (A.device adapter.new).cap) × (result.1 ≡ (A.device adapter.new).pi) }
     ensures cost { MakesAtMost 2 (A.access_count adapter.old) (A.access_count adapter.new) }
@@ -96,7 +96,7 @@ fn boot_stopped<A: Adapter>(adapter: &mut A, stopped: Stopped, wanted: &Wanted) 
     requires bootable { IsOnWithPortMemoryAndFreeSlots stopped.port (A.device adapter.old) }
     requires stopped { IsStopped ((A.device adapter.old).port stopped.port.0) }
     ensures adapter_is_on { IsOn (A.device adapter.new) }
-    ensures boots { BootsStopped wanted.now stopped.port result (A.device adapter.old) (A.device adapter.new) }
+    ensures boots { EndsReadyOrUnready wanted.now stopped.port result (A.device adapter.old) (A.device adapter.new) }
     ensures cost { MakesAtMost BOOT_ACCESSES (A.access_count adapter.old) (A.access_count adapter.new) }
 {
     match boot(adapter, stopped, &wanted.serial()) {
@@ -112,7 +112,7 @@ fn boot_port<A: Adapter>(
     implemented: u32,
     wanted: &Wanted,
 ) -> ProbeResult
-    requires may { MayBootIdle port implemented (A.device adapter.old) }
+    requires may { MayBootIdlePort port implemented (A.device adapter.old) }
     ensures adapter_is_on { IsOn (A.device adapter.new) }
     ensures finds { BootsAndFindsPort wanted.now port result (A.device adapter.old) (A.device adapter.new) }
     ensures cost { MakesAtMost STOP_AND_BOOT_ACCESSES (A.access_count adapter.old) (A.access_count adapter.new) }
@@ -134,7 +134,7 @@ fn enable_interrupts<A: Adapter>(adapter: &mut A)
     ensures tells { (A.device adapter.new).ie ≡ true }
     ensures enables { Writes Ghc 0x80000002 (A.device adapter.old) (A.device adapter.new) }
     ensures leaves { OnlyDeviceChangesPorts (A.device adapter.old) (A.device adapter.new) }
-    ensures followed { IsSimulated IsHostAccess AnySlotStates (A.device adapter.old) (A.device adapter.new) }
+    ensures followed { IsSimulated ReadsCapOrPiOrSetsAe AnySlotStates (A.device adapter.old) (A.device adapter.new) }
     ensures cost { MakesAtMost 1 (A.access_count adapter.old) (A.access_count adapter.new) }
 {
     law_prerequisites();
@@ -202,12 +202,13 @@ pub fn reboot_if_present<A: Adapter>(adapter: &mut A, stopped: Stopped, wanted: 
     requires stopped { IsStopped ((A.device adapter.old).port stopped.port.0) }
     requires device_was_awaited { ((A.device adapter.old).port stopped.port.0).notes.link_wait_count ≡ MOST_READINGS }
     ensures adapter_is_on { IsOn (A.device adapter.new) }
-    ensures boots { RebootsIfPresent wanted.now stopped.port result (A.device adapter.old) (A.device adapter.new) }
+    ensures boots { RebootsWithDet3OrFindsAbsent wanted.now stopped.port result (A.device adapter.old)
+        (A.device adapter.new) }
     ensures cost { MakesAtMost REBOOT_IF_PRESENT_ACCESSES (A.access_count adapter.old) (A.access_count adapter.new) }
 {
     law_prerequisites();
     let capabilities = Capabilities(adapter.read(Reg::Cap));
-    let found = if clear_serr_and_detect(adapter, stopped.port()) {
+    let found = if clear_serr_and_read_ssts(adapter, stopped.port()) {
         boot_stopped(adapter, stopped, wanted)
     } else {
         ProbeResult::Unready(PortState::Absent)

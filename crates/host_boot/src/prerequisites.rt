@@ -8,15 +8,18 @@ use port_boot::laws::{
 };
 use port_control::laws::{law_calls_are_of_one_port, law_what_is_told_of_engines_stays};
 use refinement::access_kinds::law_fragment_prerequisites;
-use refinement::disks::{law_reset_is_idle, law_vacancy_stays_where_no_disk_comes};
+use refinement::disks::{
+    law_hr_read_clear_leaves_adapter_idle, law_vacancy_stays_where_no_disk_comes,
+};
 use refinement::fragments::{
     law_agreeing_goes_on, law_other_ports_are_untouched, law_tape_prerequisites,
 };
 use refinement::laws::law_setting_changes_one_slot;
 use refinement::port_facts::{
-    law_adapter_stays, law_disk_in_stays_shown, law_reset_is_found, law_writing_ghc_switches_on,
+    law_adapter_stays, law_det_3_if_disk_present_stays, law_reset_is_found,
+    law_writing_ghc_switches_on,
 };
-use refinement::recovering::law_halts_are_of_taken_commands;
+use refinement::recovering::law_queued_halt_has_taken_command;
 use std::marker::Brand;
 
 /// The laws that the proofs of this crate rest on.
@@ -27,13 +30,13 @@ pub fn law_prerequisites()
     law_step_lists_keep_what_steps_keep();
     law_vacancy_stays_where_no_disk_comes();
     law_adapter_stays();
-    law_disk_in_stays_shown();
+    law_det_3_if_disk_present_stays();
     law_reset_is_found();
-    law_reset_is_idle();
+    law_hr_read_clear_leaves_adapter_idle();
     law_writing_ghc_switches_on();
     law_fragment_prerequisites::<Brand>();
     law_setting_changes_one_slot();
-    law_halts_are_of_taken_commands();
+    law_queued_halt_has_taken_command();
     law_agreeing_goes_on();
     law_other_ports_are_untouched();
     law_tape_prerequisites();

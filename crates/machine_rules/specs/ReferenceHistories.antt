@@ -6,12 +6,12 @@ use Rattle.machine_rules.specs.declared.history.DiskEvent.{DiskEvent}
 use Rattle.machine_rules.specs.declared.history.DiskEvent.TheVariants.{Touched, Plugged}
 use Rattle.block_machine.specs.DueRequests.{changes_sectors}
 use Rattle.block_machine.specs.State.{Accepted, Machine}
-use Rattle.block_machine.specs.Steps.{Step, Touch, Replace, newly_accepted}
+use Rattle.block_machine.specs.Steps.{Step, Touch, PlugDisk, newly_accepted}
 use Rattle.block_machine.specs.Expected.{IsTouch, ChangedSector}
 
 -- the byte in all places of sector number n of what has this fill
-abbrev pub fill_byte : ℕ → ℕ → ℕ
-fill_byte fill n = (fill + n) % 256
+abbrev pub sector_fill_byte : ℕ → ℕ → ℕ
+sector_fill_byte fill n = (fill + n) % 256
 
 -- a request of this fill: its i-th sector has the byte of i
 abbrev pub accepted_of : HistoryRequest → Accepted
@@ -26,25 +26,25 @@ accepted_of r = record {
     count = r.range.count;
     frames = record { items = [] };
   };
-  blocks_at_acceptance = λ i b. fill_byte r.fill i;
+  blocks_at_acceptance = λ i b. sector_fill_byte r.fill i;
 }
 
 -- a happening as a step
 abbrev pub step_of : DiskEvent → Step
-step_of (Touched r i) = Touch (newly_accepted (accepted_of r)) i (λ b. fill_byte r.fill i)
-step_of (Plugged port fill) = Replace port 0 0 (λ k b. fill_byte fill k)
+step_of (Touched r i) = Touch (newly_accepted (accepted_of r)) i (λ b. sector_fill_byte r.fill i)
+step_of (Plugged port fill) = PlugDisk port 0 0 (λ k b. sector_fill_byte fill k)
 
 -- happenings as steps
 abbrev pub history_of : List DiskEvent → List Step
 history_of happened = map step_of happened
 
--- a machine whose disks have this fill: sector k has the byte of k
-abbrev pub machine_filled_with : ℕ → Machine
-machine_filled_with fill = record {
+-- a machine each of whose disks has in all places of sector k the byte fill + k
+abbrev pub machine_with_sectors_filled_from : ℕ → Machine
+machine_with_sectors_filled_from fill = record {
   present = λ p. true;
   disk_ids = λ p. 0;
   sizes = λ p. 0;
-  disk_bytes = λ p k b. fill_byte fill k;
+  disk_bytes = λ p k b. sector_fill_byte fill k;
   overwritten_since_flush = λ p k. [];
   book = [];
   kept = [];

@@ -36,17 +36,17 @@ reference_admission_context t = record {
 }
 
 -- the row has what the cause says of a row that the request names
-abbrev pub RowMeetsCause : AdmissionContext → Request → Refusal → GrantRow → Type 0
-RowMeetsCause s r (refused.Rule NoRight) row = AllowsOp row.rights r.op → ⊥
-RowMeetsCause s r (refused.Rule OutsideGrant) row = CoversSectors row r.first.0 r.count → ⊥
-RowMeetsCause s r (refused.PortNotReady state) row = s.state row.port ≡ state
-RowMeetsCause s r refused.OutsideDisk row = s.sectors row.port < r.first.0 + r.count
-RowMeetsCause s r refused.TrimUnsupported row = IsTrue (s.zeroes_after_trim row.port) → ⊥
-RowMeetsCause s r refusal row = Unit {0}
+abbrev pub RowHasRowPartOfCause : AdmissionContext → Request → Refusal → GrantRow → Type 0
+RowHasRowPartOfCause s r (refused.Rule NoRight) row = AllowsOp row.rights r.op → ⊥
+RowHasRowPartOfCause s r (refused.Rule OutsideGrant) row = CoversSectors row r.first.0 r.count → ⊥
+RowHasRowPartOfCause s r (refused.PortNotReady state) row = s.state row.port ≡ state
+RowHasRowPartOfCause s r refused.OutsideDisk row = s.sectors row.port < r.first.0 + r.count
+RowHasRowPartOfCause s r refused.TrimUnsupported row = IsTrue (s.zeroes_after_trim row.port) → ⊥
+RowHasRowPartOfCause s r refusal row = Unit {0}
 
 -- a row that the request names has it
 abbrev pub SomeNamedRowMeetsCause : AdmissionContext → Request → Refusal → Type 0
-SomeNamedRowMeetsCause s r refusal = (row : GrantRow) × IsNamed s.rows r row × RowMeetsCause s r refusal row
+SomeNamedRowMeetsCause s r refusal = (row : GrantRow) × IsNamed s.rows r row × RowHasRowPartOfCause s r refusal row
 
 -- of the causes with this number, the first that applies, or that none does
 pub record IsFirstApplyingCauseOfNumber (s : AdmissionContext) (r : Request) (number : ℕ)

@@ -19,8 +19,8 @@ fn is_held(mode: QueueMode, book: &[Unanswered], r: &Unanswered) -> bool
 }
 
 /// Whether the request waits, and nothing in the book stands in its way.
-pub fn is_unblocked(mode: QueueMode, book: &[Unanswered], r: &Unanswered) -> bool
-    ensures { result ≡ due.is_unblocked mode book.now r.now }
+pub fn is_waiting_and_unblocked(mode: QueueMode, book: &[Unanswered], r: &Unanswered) -> bool
+    ensures { result ≡ due.is_waiting_and_unblocked mode book.now r.now }
 {
     !r.issued && !is_held(mode, book, r)
 }
@@ -32,7 +32,7 @@ pub fn unblocked_ahead_count(mode: QueueMode, book: &[Unanswered], r: &Unanswere
     let mut count = 0;
     for other in book {
         let earlier = other.port.0 == r.port.0 && other.id.0 < r.id.0;
-        if earlier && is_unblocked(mode, book, other) {
+        if earlier && is_waiting_and_unblocked(mode, book, other) {
             count += 1;
         }
     }
@@ -56,7 +56,7 @@ pub fn free_slots(mode: QueueMode, book: &[Unanswered], port: Port) -> usize
 pub fn is_due(mode: QueueMode, book: &[Unanswered], r: &Unanswered) -> bool
     ensures { result ≡ due.is_due mode book.now r.now }
 {
-    is_unblocked(mode, book, r)
+    is_waiting_and_unblocked(mode, book, r)
         && (is_plain(mode, r.op)
             || unblocked_ahead_count(mode, book, r) < free_slots(mode, book, r.port))
 }

@@ -1,7 +1,7 @@
 // What is left on a sector, as a plain and slow program over small histories.
 ghost use Rattle.std.specs.Prelude.{◌≡◌, ◌≤◌, ◌-◌, ℕ, length, IfSome, IfNone};
 ghost use Rattle.block_machine.specs.State.{Block, block_written};
-ghost use Rattle.machine_rules.specs.ReferenceHistories.{history_of, step_of, accepted_of, machine_filled_with, IsTouchOfWriter, IsLaterOf, IsLastWriter};
+ghost use Rattle.machine_rules.specs.ReferenceHistories.{history_of, step_of, accepted_of, machine_with_sectors_filled_from, IsTouchOfWriter, IsLaterOf, IsLastWriter};
 ghost use Rattle.block_machine.specs.Expected as expected_byte;
 ghost use Rattle.machine_rules.specs.ReferenceHistories as plain_left;
 
@@ -75,8 +75,8 @@ fn disk_number_read(read: &HistoryRequest, sector: u64, history: &[DiskEvent]) -
 }
 
 /// The byte in all places of sector number `number` of what has this fill.
-fn fill_byte(fill: u8, number: u64) -> u8
-    ensures { result ≡ plain_left.fill_byte fill number }
+fn sector_fill_byte(fill: u8, number: u64) -> u8
+    ensures { result ≡ plain_left.sector_fill_byte fill number }
 {
     ((fill as u128 + number as u128) % 256) as u8
 }
@@ -84,8 +84,8 @@ fn fill_byte(fill: u8, number: u64) -> u8
 /// The fill that the disk with this number had when it was put in.
 fn fill_when_plugged(start: u8, port: Port, number: usize, history: &[DiskEvent]) -> u8
     ensures { (k b : ℕ)
-        → expected_byte.bytes_when_plugged (machine_filled_with start) port number
-        (history_of history.now) k b ≡ plain_left.fill_byte result k }
+        → expected_byte.bytes_when_plugged (machine_with_sectors_filled_from start) port number
+        (history_of history.now) k b ≡ plain_left.sector_fill_byte result k }
 {
     match history.split_first() {
         None => start,
@@ -155,7 +155,7 @@ fn written(writer: HistoryRequest, sector: u64) -> u8
         → block_written writer.op (accepted_of writer).blocks_at_acceptance (sector - writer.range.first.0) b ≡ result }
 {
     match writer.op {
-        Op::Write => fill_byte(writer.fill, sector.saturating_sub(writer.range.first.0)),
+        Op::Write => sector_fill_byte(writer.fill, sector.saturating_sub(writer.range.first.0)),
         Op::Read | Op::Trim | Op::Flush => 0,
     }
 }
@@ -163,13 +163,14 @@ fn written(writer: HistoryRequest, sector: u64) -> u8
 /// What the writes and trims accepted before the read left on the sector, as the byte in all its places. The newest
 /// happening stands first, and the disks had the fill `start` before the first.
 pub fn expected_byte(start: u8, history: &[DiskEvent], read: &HistoryRequest, sector: u64) -> u8
-    ensures { (block : Block) × expected_byte.IsExpectedBlock (machine_filled_with start) (history_of history.now)
+    ensures { (block : Block) × expected_byte.IsExpectedBlock (machine_with_sectors_filled_from start)
+        (history_of history.now)
         (accepted_of read.now) sector block
         × ((b : ℕ) → block b ≡ result) }
 {
     let disk = disk_number_read(read, sector, history);
     match last_writer(read, sector, disk, history) {
         Some(writer) => written(writer, sector),
-        None => fill_byte(fill_when_plugged(start, read.port, disk, history), sector),
+        None => sector_fill_byte(fill_when_plugged(start, read.port, disk, history), sector),
     }
 }

@@ -3,12 +3,12 @@
 ghost use Rattle.std.specs.Prelude.{false, ◌≡◌, ◌⊎◌, ◌<◌, ◌≤◌, ◌↔◌, IsTrue, IfSome, IfNone, slice_get, count_by, ◌==◌};
 ghost use Rattle.ata_types.specs.SectorGrants.{AllowsOp, CoversSectors};
 ghost use Rattle.block_machine.specs.{Rules.{IsNamed, HasGrantName, Breaks, HasFault, BreaksNone, IsFirstBroken, refusal_rank}, Refusals.{RefusalApplies, IsAcceptable, IsFirstRefusal, MemFaultApplies, MayAccessFrame, IsFirstMemFault}};
-ghost use Rattle.machine_rules.specs.ReferenceSituations.{frame_or_none, port_or_absent, reference_admission_context, RowMeetsCause, SomeNamedRowMeetsCause, IsFirstApplyingCauseOfNumber};
+ghost use Rattle.machine_rules.specs.ReferenceSituations.{frame_or_none, port_or_absent, reference_admission_context, RowHasRowPartOfCause, SomeNamedRowMeetsCause, IsFirstApplyingCauseOfNumber};
 
 use arrayvec::ArrayVec;
 use ata_types::{
-    ClientId, FRAME_BYTES, Frame, FrameFault, GrantRow, MemFault, Op, Port, PortState, Refusal,
-    Request, RequestId, Rule,
+    ClientId, FRAME_BYTES, Frame, FrameFault, GrantRow, MOST_UNANSWERED_OF_A_CLIENT, MemFault, Op,
+    Port, PortState, Refusal, Request, RequestId, Rule,
 };
 use block_machine::{frame_count, is_allowed_count};
 
@@ -124,7 +124,8 @@ impl ReferenceSituation {
 
     /// Whether the row, which the request names, has what the cause says of it.
     fn row_has(&self, request: &Request, cause: Refusal, row: &GrantRow) -> bool
-        ensures { IsTrue result ↔ RowMeetsCause (reference_admission_context self.now) request.now cause row.now }
+        ensures { IsTrue result
+            ↔ RowHasRowPartOfCause (reference_admission_context self.now) request.now cause row.now }
     {
         match cause {
             Refusal::Rule(Rule::NoRight) => !row.rights.allows(request.op),
@@ -202,7 +203,7 @@ impl ReferenceSituation {
             }
             Refusal::OutsideDisk => request.op != Op::Flush && self.some_row_has(request, cause),
             Refusal::TrimUnsupported => request.op == Op::Trim && self.some_row_has(request, cause),
-            Refusal::ClientFull => 16 <= self.count_of(request.client),
+            Refusal::ClientFull => MOST_UNANSWERED_OF_A_CLIENT <= self.count_of(request.client),
             Refusal::IdsSpent => self.last_id == u64::MAX,
         }
     }

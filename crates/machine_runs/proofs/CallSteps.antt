@@ -7,7 +7,7 @@ use Rattle.ata_types.specs.declared.grant.GrantRow.{GrantRow}
 use Rattle.ata_types.specs.declared.request.Request.{Request}
 use Rattle.block_machine.specs.Ports.{Ports}
 use Rattle.block_machine.specs.State.{Accepted, Pending, Machine}
-use Rattle.block_machine.specs.Steps.{Step, Accept, Issue, Touch, End, Age, WaitAgain, Answer, Release, Revoke, Unplug, Replace, Store, Load, MayAccept, after_step, newly_issued, touch, mark_ended, requeued, aged_pending}
+use Rattle.block_machine.specs.Steps.{Step, Accept, Issue, Touch, End, Age, WaitAgain, Answer, Release, Revoke, Unplug, PlugDisk, Store, Load, MayAccept, after_step, newly_issued, touch, mark_ended, requeued, aged_pending}
 use Rattle.block_machine.specs.Expected.{after, IsAccept}
 use Rattle.block_machine.specs.Events.{AbstractCall, Submit, StoreAt, LoadAt, Service, Tick, Reset, State, StepDevice, RevokeOf, AllEnabled, IsByDevice, IsByServer, AreStepsOfCall, accepts_of, issues_id, IsIssuedIn}
 use Rattle.block_machine.proofs.Members.{contains_none, contains_here, contains_there, contains_cases, map_in, at_cases, without_in, append_in}
@@ -108,7 +108,7 @@ came m (Answer p o) e h = inl (stayed_same m (Answer p o) e e (without_in p.requ
 came m (Revoke client number) e h = inl (stayed_same m (Revoke client number) e e h refl refl)
 came m Release e h = inl (stayed_same m Release e e h refl refl)
 came m (Unplug p) e h = inl (stayed_same m (Unplug p) e e h refl refl)
-came m (Replace p id size disk) e h = inl (stayed_same m (Replace p id size disk) e e h refl refl)
+came m (PlugDisk p id size disk) e h = inl (stayed_same m (PlugDisk p id size disk) e e h refl refl)
 came m (Store c f o b) e h = inl (stayed_same m (Store c f o b) e e h refl refl)
 came m (Load c f o b) e h = inl (stayed_same m (Load c f o b) e e h refl refl)
 

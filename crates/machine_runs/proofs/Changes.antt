@@ -7,8 +7,8 @@ use Rattle.ata_types.specs.declared.request.Op.{Op}
 use Rattle.ata_types.specs.declared.request.Op.TheVariants.{Read, Write, Trim, Flush}
 use Rattle.ata_types.specs.declared.refusal.MemFault.TheVariants as fault
 use Rattle.block_machine.specs.DueRequests.{changes_sectors}
-use Rattle.block_machine.specs.State.{Block, DiskBytes, Memory, Machine, frame_at, sector_of, is_reader, block_written}
-use Rattle.block_machine.specs.Steps.{Step, Touch, Replace, Store, after_step, put_bytes, put_sector, disks_after_touch}
+use Rattle.block_machine.specs.State.{Block, DiskBytes, Memory, Machine, nth_frame, sector_of, is_reader, block_written}
+use Rattle.block_machine.specs.Steps.{Step, Touch, PlugDisk, Store, after_step, put_bytes, put_sector, disks_after_touch}
 use Rattle.block_machine.specs.Expected.{after, IsLegal, IsInitial}
 use Rattle.block_machine.specs.Confinement.{MayChangeByte, MayChangeSector}
 use Rattle.block_machine.proofs.Trace.{runs_lives}
@@ -39,10 +39,10 @@ law_bytes_change_by_touch_or_store start h (Touch e i block) f b s legal ne = by
   where
     by : (t : Bool) → is_reader e.request.asked.op ≡ t → MayChangeByte (after start h) (Touch e i block) f b
     by false t = absurd (ne (ap (λ (x : Memory). x f b)
-        (cond-false (is_reader e.request.asked.op) (put_bytes (frame_at e.request.asked.frames.items (i / 8)) (512 * (i % 8)) 512 block (after start h).memory) (after start h).memory t)))
+        (cond-false (is_reader e.request.asked.op) (put_bytes (nth_frame e.request.asked.frames.items (i / 8)) (512 * (i % 8)) 512 block (after start h).memory) (after start h).memory t)))
     by true t =
-        let put = cond-true (is_reader e.request.asked.op) (put_bytes (frame_at e.request.asked.frames.items (i / 8)) (512 * (i % 8)) 512 block (after start h).memory) (after start h).memory t in
-        let there = put_there (frame_at e.request.asked.frames.items (i / 8)) f (512 * (i % 8)) 512 b block (after start h).memory (λ same. ne (ap (λ (x : Memory). x f b) put ∙ same)) in
+        let put = cond-true (is_reader e.request.asked.op) (put_bytes (nth_frame e.request.asked.frames.items (i / 8)) (512 * (i % 8)) 512 block (after start h).memory) (after start h).memory t in
+        let there = put_there (nth_frame e.request.asked.frames.items (i / 8)) f (512 * (i % 8)) 512 b block (after start h).memory (λ same. ne (ap (λ (x : Memory). x f b) put ∙ same)) in
         let sound = (traced start h s legal.0).sound in
         let l = runs_lives (after start h) e legal.1.0 in
         let room = sound.room e l t in
@@ -75,7 +75,7 @@ law_sectors_change_by_touch_or_plug m (Touch e i block) port k b ne = by (change
             (t, sym (ap (λ (n : ℕ). record { 0 = n }) (eqb-true port.0 e.request.port.0 p.0)), sym (eqb-true k (sector_of e.request i) p.1))
         go false u = absurd (ne (ap (λ (d : Port → DiskBytes). d port k b) put
             ∙ ap (λ (x : Block). x b) (cond-false ((port.0 == e.request.port.0) && (k == sector_of e.request i)) (block_written e.request.asked.op e.request.blocks_at_acceptance i) (m.disk_bytes port k) u)))
-law_sectors_change_by_touch_or_plug m (Replace p id size disk) port k b ne = go (port.0 == p.0) refl
+law_sectors_change_by_touch_or_plug m (PlugDisk p id size disk) port k b ne = go (port.0 == p.0) refl
   where
     go : (u : Bool) → (port.0 == p.0) ≡ u → p ≡ port
     go true u = sym (ap (λ (n : ℕ). record { 0 = n }) (eqb-true port.0 p.0 u))

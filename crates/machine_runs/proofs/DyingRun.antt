@@ -12,8 +12,8 @@ use Rattle.ata_types.specs.declared.request.Outcome.TheVariants as outcome
 use Rattle.block_machine.specs.Ports.{Evidence}
 use Rattle.block_machine.specs.State.{Accepted, Pending, unanswered}
 use Rattle.block_machine.specs.Steps.{Accept, Issue, Answer, newly_accepted, newly_issued}
-use Rattle.block_machine.specs.Events.{Submit, Service, Submitted, Replied, CallRecord, Happens, RepliesMatch, IsToldBefore, reply_of, abstract_after_all, admission_context_of}
-use Rattle.machine_runs.specs.ExampleRuns.{ServiceEndsPortDead}
+use Rattle.block_machine.specs.Events.{Submit, Service, Submitted, Replied, CallRecord, Happens, RepliesMatch, IsLowerByPortThenId, reply_of, abstract_after_all, admission_context_of}
+use Rattle.machine_runs.specs.ExampleRuns.{StoppedAndStuckPortAnswersPortDead}
 use Rattle.block_machine.proofs.Members.{contains_none, contains_here, contains_there, contains_cases}
 use Rattle.block_machine.proofs.Setting.{port, frame, empty_starts, acceptable, granted}
 use Rattle.machine_runs.proofs.Scene.{mode, id, call, one_sector, ports_in, first, shows_none, changed_here, IsQuiet, row_zero, write_at, new, none_waits, none_unplugged, ports_fit, none_dead, none_ended}
@@ -74,7 +74,7 @@ tells = record {
   replies_are_of_answers = refl;
 }
   where
-    go : (i j : ℕ) (d : Pending × Outcome) → i < j → j < 2 → IsToldBefore (slice_index_or told i d) (slice_index_or told j d)
+    go : (i j : ℕ) (d : Pending × Outcome) → i < j → j < 2 → IsLowerByPortThenId (slice_index_or told i d) (slice_index_or told j d)
     go zero (suc zero) d lt below = inr (refl, omega arith)
     go i j d lt below = absurd (omega (arith, lt, below))
 
@@ -89,10 +89,10 @@ happens3 = record {
   result_matches_steps = record {
     replies_match = tells;
     dead_ports_tell_only_port_dead = λ e o h dead. none_dead e.request.port dead;
-    unplugged_empties_port = none_unplugged service.steps (abstract_after_all first run3).machine refl;
+    unplugged_outcome_empties_port = none_unplugged service.steps (abstract_after_all first run3).machine refl;
     none_is_due_where_ready = λ p ready. dead_not_ready p ready;
     empty_unless_ready = λ p ne e h. absurd (contains_none e h);
-    answers_ended = λ p _. none_ended (abstract_after_all first run2).machine service.steps refl p;
+    answers_ok_what_had_ended = λ p _. none_ended (abstract_after_all first run2).machine service.steps refl p;
     port_is_serviced = λ p. (λ dead. none_dead p dead, λ _. (record { served_is_unchanged = refl; dead_exactly_if_stuck = (dead_here p, λ h. dies p h); disk_is_remembered_unless_ready = λ _. (refl, refl) }, changed_here Ready Dead seen (inl (contains_here port [] port refl)) p));
     shown_disk_was_in_or_came = λ p. inr (λ shows. shows_none Dead (λ s. s) p shows);
   };
@@ -104,7 +104,7 @@ happens3 = record {
     dies : (p : Port) → Contains (port ∷ []) p → (ports_in Dead).state p ≡ Dead
     dies p h = ap (ports_in Dead).state (only port p h)
 
-pub dies_in_a_service : ServiceEndsPortDead
+pub dies_in_a_service : StoppedAndStuckPortAnswersPortDead
 dies_in_a_service = record {
   initial_state = first;
   earlier_calls = run2;

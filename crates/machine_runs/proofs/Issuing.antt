@@ -10,7 +10,7 @@ use Rattle.ata_types.specs.declared.request.Outcome.{Outcome}
 use Rattle.ata_types.specs.declared.request.Outcome.TheVariants.{Aborted, Ok}
 use Rattle.block_machine.specs.Ports.{Ports, Evidence}
 use Rattle.block_machine.specs.State.{Accepted, Pending, Machine}
-use Rattle.block_machine.specs.Steps.{Step, Accept, Issue, Touch, End, Age, WaitAgain, Answer, Release, Revoke, Unplug, Replace, Store, Load, IsEnabled, after_step, update_pending, newly_issued, touch, mark_ended, requeued, aged_pending}
+use Rattle.block_machine.specs.Steps.{Step, Accept, Issue, Touch, End, Age, WaitAgain, Answer, Release, Revoke, Unplug, PlugDisk, Store, Load, IsEnabled, after_step, update_pending, newly_issued, touch, mark_ended, requeued, aged_pending}
 use Rattle.block_machine.specs.Expected.{after, IsLegal, IsInitial}
 use Rattle.block_machine.specs.Confinement.{KeepsLimitsAndHoldsOwnFrames}
 use Rattle.block_machine.specs.Events.{AbstractState, CallRecord, AnswersAndWaitsLawful, EveryReadHoldsExpected, IsLawfulAnswer, IsRun, issues_id, abstract_after_all, steps_of}
@@ -77,11 +77,11 @@ came_older seen m ready sees e h =
     (r.0, r.1, sym (ap (λ (x : Pending). x.request.id.0) r.2 ∙ ap (λ (x : Accepted). x.id.0) (older_keeps ready r.0)), sym (ap seen r.2 ∙ sees r.0))
 
 -- how often it was issued
-abbrev issues_of : Pending → ℕ
-issues_of e = e.issue_count
+abbrev issues_newest_first : Pending → ℕ
+issues_newest_first e = e.issue_count
 
 -- a step that issues nothing
-counted_on : (m n : Machine) (id : RequestId) (k : ℕ) → n.next_id ≡ m.next_id → ((e : Pending) → Contains n.book e → CameSo issues_of m e) → IsCounted m id k → IsCounted n id (0 + k)
+counted_on : (m n : Machine) (id : RequestId) (k : ℕ) → n.next_id ≡ m.next_id → ((e : Pending) → Contains n.book e → CameSo issues_newest_first m e) → IsCounted m id k → IsCounted n id (0 + k)
 counted_on m n id k next from c =
     let most = c.most in
     record {
@@ -138,17 +138,17 @@ counted_step m (Accept r) id n may s limits c =
           (λ new. let mine = ap (λ (y : Pending). y.request.id.0) new in let issues = ap (λ (y : Pending). y.issue_count) new in let zero = c.none (omega (arith, next, mine, is)) in omega (arith, zero, issues))
           (append_in m.book _ x h);
     }
-counted_step m (Touch p i block) id n may s limits c = counted_on m (after_step m (Touch p i block)) id n refl (came_at issues_of m p.request.id (touch i) (λ _. refl) (λ _. refl)) c
-counted_step m (End p) id n may s limits c = counted_on m (after_step m (End p)) id n refl (came_at issues_of m p.request.id mark_ended (λ _. refl) (λ _. refl)) c
-counted_step m (WaitAgain p) id n may s limits c = counted_on m (after_step m (WaitAgain p)) id n refl (came_at issues_of m p.request.id requeued (λ _. refl) (λ _. refl)) c
-counted_step m (Age ready) id n may s limits c = counted_on m (after_step m (Age ready)) id n refl (came_older issues_of m ready (older_issues ready)) c
-counted_step m (Answer p o) id n may s limits c = counted_on m (after_step m (Answer p o)) id n refl (λ e h. came_same issues_of m e e (without_in p.request.id m.book e h).0 refl) c
-counted_step m (Revoke client number) id n may s limits c = counted_on m (after_step m (Revoke client number)) id n refl (λ e h. came_same issues_of m e e h refl) c
-counted_step m Release id n may s limits c = counted_on m (after_step m Release) id n refl (λ e h. came_same issues_of m e e h refl) c
-counted_step m (Unplug p) id n may s limits c = counted_on m (after_step m (Unplug p)) id n refl (λ e h. came_same issues_of m e e h refl) c
-counted_step m (Replace p i size disk) id n may s limits c = counted_on m (after_step m (Replace p i size disk)) id n refl (λ e h. came_same issues_of m e e h refl) c
-counted_step m (Store k f o b) id n may s limits c = counted_on m (after_step m (Store k f o b)) id n refl (λ e h. came_same issues_of m e e h refl) c
-counted_step m (Load k f o b) id n may s limits c = counted_on m (after_step m (Load k f o b)) id n refl (λ e h. came_same issues_of m e e h refl) c
+counted_step m (Touch p i block) id n may s limits c = counted_on m (after_step m (Touch p i block)) id n refl (came_at issues_newest_first m p.request.id (touch i) (λ _. refl) (λ _. refl)) c
+counted_step m (End p) id n may s limits c = counted_on m (after_step m (End p)) id n refl (came_at issues_newest_first m p.request.id mark_ended (λ _. refl) (λ _. refl)) c
+counted_step m (WaitAgain p) id n may s limits c = counted_on m (after_step m (WaitAgain p)) id n refl (came_at issues_newest_first m p.request.id requeued (λ _. refl) (λ _. refl)) c
+counted_step m (Age ready) id n may s limits c = counted_on m (after_step m (Age ready)) id n refl (came_older issues_newest_first m ready (older_issues ready)) c
+counted_step m (Answer p o) id n may s limits c = counted_on m (after_step m (Answer p o)) id n refl (λ e h. came_same issues_newest_first m e e (without_in p.request.id m.book e h).0 refl) c
+counted_step m (Revoke client number) id n may s limits c = counted_on m (after_step m (Revoke client number)) id n refl (λ e h. came_same issues_newest_first m e e h refl) c
+counted_step m Release id n may s limits c = counted_on m (after_step m Release) id n refl (λ e h. came_same issues_newest_first m e e h refl) c
+counted_step m (Unplug p) id n may s limits c = counted_on m (after_step m (Unplug p)) id n refl (λ e h. came_same issues_newest_first m e e h refl) c
+counted_step m (PlugDisk p i size disk) id n may s limits c = counted_on m (after_step m (PlugDisk p i size disk)) id n refl (λ e h. came_same issues_newest_first m e e h refl) c
+counted_step m (Store k f o b) id n may s limits c = counted_on m (after_step m (Store k f o b)) id n refl (λ e h. came_same issues_newest_first m e e h refl) c
+counted_step m (Load k f o b) id n may s limits c = counted_on m (after_step m (Load k f o b)) id n refl (λ e h. came_same issues_newest_first m e e h refl) c
 
 counted : (start : Machine) (h : List Step) (id : RequestId) → IsInitial start → IsLegal start h → IsCounted (after start h) id (count_by (issues_id id) h)
 counted start [] id s legal = record { most = omega arith; none = λ le. refl; here = λ e h same. absurd (nobody start s e (inl h)) }
@@ -246,7 +246,7 @@ balanced_step m (Answer p o) id issues waits may s b = balanced_on m (after_step
 balanced_step m (Revoke client number) id issues waits may s b = balanced_on m (after_step m (Revoke client number)) id issues waits refl (λ e h. came_same issued_of m e e h refl) b
 balanced_step m Release id issues waits may s b = balanced_on m (after_step m Release) id issues waits refl (λ e h. came_same issued_of m e e h refl) b
 balanced_step m (Unplug p) id issues waits may s b = balanced_on m (after_step m (Unplug p)) id issues waits refl (λ e h. came_same issued_of m e e h refl) b
-balanced_step m (Replace p i size disk) id issues waits may s b = balanced_on m (after_step m (Replace p i size disk)) id issues waits refl (λ e h. came_same issued_of m e e h refl) b
+balanced_step m (PlugDisk p i size disk) id issues waits may s b = balanced_on m (after_step m (PlugDisk p i size disk)) id issues waits refl (λ e h. came_same issued_of m e e h refl) b
 balanced_step m (Store k f o x) id issues waits may s b = balanced_on m (after_step m (Store k f o x)) id issues waits refl (λ e h. came_same issued_of m e e h refl) b
 balanced_step m (Load k f o x) id issues waits may s b = balanced_on m (after_step m (Load k f o x)) id issues waits refl (λ e h. came_same issued_of m e e h refl) b
 

@@ -8,7 +8,7 @@ use Rattle.ata_types.specs.declared.PortState.TheVariants.{Ready}
 use Rattle.ata_types.specs.declared.request.RequestId.{RequestId}
 use Rattle.block_machine.specs.declared.due.QueueMode.{QueueMode}
 use Rattle.block_machine.specs.declared.due.Unanswered.{Unanswered}
-use Rattle.block_machine.specs.DueRequests.{NoneDue, unblocked_ahead_count, waits_for, is_unblocked, is_earlier_on_port, is_plain, issued_count}
+use Rattle.block_machine.specs.DueRequests.{NoneDue, unblocked_ahead_count, waits_for, is_waiting_and_unblocked, is_earlier_on_port, is_plain, issued_count}
 use Rattle.block_machine.specs.Ports.{Ports, Evidence, PortsWellFormed, SamePorts, IsAfterStuckReset}
 use Rattle.block_machine.specs.State.{Pending, Machine, unanswered}
 use Rattle.block_machine.specs.Steps.{Step, Accept, Issue, Touch, End, Age, WaitAgain, Answer, Store, Load, after_step, update_pending, touch, mark_ended}
@@ -179,7 +179,7 @@ lone_is_issued first run e r h ready alone = true_from_ne_false e.issued due
     due waits =
         let alone_there = none_any (waits_for mode (unanswered e)) (map unanswered book)
         (none (waits_for mode (unanswered e)) (held_none (e.request.port.0 == e.request.port.0) (is_plain mode e.request.asked.op) e.issued (nat_lt e.request.id.0 e.request.id.0) _ waits later)) in
-        let first_there : unblocked_ahead_count mode (map unanswered book) (unanswered e) ≡ 0 = none_counted (λ other. is_earlier_on_port other (unanswered e) && is_unblocked mode (map unanswered book) other) (map unanswered book)
+        let first_there : unblocked_ahead_count mode (map unanswered book) (unanswered e) ≡ 0 = none_counted (λ other. is_earlier_on_port other (unanswered e) && is_waiting_and_unblocked mode (map unanswered book) other) (map unanswered book)
         (none _ (not_earlier (e.request.port.0 == e.request.port.0) (nat_lt e.request.id.0 e.request.id.0) _ later)) in
         let free_there : issued_count (map unanswered book) e.request.port ≡ 0 = none_counted (λ (other : Unanswered). other.port.0 == e.request.port.0 && other.issued) (map unanswered book)
         (none _ (not_issued (e.request.port.0 == e.request.port.0) e.issued waits)) in

@@ -18,7 +18,7 @@ use Rattle.block_machine.proofs.Sound.{Sound}
 use Rattle.block_machine.proofs.Runs.{traced, nobody}
 use Rattle.block_machine.proofs.Accepts.{living_accepted}
 use Rattle.block_machine.proofs.Counting.{count_cons, count_append, count_map}
-use Rattle.machine_runs.specs.AnswerOrigins.{WasUnansweredBefore, WasSubmittedAndAccepted}
+use Rattle.machine_runs.specs.AnswerOrigins.{WasUnansweredBefore, WasSubmittedAndGivenId}
 use Rattle.machine_runs.proofs.CallSteps.{Came, came, Since, IsAccepted, since, is_submit, none_accepted, all_fit, accepted_asked}
 use Rattle.block_machine.proofs.EventLemmas.{run_starts, run_legal, step_of_run}
 
@@ -202,17 +202,17 @@ came_from first past event e r h = ⊎_elim
       before = s.old;
       is_in_book = s.here;
       same_request = s.same;
-      was_issued_before_or_now = λ t. ⊎_elim (λ anew. inl anew.0) (λ kept. inr kept.1) (s.issued t);
+      if_issued_then_before_or_now = λ t. ⊎_elim (λ anew. inl anew.0) (λ kept. inr kept.1) (s.issued t);
     }))
     (λ (a : IsAccepted event.steps e). inr
     (accepts_asked e.request event.call event.result (abstract_after_all first past) event.evidence event.steps event.ports _ r.1.steps_are_of_call r.1.result_matches_steps a.0))
     (since (abstract_after_all first past).machine event.steps e h)
 
-was_asked : {D : Type 0} (first : AbstractState) (run : List (CallRecord D)) (e : Pending) → IsRun first run → Contains (abstract_after_all first run).machine.book e → WasSubmittedAndAccepted e.request run
+was_asked : {D : Type 0} (first : AbstractState) (run : List (CallRecord D)) (e : Pending) → IsRun first run → Contains (abstract_after_all first run).machine.book e → WasSubmittedAndGivenId e.request run
 was_asked first [] e r h = absurd (nobody first.machine r.0 e (inl h))
 was_asked first (event ∷ past) e r h = ⊎_elim
     (λ (c : WasUnansweredBefore (abstract_after_all first past).machine event.steps e). inr
-    (subst (λ (x : Accepted). WasSubmittedAndAccepted x past) c.same_request (was_asked first past c.before r.0 c.is_in_book)))
+    (subst (λ (x : Accepted). WasSubmittedAndGivenId x past) c.same_request (was_asked first past c.before r.0 c.is_in_book)))
     (λ asked. inl asked)
     (came_from first past event e r h)
 
@@ -224,7 +224,7 @@ accepted_in start (Accept new ∷ steps) past r (inr w) = ⊎_elim (λ i. inl (c
 accepted_in start (step ∷ steps) past r (inl c) = absurd c.0
 accepted_in start (step ∷ steps) past r (inr w) = accepted_in start steps past r w
 
-pub law_accepted_was_asked : {D : Type 0} (first : AbstractState) (run : List (CallRecord D)) (r : Accepted) → IsRun first run → WasAccepted first.machine (steps_of run) r → WasSubmittedAndAccepted r run
+pub law_accepted_was_asked : {D : Type 0} (first : AbstractState) (run : List (CallRecord D)) (r : Accepted) → IsRun first run → WasAccepted first.machine (steps_of run) r → WasSubmittedAndGivenId r run
 law_accepted_was_asked first [] r run w = w
 law_accepted_was_asked first (event ∷ past) r run w = ⊎_elim
     (λ (i : Contains (accepts_of event.steps) r). inl (accepts_asked r event.call event.result (abstract_after_all first past) event.evidence event.steps event.ports _ run.1.steps_are_of_call run.1.result_matches_steps i))
@@ -232,7 +232,7 @@ law_accepted_was_asked first (event ∷ past) r run w = ⊎_elim
     (accepted_in first.machine event.steps (steps_of past) r w)
 
 -- so a submit of its client gave its id
-asked_given : {D : Type 0} (r : Accepted) (run : List (CallRecord D)) → WasSubmittedAndAccepted r run → WasGivenId r.id r.asked.client run
+asked_given : {D : Type 0} (r : Accepted) (run : List (CallRecord D)) → WasSubmittedAndGivenId r run → WasGivenId r.id r.asked.client run
 asked_given r [] w = w
 asked_given r (event ∷ past) (inl w) = inl (r.asked, w.0, w.1, refl)
 asked_given r (event ∷ past) (inr w) = inr (asked_given r past w)
@@ -266,7 +266,7 @@ answers_in (step ∷ before) a h = contains_there step before (Answer a.0 a.1) (
 
 -- the request that a reply tells of
 abbrev pub IsRepliedBy : {D : Type 0} → Reply → CallRecord D → List (CallRecord D) → Type 0
-IsRepliedBy reply event past = (e : Pending) × Contains event.steps (Answer e reply.outcome) × (e.request.id ≡ reply.id) × (e.request.asked.client ≡ reply.client) × WasSubmittedAndAccepted e.request past
+IsRepliedBy reply event past = (e : Pending) × Contains event.steps (Answer e reply.outcome) × (e.request.id ≡ reply.id) × (e.request.asked.client ≡ reply.client) × WasSubmittedAndGivenId e.request past
 
 pub law_replied_was_asked : {D : Type 0} (first : AbstractState) (past : List (CallRecord D)) (event : CallRecord D) (reply : Reply) → IsRun first (event ∷ past) → Contains (replies_of event.result) reply
     → IsRepliedBy reply event past
@@ -275,7 +275,7 @@ law_replied_was_asked first past event reply r h = ⊎_elim
     let a = map_in reply_of t.0.answers reply (subst (λ (xs : List Reply). Contains xs reply) t.0.replies_are_of_answers h) in
     let i = Contains-permutation t.0.answers (answers_of event.steps) a.0 t.0.is_permutation a.1 in
     let waited = was_open (abstract_after_all first past).machine event.steps a.0 r.1.steps_are_enabled (none_accepted event.call event.steps t.1 (all_fit event.call event.ports event.steps r.1.steps_are_of_call)) i in
-    let asked : WasSubmittedAndAccepted a.0.0.request past = subst (λ (x : Accepted). WasSubmittedAndAccepted x past) waited.2 (was_asked first past waited.0 r.0 waited.1) in
+    let asked : WasSubmittedAndGivenId a.0.0.request past = subst (λ (x : Accepted). WasSubmittedAndGivenId x past) waited.2 (was_asked first past waited.0 r.0 waited.1) in
     let told : IsRepliedBy (reply_of a.0) event past = (a.0.0, answers_in event.steps a.0 i, refl, refl, asked) in
     subst (λ (x : Reply). IsRepliedBy x event past) (sym a.2) told)
     (λ e. absurd (contains_none reply (subst (λ (xs : List Reply). Contains xs reply) e h)))

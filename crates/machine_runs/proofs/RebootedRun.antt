@@ -53,12 +53,12 @@ again m n rows present few = record {
   result_matches_steps = record {
     replies_match = none_told (retry n).steps refl;
     releases_once = record { later = Issue mode (requeued (tried n)) ∷ WaitAgain (tried n) ∷ []; earlier = []; release_splits_steps = refl; earlier_are_by_device = tt; no_other_release = refl };
-    unplugged_empties_port = none_unplugged (retry n).steps (abstract_after (before m n) (retry n)).machine refl;
+    unplugged_outcome_empties_port = none_unplugged (retry n).steps (abstract_after (before m n) (retry n)).machine refl;
     unplugged_lost_disk = finds_none (retry n).steps ports ports refl;
     none_is_due_where_ready = λ p _. none_due p;
     empty_unless_ready = λ p. emptied_of (tried (suc n) ∷ waits ∷ []) (of_two (tried (suc n)) waits (λ e. e.request.port ≡ port) refl refl) p;
     port_may_become = λ p. becomes p;
-    none_stays_issued = λ p e h _ issued. of_two (tried (suc n)) waits (λ x. x.issued ≡ true → IsIssuedIn x.request.id (retry n).steps) (λ _. refl) (λ t. absurd (false≢true t)) e h issued;
+    issued_are_issued_in_steps = λ p e h _ issued. of_two (tried (suc n)) waits (λ x. x.issued ≡ true → IsIssuedIn x.request.id (retry n).steps) (λ _. refl) (λ t. absurd (false≢true t)) e h issued;
     served_are_stopped = λ p. stopped_here p;
     shown_disk_was_in_or_came = λ p _. inl (present p);
   };
@@ -78,12 +78,12 @@ happens6 = record {
   result_matches_steps = record {
     replies_match = one_told (tried 4) outcome.Aborted abort.steps refl (reply_of (tried 4, outcome.Aborted)) refl;
     releases_once = record { later = Issue mode waits ∷ Answer (tried 4) outcome.Aborted ∷ []; earlier = []; release_splits_steps = refl; earlier_are_by_device = tt; no_other_release = refl };
-    unplugged_empties_port = none_unplugged abort.steps (abstract_after (abstract_after_all first run5) abort).machine refl;
+    unplugged_outcome_empties_port = none_unplugged abort.steps (abstract_after (abstract_after_all first run5) abort).machine refl;
     unplugged_lost_disk = finds_none abort.steps ports ports refl;
     none_is_due_where_ready = λ p _. one_issued (unanswered (newly_issued waits)) refl p;
     empty_unless_ready = λ p. emptied_of (newly_issued waits ∷ []) (only_one (newly_issued waits) (λ x. x.request.port ≡ port) refl) p;
     port_may_become = λ p. becomes p;
-    none_stays_issued = λ p e h _ _. only_one (newly_issued waits) (λ x. IsIssuedIn x.request.id abort.steps) refl e h;
+    issued_are_issued_in_steps = λ p e h _ _. only_one (newly_issued waits) (λ x. IsIssuedIn x.request.id abort.steps) refl e h;
     served_are_stopped = λ p. stopped_here p;
     shown_disk_was_in_or_came = λ p _. inl refl;
   };

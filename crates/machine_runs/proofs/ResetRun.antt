@@ -103,11 +103,11 @@ ticks old young new same = record {
   each_port_is_same_or_restarts = λ p. inl (not_hung old young p, same p);
   only_timed_out_wait_again = λ e h. absurd (false≢true (only_age (WaitAgain e) h));
   only_timed_out_are_answered = λ e o h. absurd (false≢true (only_age (Answer e o) h));
-  answers_ended = λ p hung. absurd (not_hung old young p hung);
+  answers_ok_what_had_ended = λ p hung. absurd (not_hung old young p hung);
   timed_out_iff_stopped_or_stuck = λ p. (λ hung. absurd (not_hung old young p hung), λ i. absurd (⊎_elim (contains_none p) (contains_none p) i));
   unplugged_lost_disk = finds_none (Age aging ∷ []) old.ports new.ports refl;
   shown_disk_was_in_or_came = λ p hung. absurd (not_hung old young p hung);
-  none_stays_issued = λ p hung. absurd (not_hung old young p hung);
+  issued_are_issued_in_steps = λ p hung. absurd (not_hung old young p hung);
 }
 
 pub happens2 : Happens (abstract_after_all first run1) (tick [])
@@ -122,7 +122,7 @@ happens2 = record {
     replies_match = none_told (Age aging ∷ []) refl;
     ages_once = ages_once [] refl;
     restarts_timed_out = ticks (abstract_after_all first run1) (only_one (aged 0) (λ e. e.age < 2) (omega arith)) (abstract_after_all first run2) (λ p. (refl, refl, refl, refl, refl, refl));
-    unplugged_empties_port = none_unplugged (Age aging ∷ []) (abstract_after_all first run2).machine refl;
+    unplugged_outcome_empties_port = none_unplugged (Age aging ∷ []) (abstract_after_all first run2).machine refl;
     none_is_due_where_ready = λ p _. one_issued (unanswered (aged 1)) refl p;
     was_ready_empty_unless_ready = λ p _ ne e h. emptied_one (aged 1) refl p ne e h;
   };
@@ -140,7 +140,7 @@ happens3 = record {
     replies_match = none_told (Age aging ∷ []) refl;
     ages_once = ages_once [] refl;
     restarts_timed_out = ticks (abstract_after_all first run2) (only_one (aged 1) (λ e. e.age < 2) (omega arith)) (abstract_after_all first run3) (λ p. (refl, refl, refl, refl, refl, refl));
-    unplugged_empties_port = none_unplugged (Age aging ∷ []) (abstract_after_all first run3).machine refl;
+    unplugged_outcome_empties_port = none_unplugged (Age aging ∷ []) (abstract_after_all first run3).machine refl;
     none_is_due_where_ready = λ p _. one_issued (unanswered (aged 2)) refl p;
     was_ready_empty_unless_ready = λ p _ ne e h. emptied_one (aged 2) refl p ne e h;
   };
@@ -178,7 +178,7 @@ restarted = record {
       (λ x q. absurd (none_some x q))
       (WaitAgain e) h e refl;
   only_timed_out_are_answered = λ e o h. absurd (false≢true (sym (each_step (λ step. is_answer step ≡ false) refl refl refl (Answer e o) h)));
-  answers_ended = λ p _. none_ended (abstract_after_all first run3).machine restarting.steps refl p;
+  answers_ok_what_had_ended = λ p _. none_ended (abstract_after_all first run3).machine restarting.steps refl p;
   timed_out_iff_stopped_or_stuck = λ p. (
     λ h. inl (contains_here port [] p (ready_port p h.ready)),
     λ i. ⊎_elim
@@ -188,7 +188,7 @@ restarted = record {
   );
   unplugged_lost_disk = finds_none restarting.steps ports ports refl;
   shown_disk_was_in_or_came = λ p _ _. inl refl;
-  none_stays_issued = λ p _ e h _ _. ⊎_elim
+  issued_are_issued_in_steps = λ p _ e h _ _. ⊎_elim
       (λ (same : e ≡ again). subst (λ (y : Pending). IsIssuedIn y.request.id restarting.steps) (sym same) refl)
       (λ n. absurd (contains_none e n))
       (contains_cases again [] e h);
@@ -215,7 +215,7 @@ happens4 = record {
     replies_match = none_told restarting.steps refl;
     ages_once = ages_once restarts refl;
     restarts_timed_out = restarted;
-    unplugged_empties_port = none_unplugged restarting.steps (abstract_after_all first run4).machine refl;
+    unplugged_outcome_empties_port = none_unplugged restarting.steps (abstract_after_all first run4).machine refl;
     none_is_due_where_ready = λ p _. one_issued (unanswered again) refl p;
     was_ready_empty_unless_ready = λ p _ ne e h. emptied_one again refl p ne e h;
   };
@@ -269,10 +269,10 @@ happens6 = record {
   result_matches_steps = record {
     replies_match = one_told again outcome.PortDead service.steps refl (reply_of (again, outcome.PortDead)) refl;
     dead_ports_tell_only_port_dead = told_dead;
-    unplugged_empties_port = none_unplugged service.steps (abstract_after_all first run6).machine refl;
+    unplugged_outcome_empties_port = none_unplugged service.steps (abstract_after_all first run6).machine refl;
     none_is_due_where_ready = λ p ready. dead_not_ready p ready;
     empty_unless_ready = λ p ne e h. absurd (contains_none e h);
-    answers_ended = λ p _. none_ended (abstract_after_all first run5).machine service.steps refl p;
+    answers_ok_what_had_ended = λ p _. none_ended (abstract_after_all first run5).machine service.steps refl p;
     port_is_serviced = λ p. (λ _. (refl, refl, refl, refl, refl, refl), λ alive. (record { served_is_unchanged = refl; dead_exactly_if_stuck = (λ dead. absurd (alive dead), λ h. absurd (contains_none p h)); disk_is_remembered_unless_ready = λ _. (refl, refl) }, inl (refl, refl, refl, refl, refl, refl)));
     shown_disk_was_in_or_came = λ p. inl (refl, refl, refl, refl, refl, refl);
   };
@@ -289,12 +289,12 @@ happens7 = record {
   result_matches_steps = record {
     replies_match = none_told reset.steps refl;
     releases_once = record { later = []; earlier = []; release_splits_steps = refl; earlier_are_by_device = tt; no_other_release = refl };
-    unplugged_empties_port = none_unplugged reset.steps (abstract_after_all first run7).machine refl;
+    unplugged_outcome_empties_port = none_unplugged reset.steps (abstract_after_all first run7).machine refl;
     unplugged_lost_disk = finds_none reset.steps (ports_in Dead) ports refl;
     none_is_due_where_ready = λ p _. none_there p;
     empty_unless_ready = λ p ne e h. absurd (contains_none e h);
     port_may_become = λ p. record { served_is_unchanged = refl; dead_exactly_if_stuck = (λ e. none_dead p e, λ h. absurd (contains_none p h)); disk_is_remembered_unless_ready = λ _. (refl, refl) };
-    none_stays_issued = λ p e h. absurd (contains_none e h);
+    issued_are_issued_in_steps = λ p e h. absurd (contains_none e h);
     served_are_stopped = λ p. stopped_here p;
     shown_disk_was_in_or_came = λ p _. inl refl;
   };

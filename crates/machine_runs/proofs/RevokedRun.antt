@@ -6,7 +6,7 @@ use Rattle.ata_types.specs.declared.grant.GrantRow.{GrantRow}
 use Rattle.ata_types.specs.declared.request.Outcome.TheVariants as outcome
 use Rattle.ata_types.specs.declared.request.Reply.{Reply}
 use Rattle.block_machine.specs.Rules.{HasRow, IsSameGrantName}
-use Rattle.block_machine.specs.State.{Pending, frame_at, unanswered}
+use Rattle.block_machine.specs.State.{Pending, nth_frame, unanswered}
 use Rattle.block_machine.specs.Steps.{Step, Touch, End, Answer, Revoke, newly_accepted, newly_issued, touch}
 use Rattle.block_machine.specs.Events.{RevokeOf, Service, Replied, WasRevoked, CallRecord, Happens, reply_of, abstract_after_all}
 use Rattle.machine_runs.specs.RevocationRuns.{RevokesWhileIssued}
@@ -117,10 +117,10 @@ happens_failed = record {
   result_matches_steps = record {
     replies_match = one_told running outcome.Revoked failed.steps refl (reply_of (running, outcome.Revoked)) refl;
     dead_ports_tell_only_port_dead = λ e o i dead. none_dead e.request.port dead;
-    unplugged_empties_port = none_unplugged failed.steps (abstract_after_all first (failed ∷ run3)).machine refl;
+    unplugged_outcome_empties_port = none_unplugged failed.steps (abstract_after_all first (failed ∷ run3)).machine refl;
     none_is_due_where_ready = λ p _. none_there p;
     empty_unless_ready = λ p ne e h. absurd (contains_none e h);
-    answers_ended = λ p _. none_ended (abstract_after_all first run3).machine failed.steps refl p;
+    answers_ok_what_had_ended = λ p _. none_ended (abstract_after_all first run3).machine failed.steps refl p;
     port_is_serviced = λ p. (λ dead. none_dead p dead, λ _. (stay_ready failure refl p, inl (refl, refl, refl, refl, refl, refl)));
     shown_disk_was_in_or_came = λ p. inl (refl, refl, refl, refl, refl, refl);
   };
@@ -163,7 +163,7 @@ is_taken_back = record {
   issued_once = refl;
   tells = refl;
   book_becomes_empty = refl;
-  frame = frame_at write.asked.frames.items 0;
+  frame = nth_frame write.asked.frames.items 0;
   frames_are = refl;
   frame_is_given_back = refl;
 }

@@ -17,7 +17,7 @@ use Rattle.block_machine.specs.Ports.{Ports, Evidence, MayBecome, SamePorts, Por
 use Rattle.block_machine.specs.State.{Accepted, Pending, Machine}
 use Rattle.block_machine.specs.Steps.{Step, Issue, Age, Touch, End, WaitAgain, Answer, Release, MayAccept, touch, mark_ended}
 use Rattle.block_machine.specs.Expected.{after}
-use Rattle.block_machine.specs.Events.{AbstractState, AbstractCall, AllEnabled, AreStepsOfCall, EmptyUnlessReady, Submit, StoreAt, LoadAt, Service, Tick, Reset, State, StepDevice, RevokeOf, AbstractCallResult, Submitted, Stored, Loaded, Replied, WasReset, WasRevoked, PortStateShown, Stepped, CallRecord, ResultMatchesSteps, Happens, AnswersAndWaitsLawful, AgesReadyPortsFirstAndOnce, RestartsTimedOut, ReleasesOnceBeforeServerSteps, IssueIsLastOfRequest, IsRun, IsStillStuck, IsStuckAfterCall, accepts_of, is_age, is_release, issues_id, handles_id, abstract_after_all, admission_context_of, abstract_after}
+use Rattle.block_machine.specs.Events.{AbstractState, AbstractCall, AllEnabled, AreStepsOfCall, EmptyUnlessReady, Submit, StoreAt, LoadAt, Service, Tick, Reset, State, StepDevice, RevokeOf, AbstractCallResult, Submitted, Stored, Loaded, Replied, WasReset, WasRevoked, PortStateShown, Stepped, CallRecord, ResultMatchesSteps, Happens, AnswersAndWaitsLawful, AgesReadyPortsFirstAndOnce, RestartsTimedOut, ReleasesOnceBeforeServerSteps, IssueIsLastOfRequest, IsRun, LastServiceOrResetIsStuckReset, LastServiceOrResetIsStuckResetAfter, accepts_of, is_age, is_release, issues_id, issues_requeues_or_answers_id, abstract_after_all, admission_context_of, abstract_after}
 use Rattle.block_machine.proofs.Members.{contains_none, contains_cases, map_in}
 use Rattle.block_machine.proofs.Keeps.{at_keeps}
 use Rattle.block_machine.specs.Confinement.{IsGranted}
@@ -28,7 +28,7 @@ use Rattle.machine_runs.proofs.CallSteps.{Since, IsAccepted, since, accepted_new
 
 -- A call issues a request once at most.
 
-issuing_handles : (id : RequestId) (step : Step) → issues_id id step ≡ true → handles_id id step ≡ true
+issuing_handles : (id : RequestId) (step : Step) → issues_id id step ≡ true → issues_requeues_or_answers_id id step ≡ true
 issuing_handles id (Issue mode e) t = t
 issuing_handles id _ t = absurd (false≢true t)
 
@@ -54,12 +54,12 @@ law_issued_at_most_once_a_call old event id h = (issued_once id event.steps h.is
 
 -- What a call that was answered may have done to ports and book. `was`: a reset was stuck before it, and is so still.
 data Kind {D : Type 0} (ask : AbstractCall D) (said : AbstractCallResult) (old : AbstractState) (evidence : Evidence) (steps : List Step) (new : AbstractState) (was : Type 0) : Type 0 where
-  Leaves : is_tick ask ≡ false → is_reset ask ≡ false → SamePorts old.ports new.ports → (was → IsStuckAfterCall ask said was) → Kind ask said old evidence steps new was
+  Leaves : is_tick ask ≡ false → is_reset ask ≡ false → SamePorts old.ports new.ports → (was → LastServiceOrResetIsStuckResetAfter ask said was) → Kind ask said old evidence steps new was
   Serves : is_tick ask ≡ false → is_reset ask ≡ false → ((port : Port) → EmptyUnlessReady new port × IsServiced old.ports evidence new.ports port) → Kind ask said old evidence steps new was
   Ticks : is_reset ask ≡ false → AgesReadyPortsFirstAndOnce old.ports steps → RestartsTimedOut old evidence steps new → ((port : Port) → old.ports.state port ≡ Ready → EmptyUnlessReady new port)
-      → (was → IsStuckAfterCall ask said was) → Kind ask said old evidence steps new was
+      → (was → LastServiceOrResetIsStuckResetAfter ask said was) → Kind ask said old evidence steps new was
   Resets : is_tick ask ≡ false → ReleasesOnceBeforeServerSteps steps → ((port : Port) → EmptyUnlessReady new port × MayBecome old.ports evidence new.ports port) → Kind ask said old evidence steps new was
-  Sticks : is_tick ask ≡ false → ((port : Port) → IsAfterStuckReset old.ports evidence new.ports port) → IsStuckAfterCall ask said was → Kind ask said old evidence steps new was
+  Sticks : is_tick ask ≡ false → ((port : Port) → IsAfterStuckReset old.ports evidence new.ports port) → LastServiceOrResetIsStuckResetAfter ask said was → Kind ask said old evidence steps new was
 
 kind : {D : Type 0} (ask : AbstractCall D) (said : AbstractCallResult) (old : AbstractState) (evidence : Evidence) (steps : List Step) (new : AbstractState) (was : Type 0) → ResultMatchesSteps ask said old evidence steps new → Kind ask said old evidence steps new was
 kind (Submit r) (Submitted (Ok id)) old evidence steps new was a = Leaves refl refl a.2 (λ w. w)
@@ -156,7 +156,7 @@ placed_served ports port was fit placed = true_from_ne_false _ (λ f. ⊎_elim
     (λ (dead : (ports.state port ≡ Dead) × was). false≢true (ap is_dead (sym (fit.unserved_are_absent port f)) ∙ ap is_dead dead.0)) placed)
 
 placed_event : {D : Type 0} (ask : AbstractCall D) (said : AbstractCallResult) (old : AbstractState) (evidence : Evidence) (steps : List Step) (new : AbstractState) (was : Type 0) (e : Pending) → PortsWellFormed old.ports
-    → Contains new.machine.book e → IsPlaced old.ports e.request.port was → Kind ask said old evidence steps new was → IsPlaced new.ports e.request.port (IsStuckAfterCall ask said was)
+    → Contains new.machine.book e → IsPlaced old.ports e.request.port was → Kind ask said old evidence steps new was → IsPlaced new.ports e.request.port (LastServiceOrResetIsStuckResetAfter ask said was)
 placed_event ask said old evidence steps new was e fit here placed (Leaves t r same keep) = ⊎_elim
     (λ ready. inl ((same e.request.port).1 ∙ ready)) (λ dead. inr ((same e.request.port).1 ∙ dead.0, keep dead.1)) placed
 placed_event ask said old evidence steps new was e fit here placed (Serves t r ports) = inl (emptied_ready new e here (ports e.request.port).0)
@@ -171,13 +171,13 @@ placed_event ask said old evidence steps new was e fit here placed (Resets t rel
 placed_event ask said old evidence steps new was e fit here placed (Sticks t ports keep) = inr (((ports e.request.port).1 (placed_served old.ports e.request.port was fit placed)).0, keep)
 
 pub law_unanswered_on_ready_or_stuck : {D : Type 0} (first : AbstractState) (run : List (CallRecord D)) (e : Pending) → IsRun first run → Contains (abstract_after_all first run).machine.book e
-    → ((abstract_after_all first run).ports.state e.request.port ≡ Ready) ⊎ (((abstract_after_all first run).ports.state e.request.port ≡ Dead) × IsStillStuck run)
+    → ((abstract_after_all first run).ports.state e.request.port ≡ Ready) ⊎ (((abstract_after_all first run).ports.state e.request.port ≡ Dead) × LastServiceOrResetIsStuckReset run)
 law_unanswered_on_ready_or_stuck first [] e r h = absurd (nobody first.machine r.0 e (inl h))
 law_unanswered_on_ready_or_stuck first (event ∷ past) e r h = ⊎_elim
-    (λ (s : Since (abstract_after_all first past).machine event.steps e). placed_event event.call event.result (abstract_after_all first past) event.evidence event.steps (abstract_after_all first (event ∷ past)) (IsStillStuck past) e
+    (λ (s : Since (abstract_after_all first past).machine event.steps e). placed_event event.call event.result (abstract_after_all first past) event.evidence event.steps (abstract_after_all first (event ∷ past)) (LastServiceOrResetIsStuckReset past) e
     (run_fit first past r.0) h
-    (subst (λ (x : Accepted). IsPlaced (abstract_after_all first past).ports x.port (IsStillStuck past)) s.same (law_unanswered_on_ready_or_stuck first past s.old r.0 s.here))
-    (kind event.call event.result (abstract_after_all first past) event.evidence event.steps (abstract_after_all first (event ∷ past)) (IsStillStuck past) r.1.result_matches_steps))
+    (subst (λ (x : Accepted). IsPlaced (abstract_after_all first past).ports x.port (LastServiceOrResetIsStuckReset past)) s.same (law_unanswered_on_ready_or_stuck first past s.old r.0 s.here))
+    (kind event.call event.result (abstract_after_all first past) event.evidence event.steps (abstract_after_all first (event ∷ past)) (LastServiceOrResetIsStuckReset past) r.1.result_matches_steps))
     (λ (a : IsAccepted event.steps e). let w = welcomes (abstract_after_all first past) event r.1 e.request a.0 in inl ((w.same e.request.port).1 ∙ w.ready))
     (since (abstract_after_all first past).machine event.steps e h)
 
@@ -250,7 +250,7 @@ young {D} ask said old evidence steps new e fit k here t all from = by k
         (λ anew. let le = anew.1 in omega (arith, le, once))
         (λ kept. ⊎_elim
         (λ (less : s.old.age < 2). let le = kept.2 in omega (arith, le, once, less))
-        (λ (more : 2 ≤ s.old.age). absurd (false≢true (sym kept.0 ∙ hung.none_stays_issued e.request.port
+        (λ (more : 2 ≤ s.old.age). absurd (false≢true (sym kept.0 ∙ hung.issued_are_issued_in_steps e.request.port
         (record { ready = ready; pending = s.old; is_in_book = s.here; port_is = ap (λ (x : Accepted). x.port) s.same; issued = kept.1; old_enough = more }) e here refl t)))
         (cases_lt s.old.age 2))
         (s.issued t))
@@ -353,8 +353,8 @@ was_dead ask said old evidence steps new port fit dead (Resets t releases ports)
 was_dead ask said old evidence steps new port fit dead (Sticks t ports keep) =
     inr (((ports port).1 (sym (ports port).0 ∙ placed_served new.ports port (Unit {0}) fit (inr (dead, tt)))).1)
 
-pub law_dead_ports_were_stuck : {D : Type 0} (old : AbstractState) (event : CallRecord D) (port : Port) → Happens old event → event.ports.state port ≡ Dead
+pub law_ports_die_only_when_stuck : {D : Type 0} (old : AbstractState) (event : CallRecord D) (port : Port) → Happens old event → event.ports.state port ≡ Dead
     → (old.ports.state port ≡ Dead) ⊎ Contains event.evidence.stuck port
-law_dead_ports_were_stuck old event port h dead =
+law_ports_die_only_when_stuck old event port h dead =
     was_dead event.call event.result old event.evidence event.steps (abstract_after old event) port h.ports_are_well_formed dead
     (kind event.call event.result old event.evidence event.steps (abstract_after old event) (Unit {0}) h.result_matches_steps)

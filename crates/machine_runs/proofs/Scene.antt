@@ -5,6 +5,7 @@ use Rattle.std.specs.List.{Contains, list_any}
 use Rattle.std.specs.List.Sorted.{IsPermutation}
 use Rattle.std.proofs.lemmas.Option.{slice_get_within, get_or_from_slice_get}
 use Rattle.std.proofs.lemmas.List.Sorted.{IsPermutation-refl}
+use Rattle.ata_types.specs.declared.limits.TheConstants.{MOST_UNANSWERED_OF_A_CLIENT}
 use Rattle.ata_types.specs.declared.Port.{Port}
 use Rattle.ata_types.specs.declared.PortState.{PortState}
 use Rattle.ata_types.specs.declared.PortState.TheVariants.{Absent, Ready, Unfit, Dead}
@@ -27,7 +28,7 @@ use Rattle.block_machine.specs.DueRequests.{NoneDue, is_flush}
 use Rattle.block_machine.specs.State.{Accepted, Pending, Machine, block_of, unanswered}
 use Rattle.block_machine.specs.Steps.{Step, Touch, End, Answer, newly_accepted, newly_issued, touch, mark_ended, MayAccept}
 use Rattle.block_machine.specs.Ports.{Ports, Evidence, PortsWellFormed, SamePort, IsStoppedOrStuck, MayBecome, IsServiced}
-use Rattle.block_machine.specs.Events.{AbstractState, AbstractCall, AbstractCallResult, CallRecord, ShowsDisk, TimesOutAtTick, AnswersEnded, UnpluggedEmptiesPort, UnpluggedPortIsNotDeadNorReadyWithSameDisk, AnswersService, RepliesMatch, admission_context_of, answers_of, reply_of}
+use Rattle.block_machine.specs.Events.{AbstractState, AbstractCall, AbstractCallResult, CallRecord, ShowsDisk, TimesOutAtTick, AnswersOkWhatHadEnded, UnpluggedOutcomeEmptiesPort, UnpluggedOutcomeExcludesDeadAndSameSerialAndSize, AnswersService, RepliesMatch, admission_context_of, answers_of, reply_of}
 use Rattle.block_machine.proofs.Members.{contains_none, contains_here, contains_cases, append_in, none_of}
 use Rattle.block_machine.proofs.Counting.{issued_not_due}
 use Rattle.block_machine.proofs.Setting.{client, on, port, frame, row, two_rows, request, empty, its_row, is_trim, IsFit, acceptable}
@@ -90,7 +91,7 @@ pub record IsQuiet (p : ℕ) (m : AbstractState) : Type 0 where
   pub mine : Contains two_rows (row p)
   pub ready : m.ports.state (on p) ≡ Ready
   pub size : m.ports.sectors (on p) ≡ 200
-  pub room : (admission_context_of m).unanswered_count client < 16
+  pub room : (admission_context_of m).unanswered_count client < MOST_UNANSWERED_OF_A_CLIENT
   pub few : m.machine.next_id ≤ 5
 
 pub row_zero : Contains two_rows (row 0)
@@ -160,7 +161,7 @@ new p m a q fit next here held = record {
   an_id_is_left = let few = q.few in omega (arith, few);
   breaks_no_rule = λ rule h. acceptable p (admission_context_of m) a.asked fit (refused.Rule rule) h;
   port_is_of_its_row = λ r h. here ∙ ap (λ (x : GrantRow). x.port) (sym (its_row r (subst (λ (xs : List GrantRow). Contains xs r) q.rows h.0) ∙ ap row (h.1.1 ∙ fit.grant)));
-  client_has_room = let none = fit.few in subst (λ c. (admission_context_of m).unanswered_count c < 16) (sym fit.client_is) none;
+  client_has_room = let none = fit.few in subst (λ c. (admission_context_of m).unanswered_count c < MOST_UNANSWERED_OF_A_CLIENT) (sym fit.client_is) none;
   blocks_are_in_memory = held;
 }
 
@@ -324,13 +325,13 @@ is_unplugged _ = false
 pub never_unplugged : {A : Type 0} (steps : List Step) → list_any is_unplugged steps ≡ false → (e : Pending) → Contains steps (Answer e outcome.Unplugged) → A
 never_unplugged steps none e h = absurd (false≢true (sym (none_of is_unplugged steps (Answer e outcome.Unplugged) none h)))
 
-pub none_unplugged : (steps : List Step) (m : Machine) → list_any is_unplugged steps ≡ false → UnpluggedEmptiesPort steps m
+pub none_unplugged : (steps : List Step) (m : Machine) → list_any is_unplugged steps ≡ false → UnpluggedOutcomeEmptiesPort steps m
 none_unplugged steps m none = record {
   none_is_left = λ e other h i. never_unplugged steps none e h;
   none_is_told_dead = λ e other h i. never_unplugged steps none e h;
 }
 
-pub finds_none : (steps : List Step) (old new : Ports) → list_any is_unplugged steps ≡ false → UnpluggedPortIsNotDeadNorReadyWithSameDisk steps old new
+pub finds_none : (steps : List Step) (old new : Ports) → list_any is_unplugged steps ≡ false → UnpluggedOutcomeExcludesDeadAndSameSerialAndSize steps old new
 finds_none steps old new none e h = never_unplugged steps none e h
 
 -- the step tells that a port is dead
@@ -338,12 +339,12 @@ abbrev pub is_told_dead : Step → Bool
 is_told_dead (Answer e outcome.PortDead) = true
 is_told_dead _ = false
 
-pub none_ended : (m : Machine) (steps : List Step) → list_any (λ e. e.ended) m.book ≡ false → (p : Port) → AnswersEnded m steps p
+pub none_ended : (m : Machine) (steps : List Step) → list_any (λ e. e.ended) m.book ≡ false → (p : Port) → AnswersOkWhatHadEnded m steps p
 none_ended m steps none p e h here ended = absurd (false≢true (sym (none_of (λ (x : Pending). x.ended) m.book e none h) ∙ ended))
 
 -- what had ended is the last of the book, which is answered
 pub last_ended : (m : Machine) (steps : List Step) (others : List Pending) (one : Pending) → m.book ≡ others ++ one ∷ [] → list_any (λ e. e.ended) others ≡ false
-    → (done : Pending) → done.request ≡ one.request → Contains steps (Answer done outcome.Ok) → (p : Port) → AnswersEnded m steps p
+    → (done : Pending) → done.request ≡ one.request → Contains steps (Answer done outcome.Ok) → (p : Port) → AnswersOkWhatHadEnded m steps p
 last_ended m steps others one is none done same told p e h here ended = ⊎_elim
     (λ h. absurd (false≢true (sym (none_of (λ (x : Pending). x.ended) others e none h) ∙ ended)))
     (λ (q : e ≡ one). (done, same ∙ ap (λ (x : Pending). x.request) (sym q), told))
@@ -355,15 +356,15 @@ emptied_of book mine p ne e h q = ne (subst (λ (x : Port). at_port Ready x ≡ 
 
 -- a service with no evidence, of a server whose one port stays ready
 pub plain_service : (old new : Machine) (steps : List Step) (replies : List Reply) → RepliesMatch steps replies → list_any is_unplugged steps ≡ false
-    → ((p : Port) → AnswersEnded old steps p) → ((p : Port) → NoneDue mode (map unanswered new.book) p) → ((e : Pending) → Contains new.book e → e.request.port ≡ port)
+    → ((p : Port) → AnswersOkWhatHadEnded old steps p) → ((p : Port) → NoneDue mode (map unanswered new.book) p) → ((e : Pending) → Contains new.book e → e.request.port ≡ port)
     → AnswersService (record { machine = old; ports = ports }) none steps replies (record { machine = new; ports = ports })
 plain_service old new steps replies tells plugged ended issues mine = record {
   replies_match = tells;
   dead_ports_tell_only_port_dead = λ e o h dead. none_dead e.request.port dead;
-  unplugged_empties_port = none_unplugged steps new plugged;
+  unplugged_outcome_empties_port = none_unplugged steps new plugged;
   none_is_due_where_ready = λ p _. issues p;
   empty_unless_ready = emptied_of new.book mine;
-  answers_ended = λ p _. ended p;
+  answers_ok_what_had_ended = λ p _. ended p;
   port_is_serviced = serviced;
   shown_disk_was_in_or_came = λ p. inl (refl, refl, refl, refl, refl, refl);
 }

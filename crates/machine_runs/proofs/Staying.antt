@@ -3,13 +3,13 @@ use Rattle.std.proofs.Common.{◌≡◌, ◌≢◌, ℕ, ◌<◌, true, false, L
 use Rattle.std.proofs.lemmas.Bool.{or_left, and_parts, cond-false, false_from_ne_true}
 use Rattle.block_machine.specs.DueRequests.{changes_sectors}
 use Rattle.block_machine.specs.State.{Block, Accepted, Pending, Machine, sector_of, block_written}
-use Rattle.block_machine.specs.Steps.{Step, Touch, IsEnabled, HoldsFrames}
+use Rattle.block_machine.specs.Steps.{Step, Touch, IsEnabled, IsInBookOrKept}
 use Rattle.block_machine.specs.Expected.{after, IsLegal, IsInitial, IsTouch, touches_sector, HasTouched, plug_count, disk_number_read, IsLastWrittenOrPluggedIn, IsExpectedBlock}
 use Rattle.block_machine.proofs.Trace.{Seen, runs_lives, conflict_at, read_number, last_from}
 use Rattle.block_machine.proofs.Runs.{traced}
 
 -- a request that isn't there touches nothing
-no_touch : (m : Machine) (step : Step) → IsEnabled m step → (r : Accepted) (k : ℕ) → ((e : Pending) → HoldsFrames m e → e.request.id ≢ r.id) → touches_sector r.id k step ≡ false
+no_touch : (m : Machine) (step : Step) → IsEnabled m step → (r : Accepted) (k : ℕ) → ((e : Pending) → IsInBookOrKept m e → e.request.id ≢ r.id) → touches_sector r.id k step ≡ false
 no_touch m (Touch e i block) may r k gone = false_from_ne_true _ (λ t.
     gone e (runs_lives m e may.0) (ap (λ (n : ℕ). record { 0 = n }) (eqb-true e.request.id.0 r.id.0 (and_parts _ _ t).0)))
 no_touch m _ may r k gone = refl
@@ -26,7 +26,7 @@ no_earlier m (Touch e i block) may r k seen w writes here less t =
 no_earlier m _ may r k seen w writes here less t = absurd t
 
 pub law_expected_stays_once_read_is_answered : (start : Machine) (h : List Step) (step : Step) (read : Accepted) (k n : ℕ) (block : Block) → IsInitial start → IsLegal start (step ∷ h)
-    → HasTouched read k n h → ((e : Pending) → HoldsFrames (after start h) e → e.request.id ≢ read.id) → IsExpectedBlock start h read k block → IsExpectedBlock start (step ∷ h) read k block
+    → HasTouched read k n h → ((e : Pending) → IsInBookOrKept (after start h) e → e.request.id ≢ read.id) → IsExpectedBlock start h read k block → IsExpectedBlock start (step ∷ h) read k block
 law_expected_stays_once_read_is_answered start h step read k n block s legal touched gone left =
     let m = after start h in
     let seen = (traced start h s legal.0).seen read k n touched in

@@ -71,8 +71,8 @@ restarted = record {
       (λ x a q. subst (λ (y : Step). TimesOutAtTick (abstract_after_all first run4) (port_of y)) q hung)
       (λ x a q. absurd (false≢true (ap is_answer q)))
       (Answer e o) h e o refl;
-  answers_ended = λ p _. last_ended (abstract_after_all first run4).machine tick.steps [] over refl refl older_still refl (contains_here (Answer older_still outcome.Ok) (Age aging ∷ []) (Answer older_still outcome.Ok) refl) p;
-  none_stays_issued = λ p _ e h. absurd (contains_none e h);
+  answers_ok_what_had_ended = λ p _. last_ended (abstract_after_all first run4).machine tick.steps [] over refl refl older_still refl (contains_here (Answer older_still outcome.Ok) (Age aging ∷ []) (Answer older_still outcome.Ok) refl) p;
+  issued_are_issued_in_steps = λ p _ e h. absurd (contains_none e h);
   timed_out_iff_stopped_or_stuck = λ p. (
     λ h. inl (contains_here port [] p (ready_port p h.ready)),
     λ i. ⊎_elim
@@ -102,7 +102,7 @@ happens5 = record {
     replies_match = one_told older_still outcome.Ok tick.steps refl (reply_of (older_still, outcome.Ok)) refl;
     ages_once = ages_once (Answer older_still outcome.Ok ∷ []) refl;
     restarts_timed_out = restarted;
-    unplugged_empties_port = none_unplugged tick.steps (abstract_after_all first run5).machine refl;
+    unplugged_outcome_empties_port = none_unplugged tick.steps (abstract_after_all first run5).machine refl;
     none_is_due_where_ready = λ p _. none_there p;
     was_ready_empty_unless_ready = λ p _ ne e h. absurd (contains_none e h);
   };

@@ -4,6 +4,7 @@ use Rattle.std.proofs.lemmas.Bool.{false≢true, or_cases, cond-true, cond-false
 use Rattle.std.proofs.lemmas.List.Sorted.{IsPermutation-append_comm}
 use Rattle.std.specs.List.{Contains}
 use Rattle.std.specs.Prelude.{slice_index_or}
+use Rattle.ata_types.specs.declared.limits.TheConstants.{MOST_UNANSWERED_OF_A_CLIENT}
 use Rattle.ata_types.specs.declared.Port.{Port}
 use Rattle.ata_types.specs.declared.PortState.{PortState}
 use Rattle.ata_types.specs.declared.PortState.TheVariants.{Absent, Ready, Unfit, Dead}
@@ -14,7 +15,7 @@ use Rattle.ata_types.specs.declared.request.Outcome.TheVariants as outcome
 use Rattle.block_machine.specs.Ports.{Ports, Evidence, PortsWellFormed, SamePort, IsStoppedOrStuck, IsServiced}
 use Rattle.block_machine.specs.State.{Accepted, Pending, Machine, unanswered, is_reader}
 use Rattle.block_machine.specs.Steps.{Step, Accept, Issue, Touch, End, WaitAgain, Answer, Unplug, newly_accepted, newly_issued, touch, requeued}
-use Rattle.block_machine.specs.Events.{AbstractState, Submit, Service, StepDevice, Submitted, Replied, Stepped, CallRecord, Happens, UnpluggedEmptiesPort, RepliesMatch, IsToldBefore, IsIssuedIn, abstract_after, abstract_after_all, admission_context_of, steps_of, reply_of, ShowsDisk}
+use Rattle.block_machine.specs.Events.{AbstractState, Submit, Service, StepDevice, Submitted, Replied, Stepped, CallRecord, Happens, UnpluggedOutcomeEmptiesPort, RepliesMatch, IsLowerByPortThenId, IsIssuedIn, abstract_after, abstract_after_all, admission_context_of, steps_of, reply_of, ShowsDisk}
 use Rattle.machine_runs.specs.ExampleRuns.{ServiceHandlesTwoFailedPorts}
 use Rattle.block_machine.proofs.Members.{contains_none, contains_here, contains_there, contains_cases, none_of}
 use Rattle.block_machine.proofs.Setting.{on, frame, row, two_rows, empty, empty_starts, acceptable, granted}
@@ -188,7 +189,7 @@ stays p = (
 
 -- one of them waits for nothing
 
-quiet : (p : ℕ) (m : AbstractState) → Contains two_rows (row p) → m.machine.rows ≡ two_rows → m.ports.state (on p) ≡ Ready → m.ports.sectors (on p) ≡ 200 → (admission_context_of m).unanswered_count (record { 0 = 1 }) < 16 → m.machine.next_id < 5 → IsQuiet p m
+quiet : (p : ℕ) (m : AbstractState) → Contains two_rows (row p) → m.machine.rows ≡ two_rows → m.ports.state (on p) ≡ Ready → m.ports.sectors (on p) ≡ 200 → (admission_context_of m).unanswered_count (record { 0 = 1 }) < MOST_UNANSWERED_OF_A_CLIENT → m.machine.next_id < 5 → IsQuiet p m
 quiet p m mine rows ready size room next = record { rows = rows; mine = mine; ready = ready; size = size; room = room; few = omega (arith, next) }
 
 quiet0 : IsQuiet 1 (abstract_after_all first run0)
@@ -296,7 +297,7 @@ told_in_order = record {
   replies_are_of_answers = refl;
 }
   where
-    go : (i j : ℕ) (d : Pending × Outcome) → i < j → j < 3 → IsToldBefore (slice_index_or all_told i d) (slice_index_or all_told j d)
+    go : (i j : ℕ) (d : Pending × Outcome) → i < j → j < 3 → IsLowerByPortThenId (slice_index_or all_told i d) (slice_index_or all_told j d)
     go zero (suc zero) d lt below = inr (refl, omega arith)
     go zero (suc (suc zero)) d lt below = inl (omega arith)
     go (suc zero) (suc (suc zero)) d lt below = inl (omega arith)
@@ -308,7 +309,7 @@ unplugs_zero (Answer e outcome.Unplugged) = e.request.port.0 == 0
 unplugs_zero _ = false
 
 -- port 1's alone are answered Unplugged
-unplugs_all : UnpluggedEmptiesPort serving (abstract_after_all first run7).machine
+unplugs_all : UnpluggedOutcomeEmptiesPort serving (abstract_after_all first run7).machine
 unplugs_all = record {
   none_is_left = λ e other h i q. false≢true (sym (none_of unplugs_zero serving (Answer e outcome.Unplugged) refl h)
       ∙ eq-eqb e.request.port.0 0 (ap (λ (x : Port). x.0) (sym q) ∙ left_here 2 other i));
@@ -344,10 +345,10 @@ happens7 = record {
   result_matches_steps = record {
     replies_match = told_in_order;
     dead_ports_tell_only_port_dead = λ e o i dead. not_dead Ready Ready refl refl e.request.port dead;
-    unplugged_empties_port = unplugs_all;
+    unplugged_outcome_empties_port = unplugs_all;
     none_is_due_where_ready = λ p _. none_waits _ refl p;
     empty_unless_ready = λ p ne e h. emptied_at (both Ready Absent) (tried 2) refl p ne e h;
-    answers_ended = λ p _. last_ended (abstract_after_all first run6).machine service.steps (losing ∷ failing ∷ tried 1 ∷ []) (done finished) refl refl (done finished) refl (4, omega arith, refl) p;
+    answers_ok_what_had_ended = λ p _. last_ended (abstract_after_all first run6).machine service.steps (losing ∷ failing ∷ tried 1 ∷ []) (done finished) refl refl (done finished) refl (4, omega arith, refl) p;
     port_is_serviced = λ p. (
       λ dead. not_dead Ready Ready refl refl p dead,
       λ _. (
@@ -386,10 +387,10 @@ retried m n rows few = record {
   result_matches_steps = record {
     replies_match = none_told (retry n).steps refl;
     dead_ports_tell_only_port_dead = λ e o i dead. not_dead Ready Absent refl refl e.request.port dead;
-    unplugged_empties_port = none_unplugged (retry n).steps (abstract_after (before m n) (retry n)).machine refl;
+    unplugged_outcome_empties_port = none_unplugged (retry n).steps (abstract_after (before m n) (retry n)).machine refl;
     none_is_due_where_ready = λ p _. none_waits _ refl p;
     empty_unless_ready = λ p ne e h. emptied_at (both Ready Absent) (tried (suc n)) refl p ne e h;
-    answers_ended = λ p _. none_ended (before m n).machine (retry n).steps refl p;
+    answers_ok_what_had_ended = λ p _. none_ended (before m n).machine (retry n).steps refl p;
     port_is_serviced = stays;
     shown_disk_was_in_or_came = λ p. inl (refl, refl, refl, refl, refl, refl);
   };
@@ -406,10 +407,10 @@ happens10 = record {
   result_matches_steps = record {
     replies_match = one_told (tried 4) outcome.Aborted abort.steps refl (reply_of (tried 4, outcome.Aborted)) refl;
     dead_ports_tell_only_port_dead = λ e o i dead. not_dead Ready Absent refl refl e.request.port dead;
-    unplugged_empties_port = none_unplugged abort.steps (abstract_after (abstract_after_all first run9) abort).machine refl;
+    unplugged_outcome_empties_port = none_unplugged abort.steps (abstract_after (abstract_after_all first run9) abort).machine refl;
     none_is_due_where_ready = λ p _. none_there p;
     empty_unless_ready = λ p ne e h. absurd (contains_none e h);
-    answers_ended = λ p _. none_ended (abstract_after_all first run9).machine abort.steps refl p;
+    answers_ok_what_had_ended = λ p _. none_ended (abstract_after_all first run9).machine abort.steps refl p;
     port_is_serviced = stays;
     shown_disk_was_in_or_came = λ p. inl (refl, refl, refl, refl, refl, refl);
   };

@@ -11,7 +11,7 @@ use Rattle.ata_types.specs.declared.request.Outcome.TheVariants as outcome
 use Rattle.block_machine.specs.Ports.{Evidence}
 use Rattle.block_machine.specs.State.{Pending, Machine}
 use Rattle.block_machine.specs.Steps.{Step, Age, WaitAgain, Answer, Unplug, newly_accepted, aged_pending}
-use Rattle.block_machine.specs.Events.{AbstractState, Tick, StepDevice, Replied, Stepped, CallRecord, TimesOutAtTick, RestartsTimedOut, Happens, RepliesMatch, IsToldBefore, reply_of, abstract_after_all, abstract_after}
+use Rattle.block_machine.specs.Events.{AbstractState, Tick, StepDevice, Replied, Stepped, CallRecord, TimesOutAtTick, RestartsTimedOut, Happens, RepliesMatch, IsLowerByPortThenId, reply_of, abstract_after_all, abstract_after}
 use Rattle.machine_runs.specs.ExampleRuns.{TickFindsUnplugged}
 use Rattle.block_machine.proofs.Members.{contains_none, contains_here, contains_cases, none_of}
 use Rattle.block_machine.proofs.Setting.{port, frame, empty_starts}
@@ -68,7 +68,7 @@ ticked m n young = record {
     replies_match = none_told (Age aging ∷ []) refl;
     ages_once = ages_once [] refl;
     restarts_timed_out = ticks (before m n) (of_two (aged n) waits (λ e. e.age < 2) young (omega arith)) (abstract_after (before m n) (reset_run.tick [])) (λ p. (refl, refl, refl, refl, refl, refl));
-    unplugged_empties_port = none_unplugged (Age aging ∷ []) (abstract_after (before m n) (reset_run.tick [])).machine refl;
+    unplugged_outcome_empties_port = none_unplugged (Age aging ∷ []) (abstract_after (before m n) (reset_run.tick [])).machine refl;
     none_is_due_where_ready = λ p _. none_due p;
     was_ready_empty_unless_ready = λ p _. emptied_of (aged_pending aging (aged n) ∷ aged_pending aging waits ∷ []) (of_two (aged_pending aging (aged n)) (aged_pending aging waits) (λ e. e.request.port ≡ port) refl refl) p;
   };
@@ -120,8 +120,8 @@ restarted = record {
   });
   only_timed_out_wait_again = λ e h. absurd (false≢true (sym (none_of is_again tick.steps (WaitAgain e) refl h)));
   only_timed_out_are_answered = λ e o h. subst (λ (x : Port). TimesOutAtTick (abstract_after_all first run5) x) (sym (each_step (λ step. port_of step ≡ port) refl refl refl (Answer e o) h)) hung;
-  answers_ended = λ p _. none_ended (abstract_after_all first run5).machine tick.steps refl p;
-  none_stays_issued = λ p _ e h. absurd (contains_none e h);
+  answers_ok_what_had_ended = λ p _. none_ended (abstract_after_all first run5).machine tick.steps refl p;
+  issued_are_issued_in_steps = λ p _ e h. absurd (contains_none e h);
   timed_out_iff_stopped_or_stuck = λ p. (
     λ h. inl (contains_here port [] p (ready_port p h.ready)),
     λ i. ⊎_elim
@@ -141,7 +141,7 @@ told_in_order = record {
   replies_are_of_answers = refl;
 }
   where
-    go : (i j : ℕ) (d : Pending × Outcome) → i < j → j < 2 → IsToldBefore (slice_index_or told i d) (slice_index_or told j d)
+    go : (i j : ℕ) (d : Pending × Outcome) → i < j → j < 2 → IsLowerByPortThenId (slice_index_or told i d) (slice_index_or told j d)
     go zero (suc zero) d lt below = inr (refl, omega arith)
     go i j d lt below = absurd (omega (arith, lt, below))
 
@@ -160,7 +160,7 @@ happens6 = record {
     replies_match = told_in_order;
     ages_once = ages_once answers refl;
     restarts_timed_out = restarted;
-    unplugged_empties_port = record {
+    unplugged_outcome_empties_port = record {
       none_is_left = λ e other h i. absurd (contains_none other i);
       none_is_told_dead = λ e other h i. absurd (false≢true (sym (none_of is_told_dead tick.steps (Answer other outcome.PortDead) refl i)));
     };

@@ -34,12 +34,12 @@ never_writes row none Trim may writes = false≢true (sym none.1 ∙ may)
 never_writes row none Flush may writes = false≢true writes
 
 -- so no write or trim touched a sector, and what is left came with the disk
-pub law_unwritten_disk_is_as_plugged : (start : Machine) (h : List Step) (read : Accepted) (k : ℕ) (block : Block) → IsInitial start → IsLegal start h
+pub law_read_only_grants_expect_plugged_bytes : (start : Machine) (h : List Step) (read : Accepted) (k : ℕ) (block : Block) → IsInitial start → IsLegal start h
     → ((row : GrantRow) → Contains start.rows row → GrantsNoWriteOrTrim row)
     → IsExpectedBlock start h read k block → block ≡ bytes_when_plugged start read.port (disk_number_read read k h) h k
-law_unwritten_disk_is_as_plugged start h read k block s legal none (inl last) =
+law_read_only_grants_expect_plugged_bytes start h read k block s legal none (inl last) =
     let writer = last.0 in
     let wrote = last.1 in
     let g = was_granted start h writer (toucher_accepted start h s legal writer k _ wrote.touched) in
     absurd (never_writes g.row (none g.row g.is_named.0) writer.asked.op g.op_is_allowed wrote.op_changes_sectors)
-law_unwritten_disk_is_as_plugged start h read k block s legal none (inr untouched) = untouched.1
+law_read_only_grants_expect_plugged_bytes start h read k block s legal none (inr untouched) = untouched.1

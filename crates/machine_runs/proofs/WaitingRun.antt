@@ -6,7 +6,7 @@ use Rattle.ata_types.specs.declared.PortState.TheVariants.{Ready}
 use Rattle.ata_types.specs.declared.request.Op.TheVariants.{Read, Write}
 use Rattle.ata_types.specs.declared.request.Outcome.TheVariants as outcome
 use Rattle.block_machine.specs.declared.due.Unanswered.{Unanswered}
-use Rattle.block_machine.specs.DueRequests.{NoneDue, is_unblocked}
+use Rattle.block_machine.specs.DueRequests.{NoneDue, is_waiting_and_unblocked}
 use Rattle.block_machine.specs.State.{Block, Accepted, is_reader, unanswered}
 use Rattle.block_machine.specs.Steps.{Accept, Issue, Touch, End, Answer, newly_accepted, newly_issued, touch}
 use Rattle.block_machine.specs.Events.{Submit, Service, StepDevice, Submitted, Replied, Stepped, CallRecord, Happens, abstract_after_all, admission_context_of}
@@ -86,7 +86,7 @@ pub none_due : (p : Port) → NoneDue mode book p
 none_due p r here due = ⊎_elim
     (λ e. issued_not_due mode book r (ap (λ (x : Unanswered). x.issued) e) due)
     (λ i. ⊎_elim
-    (λ e. false≢true (ap (λ (x : Unanswered). is_unblocked mode book x) (sym e) ∙ due.waits_and_nothing_blocks))
+    (λ e. false≢true (ap (λ (x : Unanswered). is_waiting_and_unblocked mode book x) (sym e) ∙ due.waits_and_nothing_blocks))
     (λ n. contains_none r n)
     (contains_cases (unanswered (newly_accepted read)) [] r i))
     (contains_cases (unanswered (newly_issued (newly_accepted write))) (unanswered (newly_accepted read) ∷ []) r due.is_in_book)

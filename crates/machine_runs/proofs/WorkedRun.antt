@@ -10,9 +10,9 @@ use Rattle.ata_types.specs.declared.request.Outcome.TheVariants as outcome
 use Rattle.block_machine.specs.DueRequests.{is_flush}
 use Rattle.block_machine.specs.Ports.{Evidence}
 use Rattle.block_machine.specs.State.{Block, DiskBytes, Accepted, block_of, is_reader, unanswered}
-use Rattle.block_machine.specs.Steps.{Step, Accept, Issue, Touch, End, Answer, Unplug, Replace, Store, Load, newly_accepted, newly_issued, touch, mark_ended, HoldsOrHeldSinceFlush, SameBytes}
+use Rattle.block_machine.specs.Steps.{Step, Accept, Issue, Touch, End, Answer, Unplug, PlugDisk, Store, Load, newly_accepted, newly_issued, touch, mark_ended, HoldsOrHeldSinceFlush, SameBytes}
 use Rattle.block_machine.specs.Events.{Submit, StoreAt, LoadAt, Service, StepDevice, Submitted, Stored, Loaded, Replied, Stepped, CallRecord, Happens, IsRun, abstract_after_all, admission_context_of, steps_of, ShowsDisk}
-use Rattle.machine_runs.specs.ExampleRuns.{FindsFlushedOrLater, MayComeBack, ReadsOneOf}
+use Rattle.machine_runs.specs.ExampleRuns.{FindsFlushedOrLater, ReplugIsFaithful, ReadsOneOf}
 use Rattle.block_machine.proofs.Members.{contains_none, contains_here, contains_there, contains_cases}
 use Rattle.block_machine.proofs.Setting.{client, port, frame, request, empty_starts, acceptable, granted}
 use Rattle.machine_runs.proofs.Scene.{none, mode, first, at_port, ports_in, id, call, reply, sector_request, done, served, is_open, IsQuiet, row_zero, fit_write, fit_read, fit_flush, new, one_issued, none_there, one_told, none_told, one_touched, ports_fit, none_dead, none_unplugged, plain_service, ready_port, shows_none, changed_here, absent_not_dead, none_ended}
@@ -101,7 +101,7 @@ run10 = event10 ∷ run9
 
 -- the disk comes back, with these bytes
 abbrev event11 : DiskBytes → CallRecord (Unit {0})
-event11 disk = record { call = StepDevice tt; result = Stepped true; evidence = none; steps = Replace port 0 200 disk ∷ []; ports = ports_in Absent }
+event11 disk = record { call = StepDevice tt; result = Stepped true; evidence = none; steps = PlugDisk port 0 200 disk ∷ []; ports = ports_in Absent }
 
 abbrev run11 : DiskBytes → List (CallRecord (Unit {0}))
 run11 disk = event11 disk ∷ run10
@@ -264,10 +264,10 @@ happens10 = record {
   result_matches_steps = record {
     replies_match = none_told [] refl;
     dead_ports_tell_only_port_dead = λ e o i dead. none_dead e.request.port dead;
-    unplugged_empties_port = none_unplugged [] (abstract_after_all first run10).machine refl;
+    unplugged_outcome_empties_port = none_unplugged [] (abstract_after_all first run10).machine refl;
     none_is_due_where_ready = λ p _. none_there p;
     empty_unless_ready = λ p ne e h. absurd (contains_none e h);
-    answers_ended = λ p _. none_ended (abstract_after_all first run9).machine [] refl p;
+    answers_ok_what_had_ended = λ p _. none_ended (abstract_after_all first run9).machine [] refl p;
     port_is_serviced = λ p. (λ dead. none_dead p dead, λ _. (record { served_is_unchanged = refl; dead_exactly_if_stuck = (λ dead. absent_not_dead p dead, λ h. absurd (contains_none p h)); disk_is_remembered_unless_ready = λ _. (refl, refl) }, changed_here Ready Absent gone (inl (contains_here port [] port refl)) p));
     shown_disk_was_in_or_came = λ p. inr (λ shows. shows_none Absent (λ s. s) p shows);
   };
@@ -306,10 +306,10 @@ happens12 disk = record {
   result_matches_steps = record {
     replies_match = none_told [] refl;
     dead_ports_tell_only_port_dead = λ e o i dead. absent_not_dead e.request.port dead;
-    unplugged_empties_port = none_unplugged [] (abstract_after_all first (run12 disk)).machine refl;
+    unplugged_outcome_empties_port = none_unplugged [] (abstract_after_all first (run12 disk)).machine refl;
     none_is_due_where_ready = λ p _. none_there p;
     empty_unless_ready = λ p ne e h. absurd (contains_none e h);
-    answers_ended = λ p _. none_ended (abstract_after_all first (run11 disk)).machine [] refl p;
+    answers_ok_what_had_ended = λ p _. none_ended (abstract_after_all first (run11 disk)).machine [] refl p;
     port_is_serviced = λ p. (λ dead. absent_not_dead p dead, λ _. (record { served_is_unchanged = refl; dead_exactly_if_stuck = (λ dead. none_dead p dead, λ h. absurd (contains_none p h)); disk_is_remembered_unless_ready = λ _. (refl, refl) }, changed_here Absent Ready booting (inl (contains_here port [] port refl)) p));
     shown_disk_was_in_or_came = λ p. inr (λ shows. inl (present p (shows_ready p shows)));
   };
@@ -362,7 +362,7 @@ since_flush block (inr (old, here, same)) = ⊎_elim
     (λ none. absurd (contains_none old none))
     (contains_cases (flushed_disk 100) [] old here)
 
-finds : (disk : DiskBytes) → MayComeBack first run10 port disk → ReadsOneOf first run10 disk write later
+finds : (disk : DiskBytes) → ReplugIsFaithful first run10 port disk → ReadsOneOf first run10 disk write later
 finds disk back = record {
   plug = event11 disk;
   service = event12;

@@ -10,13 +10,13 @@ use Rattle.block_machine.specs.Confinement.{WasAccepted}
 use Rattle.block_machine.specs.Events.{CallRecord, AbstractState, Submit, Submitted, IsIssuedIn, issues_id, abstract_after_all, steps_of}
 
 -- the call is a submit that asked for the request, and was told its id
-abbrev pub SubmitsAndIsAccepted : {D : Type 0} → Accepted → CallRecord D → Type 0
-SubmitsAndIsAccepted r event = (event.call ≡ Submit r.asked) × (event.result ≡ Submitted (Ok r.id))
+abbrev pub SubmitsAndIsGivenId : {D : Type 0} → Accepted → CallRecord D → Type 0
+SubmitsAndIsGivenId r event = (event.call ≡ Submit r.asked) × (event.result ≡ Submitted (Ok r.id))
 
 -- a call of the run is
-abbrev pub WasSubmittedAndAccepted : {D : Type 0} → Accepted → List (CallRecord D) → Type 0
-WasSubmittedAndAccepted r [] = ⊥
-WasSubmittedAndAccepted r (event ∷ past) = SubmitsAndIsAccepted r event ⊎ WasSubmittedAndAccepted r past
+abbrev pub WasSubmittedAndGivenId : {D : Type 0} → Accepted → List (CallRecord D) → Type 0
+WasSubmittedAndGivenId r [] = ⊥
+WasSubmittedAndGivenId r (event ∷ past) = SubmitsAndIsGivenId r event ⊎ WasSubmittedAndGivenId r past
 
 -- the step has the request of this id wait again
 abbrev pub requeues_id : RequestId → Step → Bool
@@ -49,4 +49,4 @@ pub record WasUnansweredBefore (old : Machine) (steps : List Step) (e : Pending)
   pub before : Pending
   pub is_in_book : Contains old.book before
   pub same_request : before.request ≡ e.request
-  pub was_issued_before_or_now : e.issued ≡ true → IsIssuedIn e.request.id steps ⊎ (before.issued ≡ true)
+  pub if_issued_then_before_or_now : e.issued ≡ true → IsIssuedIn e.request.id steps ⊎ (before.issued ≡ true)

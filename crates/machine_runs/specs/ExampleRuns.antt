@@ -7,20 +7,22 @@ use Rattle.ata_types.specs.declared.request.Op.TheVariants.{Read, Write, Flush}
 use Rattle.ata_types.specs.declared.request.Outcome.TheVariants.{Ok, DeviceError, Aborted, Unplugged, PortDead}
 use Rattle.block_machine.specs.declared.due.QueueMode.{QueueMode}
 use Rattle.block_machine.specs.State.{DiskBytes, Memory, Accepted, Pending, Machine, block_of, sector_of, unanswered}
-use Rattle.block_machine.specs.DueRequests.{IsDue, are_conflicting}
-use Rattle.block_machine.specs.Steps.{Step, Issue, WaitAgain, Answer, Unplug, Replace, IsEnabled, AllTouched, SameBytes}
+use Rattle.block_machine.specs.DueRequests.{IsDue, conflict_by_flush_or_overlap}
+use Rattle.block_machine.specs.Steps.{Step, Issue, WaitAgain, Answer, Unplug, PlugDisk, HasGrant, IsEnabled, AllTouched, SameBytes}
 use Rattle.block_machine.specs.Expected.{after, IsInitial, AllStepsFaithful, HoldsExpected, StepIsFaithful}
 use Rattle.durability.specs.Durable.{IsFlushed}
 use Rattle.block_machine.specs.Events.{AbstractState, CallRecord, Service, Tick, Reset, StepDevice, Replied, WasReset, IsRun, accepts_of, reply_of, steps_of, abstract_after_all}
 
 -- the disk that was last in at the port is put in again after this run, with these bytes
 abbrev pub replug_of : AbstractState → List (CallRecord (Unit {0})) → Port → DiskBytes → Step
-replug_of first run port disk = Replace port ((abstract_after_all first run).machine.disk_ids port)
+replug_of first run port disk = PlugDisk port ((abstract_after_all first run).machine.disk_ids port)
     ((abstract_after_all first run).machine.sizes port) disk
 
--- with a volatile cache it may come back so
-abbrev pub MayComeBack : AbstractState → List (CallRecord (Unit {0})) → Port → DiskBytes → Type 0
-MayComeBack first run port disk = StepIsFaithful (abstract_after_all first run).machine (replug_of first run port disk)
+-- to put the port's disk in again with these bytes is a faithful step: if it is the same one, each sector has what it
+-- held at some moment since its last flush
+abbrev pub ReplugIsFaithful : AbstractState → List (CallRecord (Unit {0})) → Port → DiskBytes → Type 0
+ReplugIsFaithful first run port disk =
+    StepIsFaithful (abstract_after_all first run).machine (replug_of first run port disk)
 
 -- The run goes on: the disk is put in again with these bytes, a service boots the port, and a read of the first sector
 -- of the two writes is answered Ok. Its frame then has the bytes of the one, or those of the other.
@@ -72,11 +74,11 @@ pub record FindsFlushedOrLater : Type 0 where
   pub asks_for_service : service.call ≡ Service
   pub port_becomes_absent : (abstract_after_all initial_state (service ∷ unplug ∷ early)).ports.state write.port
       ≡ Absent
-  pub reads_find_either : (disk : DiskBytes) → MayComeBack initial_state (service ∷ unplug ∷ early) write.port disk
+  pub reads_find_either : (disk : DiskBytes) → ReplugIsFaithful initial_state (service ∷ unplug ∷ early) write.port disk
       → ReadsOneOf initial_state (service ∷ unplug ∷ early) disk write later
-  pub later_may_survive : (disk : DiskBytes) × MayComeBack initial_state (service ∷ unplug ∷ early) write.port disk
+  pub later_may_survive : (disk : DiskBytes) × ReplugIsFaithful initial_state (service ∷ unplug ∷ early) write.port disk
       × SameBytes (disk (sector_of write 0)) (later.blocks_at_acceptance 0)
-  pub later_may_be_lost : (disk : DiskBytes) × MayComeBack initial_state (service ∷ unplug ∷ early) write.port disk
+  pub later_may_be_lost : (disk : DiskBytes) × ReplugIsFaithful initial_state (service ∷ unplug ∷ early) write.port disk
       × SameBytes (disk (sector_of write 0)) (write.blocks_at_acceptance 0)
 
 -- In a run of calls two requests are unanswered at once: one is issued, and the other waits for it. One call then
@@ -98,7 +100,7 @@ pub record WaitsItsTurn : Type 0 where
   pub book_has_both : (abstract_after_all initial_state early).machine.book ≡ issued ∷ waiter ∷ []
   pub is_issued : issued.issued ≡ true
   pub is_waiting : waiter.issued ≡ false
-  pub waiter_conflicts : are_conflicting (unanswered issued) (unanswered waiter) ≡ true
+  pub waiter_conflicts : conflict_by_flush_or_overlap (unanswered issued) (unanswered waiter) ≡ true
   pub done : Pending
   pub answers : Contains answering_call.steps (Answer done Ok)
   pub request_is : done.request ≡ issued.request
@@ -287,7 +289,7 @@ pub record ResetsReissueThenAbort : Type 0 where
 
 -- In a run of calls two requests are issued on a port that meets a fatal error. A service stops it and boots it, and it
 -- gets stuck in that. So the requests are answered PortDead, and their frames stay lent.
-pub record ServiceEndsPortDead : Type 0 where
+pub record StoppedAndStuckPortAnswersPortDead : Type 0 where
   pub initial_state : AbstractState
   pub earlier_calls : List (CallRecord (Unit {0}))
   pub service : CallRecord (Unit {0})
@@ -314,6 +316,7 @@ pub record ServiceEndsPortDead : Type 0 where
 -- The machine without the rule that nothing is issued while a kept request is left on the port.
 abbrev pub IsEnabledWithoutKeptRule : Machine → Step → Type 0
 IsEnabledWithoutKeptRule m (Issue mode e) = Contains m.book e × IsDue mode (map unanswered m.book) (unanswered e)
+    × HasGrant m e
 IsEnabledWithoutKeptRule m step = IsEnabled m step
 
 -- each step of the history came when it might there

@@ -4,13 +4,13 @@
 
 ghost use Rattle.std.specs.Prelude.{◌≡◌, ◌≢◌, ◌⊎◌, ◌+◌, ◌<◌, ◌≤◌, ◌==◌, ℕ, false, true, List, ◌∷◌, ◌++◌, cond, count_by, Contains};
 ghost use Rattle.ata_types.specs.{declared.Port.{Port}, declared.PortState.TheVariants.{Ready, Dead}, declared.request.Frame.{Frame}, declared.request.RequestId.{RequestId}, declared.request.Op.TheVariants.{Flush}, declared.request.Outcome.{Outcome}, declared.request.Outcome.TheVariants.{Ok, Aborted}, declared.request.Reply.{Reply}, declared.grant.GrantRow.{GrantRow}};
-ghost use Rattle.block_machine.specs.{DueRequests.{are_conflicting}, State.{Block, Accepted, Pending, Machine, sector_of, newly_unanswered}, Steps.{Step, Answer, HasGrant, after_step, HoldsFrames, MayStillMove}, Expected.{IsInitial, IsLegal, HasTouched, HasTouchedSinceIssue, HasEndedSinceIssue, IsExpectedBlock, after, bytes_when_plugged, disk_number_read}, Confinement.{GrantsNoWriteOrTrim, WasAccepted, MayChangeByte, MayChangeSector}};
-ghost use Rattle.block_machine.specs.Events.{AbstractState, CallRecord, NoneDueWhereReady, Happens, EveryReadHoldsExpected, IsLawfulAnswer, IsRun, IsStillStuck, accepts_id, answers_id, issues_id, gives_id, replies_of, all_replies, WasGivenId, abstract_after_all, steps_of};
-ghost use Rattle.machine_runs.specs.{AnswerOrigins.{SubmitsAndIsAccepted, WasUnansweredBefore, CallAnswersOk, WasSubmittedAndAccepted, requeues_id}, RevocationRuns.{RevokesWhileIssued}, ExampleRuns.{FindsFlushedOrLater, WaitsItsTurn, ResetReleasesFrameOfDeadPort, ServiceHandlesTwoFailedPorts, TickAnswersEnded, TickFindsUnplugged, ResetsReissueThenAbort, ServiceEndsPortDead, ReadsWrongWithoutKeptRule}};
+ghost use Rattle.block_machine.specs.{DueRequests.{conflict_by_flush_or_overlap}, State.{Block, Accepted, Pending, Machine, sector_of, newly_unanswered}, Steps.{Step, Answer, HasGrant, after_step, IsInBookOrKept, MayStillMove}, Expected.{IsInitial, IsLegal, HasTouched, HasTouchedSinceIssue, HasEndedSinceIssue, IsExpectedBlock, after, bytes_when_plugged, disk_number_read}, Confinement.{GrantsNoWriteOrTrim, WasAccepted, MayChangeByte, MayChangeSector}};
+ghost use Rattle.block_machine.specs.Events.{AbstractState, CallRecord, NoneDueWhereReady, Happens, EveryReadHoldsExpected, IsLawfulAnswer, IsRun, LastServiceOrResetIsStuckReset, accepts_id, answers_id, issues_id, gives_id, replies_of, all_replies, WasGivenId, abstract_after_all, steps_of};
+ghost use Rattle.machine_runs.specs.{AnswerOrigins.{SubmitsAndIsGivenId, WasUnansweredBefore, CallAnswersOk, WasSubmittedAndGivenId, requeues_id}, RevocationRuns.{RevokesWhileIssued}, ExampleRuns.{FindsFlushedOrLater, WaitsItsTurn, ResetReleasesFrameOfDeadPort, ServiceHandlesTwoFailedPorts, TickAnswersEnded, TickFindsUnplugged, ResetsReissueThenAbort, StoppedAndStuckPortAnswersPortDead, ReadsWrongWithoutKeptRule}};
 
 /// Where no grant lets its client write or trim, what is left on a sector for a read is what the disk that it found
 /// there held when it was put in.
-pub fn law_unwritten_disk_is_as_plugged()
+pub fn law_read_only_grants_expect_plugged_bytes()
     ensures { (start : Machine) (history : List Step) (read : Accepted) (sector : ℕ) (block : Block)
         → IsInitial start → IsLegal start history
         → ((row : GrantRow) → Contains start.rows row → GrantsNoWriteOrTrim row)
@@ -32,7 +32,7 @@ pub fn law_expected_stays_once_read_is_answered()
     ensures { (start : Machine) (history : List Step) (step : Step) (read : Accepted)
         (sector disk : ℕ) (block : Block)
         → IsInitial start → IsLegal start (step ∷ history) → HasTouched read sector disk history
-        → ((e : Pending) → HoldsFrames (after start history) e → e.request.id ≢ read.id)
+        → ((e : Pending) → IsInBookOrKept (after start history) e → e.request.id ≢ read.id)
         → IsExpectedBlock start history read sector block → IsExpectedBlock start (step ∷ history) read sector block }
 {}
 
@@ -90,7 +90,7 @@ pub fn law_replied_was_given<D>()
 /// Each request that was accepted is one for which a submit of the run asked.
 pub fn law_accepted_was_asked<D>()
     ensures { (first : AbstractState) (run : List (CallRecord D)) (r : Accepted) → IsRun first run
-        → WasAccepted first.machine (steps_of run) r → WasSubmittedAndAccepted r run }
+        → WasAccepted first.machine (steps_of run) r → WasSubmittedAndGivenId r run }
 {}
 
 /// Each reply of a call is an answer of its steps, to a request for which an earlier submit of the run asked.
@@ -98,16 +98,16 @@ pub fn law_replied_was_asked<D>()
     ensures { (first : AbstractState) (past : List (CallRecord D)) (event : CallRecord D) (reply : Reply)
         → IsRun first (event ∷ past) → Contains (replies_of event.result) reply
         → (e : Pending) × Contains event.steps (Answer e reply.outcome) × (e.request.id ≡ reply.id)
-        × (e.request.asked.client ≡ reply.client) × WasSubmittedAndAccepted e.request past }
+        × (e.request.asked.client ≡ reply.client) × WasSubmittedAndGivenId e.request past }
 {}
 
 /// An unanswered request was there before the last call of a run, which issues it where it is issued, and wasn't
 /// before; or that call is the submit which asked for it.
-pub fn law_unanswered_was_there_or_asked<D>()
+pub fn law_unanswered_was_there_or_just_asked<D>()
     ensures { (first : AbstractState) (past : List (CallRecord D)) (event : CallRecord D) (e : Pending)
         → IsRun first (event ∷ past) → Contains (abstract_after_all first (event ∷ past)).machine.book e
         → WasUnansweredBefore (abstract_after_all first past).machine event.steps e
-        ⊎ SubmitsAndIsAccepted e.request event }
+        ⊎ SubmitsAndIsGivenId e.request event }
 {}
 
 /// What a call of a run answers Ok was served before: it was accepted and issued, its sectors were touched, and it was
@@ -119,7 +119,7 @@ pub fn law_ok_was_served<D>()
 {}
 
 /// At each moment of a run the only unanswered request is issued, where its port is ready.
-pub fn law_a_lone_request_is_issued<D>()
+pub fn law_sole_book_request_is_issued_if_ready<D>()
     ensures { (first : AbstractState) (run : List (CallRecord D)) (e : Pending) → IsRun first run
         → Contains (abstract_after_all first run).machine.book e
         → (abstract_after_all first run).ports.state e.request.port ≡ Ready
@@ -138,7 +138,7 @@ pub fn law_answers_are_lawful<D>()
 
 /// A port that is dead after a call was dead when it began, or its engine or the adapter got stuck in it. So this
 /// stands behind each request that is answered PortDead.
-pub fn law_dead_ports_were_stuck<D>()
+pub fn law_ports_die_only_when_stuck<D>()
     ensures { (old : AbstractState) (event : CallRecord D) (port : Port) → Happens old event
         → event.ports.state port ≡ Dead
         → (old.ports.state port ≡ Dead) ⊎ Contains event.evidence.stuck port }
@@ -195,7 +195,7 @@ pub fn law_unanswered_on_ready_or_stuck<D>()
     ensures { (first : AbstractState) (run : List (CallRecord D)) (e : Pending) → IsRun first run
         → Contains (abstract_after_all first run).machine.book e
         → ((abstract_after_all first run).ports.state e.request.port ≡ Ready)
-        ⊎ (((abstract_after_all first run).ports.state e.request.port ≡ Dead) × IsStillStuck run) }
+        ⊎ (((abstract_after_all first run).ports.state e.request.port ≡ Dead) × LastServiceOrResetIsStuckReset run) }
 {}
 
 /// At each moment of a run the sectors of an unanswered request are sectors that its port's disk showed to have.
@@ -234,9 +234,9 @@ pub fn law_sectors_change_by_touch_or_plug()
 pub fn law_conflicting_requests_take_turns()
     ensures { (start : Machine) (history : List Step) (earlier later : Pending) → IsInitial start
         → IsLegal start history
-        → HoldsFrames (after start history) earlier → MayStillMove (after start history) later
+        → IsInBookOrKept (after start history) earlier → MayStillMove (after start history) later
         → earlier.request.id.0 < later.request.id.0
-        → are_conflicting (newly_unanswered earlier.request) (newly_unanswered later.request) ≡ true
+        → conflict_by_flush_or_overlap (newly_unanswered earlier.request) (newly_unanswered later.request) ≡ true
         → ⊥ }
 {}
 
@@ -294,7 +294,7 @@ pub fn law_a_four_resets_run_exists()
 
 /// A run exists in which a port meets a fatal error, is stopped by a service, and gets stuck in its boot.
 pub fn law_a_run_with_dead_port_exists()
-    ensures { ServiceEndsPortDead }
+    ensures { StoppedAndStuckPortAnswersPortDead }
 {}
 
 /// Without the rule on kept requests a read may go wrong.

@@ -19,7 +19,7 @@ use Rattle.block_server.specs.Promise.{Simulates}
 use Rattle.block_server.specs.ServerView.{ServerView}
 use Rattle.script.specs.Script.{Asks, AskForCalls, no_lines, IsFirstLine, IsScript, LineLaws, SplitsAt, asked_calls, lines_of, lines_after}
 use Rattle.play.specs.PrintedText.{call_text}
-use Rattle.play.specs.PlayedScript.{CallsAnswerAndPrint, prints_nothing, prints_call, PrintsPart, RanFirstLines, RanWholeScript}
+use Rattle.play.specs.PlayedScript.{CallsAnswerAndPrint, prints_nothing, prints_call, PrintsAllOrBeginning, RanFirstLines, RanWholeScript}
 
 pub appends_none : (known : Option (List ℕ)) → Appends known known []
 appends_none None = tt
@@ -106,7 +106,7 @@ module _ {A : Type 0} (device : A → Device) (starved : A → Bool) (trace : Bo
   -- a line that was played, and printed whole
   pub played_line : (laws : LineLaws) (now next : ServerView A) (shown : ℕ) (text : List ℕ) (asked : Call DeviceStep) (t : Bor (List ℕ)) (left : Option (Bor (List ℕ)))
       (before mid after : Option (List ℕ)) → PlayedSoFar now shown (Some t) before mid → IsFirstLine t.now text left → Asks text (Some asked)
-      → (p : PrintsPart device starved trace shown asked now next mid after) → length p.text ≤ p.part
+      → (p : PrintsAllOrBeginning device starved trace shown asked now next mid after) → length p.text ≤ p.part
       → starved now.adapter ≡ false → PlayedSoFar next (length (device next.adapter).tape) left before after
   played_line laws now next shown text asked t left before mid after so_far is asks p whole fed = record {
     texts = so_far.texts ++ text ∷ [];
@@ -125,7 +125,7 @@ module _ {A : Type 0} (device : A → Device) (starved : A → Bool) (trace : Bo
   -- a line that was played, and that was the last one; the lines after it ask what they ask
   pub ran_part : (laws : LineLaws) (now next : ServerView A) (shown : ℕ) (text : List ℕ) (asked : Call DeviceStep) (t : Bor (List ℕ)) (left : Option (Bor (List ℕ)))
       (before mid after : Option (List ℕ)) → PlayedSoFar device starved trace first (lines_of script) now shown (Some t) before mid → IsFirstLine t.now text left → Asks text (Some asked)
-      → (texts : List (List ℕ)) (lines : List (Call DeviceStep)) → SplitsAt texts text (lines_after left) lines → (p : PrintsPart device starved trace shown asked now next mid after)
+      → (texts : List (List ℕ)) (lines : List (Call DeviceStep)) → SplitsAt texts text (lines_after left) lines → (p : PrintsAllOrBeginning device starved trace shown asked now next mid after)
       → starved now.adapter ≡ false → (ran : RanFirstLines device starved trace script first next before after) × (ran.part ≡ p.part)
   ran_part laws now next shown text asked t left before mid after so_far is asks texts lines from p fed = (
     record {
@@ -192,7 +192,7 @@ module _ {A : Type 0} (device : A → Device) (starved : A → Bool) (trace : Bo
 abbrev pub part_of : {A : Type 0} (device : A → Device) (starved : A → Bool) (trace : Bool) (shown : ℕ) (asked : Call DeviceStep) (one : CallResult (ArrayVec Reply)) (old new : ServerView A)
     (before after : Option (List ℕ)) (part : ℕ) (bytes : List ℕ) (tape : List Entry) → Simulates device old new (asked ∷ []) (one ∷ [])
     → tape ≡ (device new.adapter).tape → bytes ≡ call_text trace shown tape one → Appends before after (take part bytes)
-    → (starved new.adapter ≡ true → part ≡ 0) → PrintsPart device starved trace shown asked old new before after
+    → (starved new.adapter ≡ true → part ≡ 0) → PrintsAllOrBeginning device starved trace shown asked old new before after
 part_of device starved trace shown asked one old new before after part bytes tape keeps tape_is bytes_are printed silent = record {
   call_result = one;
   simulates = keeps;

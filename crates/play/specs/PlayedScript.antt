@@ -34,10 +34,10 @@ use Rattle.play.specs.declared.session.Ended.TheVariants.{Done, Config as BadCon
 -- ---- the model
 
 -- how a configuration names a disk's promise on trims
-abbrev pub trim_word : Trim → List ℕ
-trim_word Full = codes "full"
-trim_word Weak = codes "weak"
-trim_word Without = codes "none"
+abbrev pub trim_config_word : Trim → List ℕ
+trim_config_word Full = codes "full"
+trim_config_word Weak = codes "weak"
+trim_config_word Without = codes "none"
 
 -- The model is as the configuration says, and has all four ports.
 pub record SettingsMatchConfig (config : Config) (settings : ModelConfig) : Type 0 where
@@ -46,7 +46,7 @@ pub record SettingsMatchConfig (config : Config) (settings : ModelConfig) : Type
   pub slots : settings.slots ≡ config.slots
   pub queuing : settings.ncq ≡ config.ncq
   pub depth : settings.depth ≡ config.depth
-  pub trim : trim_word settings.trim ≡ string_bytes config.trim
+  pub trim : trim_config_word settings.trim ≡ string_bytes config.trim
   pub cache : settings.cache ≡ config.cache
 
 -- The model is new and as the configuration says, with these disks.
@@ -103,7 +103,7 @@ pub data CallsAnswerAndPrint {A : Type 0} (device : A → Device) (starved : A �
 
 -- A call was made, which keeps the server's promise, and of what is printed of it a part was, from its beginning on:
 -- nothing, where it starved the adapter.
-pub record PrintsPart {A : Type 0} (device : A → Device) (starved : A → Bool) (trace : Bool) (shown : ℕ)
+pub record PrintsAllOrBeginning {A : Type 0} (device : A → Device) (starved : A → Bool) (trace : Bool) (shown : ℕ)
     (asked : Call DeviceStep) (old new : ServerView A)
     (before after : Option (List ℕ)) : Type 0 where
   pub call_result : CallResult (ArrayVec Reply)
@@ -175,9 +175,9 @@ ended_by_stop stop.Unwritten = Unwritten
 -- What is so where a run stopped at its last line, of whether the adapter is starved and how much of that line's text
 -- was printed: where want of memory is told, nothing was; where an output that failed is told, the adapter isn't
 -- starved.
-abbrev pub PlayErrorFitsPrintedPart : Bool → ℕ → PlayError → Type 0
-PlayErrorFitsPrintedPart starved part stop.NoMemory = part ≡ 0
-PlayErrorFitsPrintedPart starved part stop.Unwritten = starved ≡ false
+abbrev pub NoMemoryPrintedNoneUnwrittenIsUnstarved : Bool → ℕ → PlayError → Type 0
+NoMemoryPrintedNoneUnwrittenIsUnstarved starved part stop.NoMemory = part ≡ 0
+NoMemoryPrintedNoneUnwrittenIsUnstarved starved part stop.Unwritten = starved ≡ false
 
 -- Why nothing is played: the configuration has a fault, or it has none and the script has a bad line, or memory was
 -- refused.

@@ -26,8 +26,8 @@ replies_text [] = answer_line answer.Quiet
 replies_text (reply ∷ replies) = flat_map (λ r. answer_line (answer.Replied r)) (reply ∷ replies)
 
 -- that the call is done, and a line for each reply
-abbrev pub reset_text : List Reply → List ℕ
-reset_text replies = answer_line answer.Done ++ flat_map (λ r. answer_line (answer.Replied r)) replies
+abbrev pub done_and_replies_text : List Reply → List ℕ
+done_and_replies_text replies = answer_line answer.Done ++ flat_map (λ r. answer_line (answer.Replied r)) replies
 
 -- what a call said
 abbrev pub call_result_text : CallResult (ArrayVec Reply) → List ℕ
@@ -38,23 +38,23 @@ call_result_text (said.Stored (Err fault)) = answer_line (answer.AccessRefused f
 call_result_text (said.Loaded (Ok bytes)) = answer_line (answer.Bytes (as_reference bytes.items))
 call_result_text (said.Loaded (Err fault)) = answer_line (answer.AccessRefused fault)
 call_result_text (said.Replied replies) = replies_text replies.items
-call_result_text (said.WasReset (Ok replies)) = reset_text replies.items
+call_result_text (said.WasReset (Ok replies)) = done_and_replies_text replies.items
 call_result_text (said.WasReset (Err stuck)) = answer_line answer.Stuck
-call_result_text (said.WasRevoked (Ok replies)) = reset_text replies.items
+call_result_text (said.WasRevoked (Ok replies)) = done_and_replies_text replies.items
 call_result_text (said.WasRevoked (Err none)) = answer_line (answer.Refused (refusal.Rule NoGrant))
 call_result_text (said.State state) = answer_line (answer.State state)
 call_result_text (said.Stepped done) = answer_line (answer.Stepped done)
 
 -- a flush that has ended has a line, and no other command has
-abbrev pub end_text : Operation → Done → List ℕ
-end_text Flush done = answer_line (answer.Flushed done)
-end_text _ done = []
+abbrev pub flush_end_text : Operation → Done → List ℕ
+flush_end_text Flush done = answer_line (answer.Flushed done)
+flush_end_text _ done = []
 
 -- a move, a clear and the end of a flush have a line; nothing else on a tape has one
 abbrev pub entry_text : Entry → List ℕ
 entry_text (entry.Move moved) = answer_line (answer.Moved (as_reference moved))
 entry_text (entry.Clear cleared) = answer_line (answer.Cleared cleared)
-entry_text (entry.Done done) = end_text done.operation done
+entry_text (entry.Done done) = flush_end_text done.operation done
 entry_text (entry.Fault fault) = []
 entry_text (entry.Fatal port) = []
 entry_text (entry.Unplug port) = []

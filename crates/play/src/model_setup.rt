@@ -3,7 +3,7 @@ ghost use Rattle.std.specs.Prelude.{◌≡◌, IfOk, string_bytes};
 ghost use Rattle.block_server.specs.InitialServer.{IsReadyFor};
 ghost use Rattle.configuration.specs.Rules.{LacksEveryFault, IsTrimWord};
 ghost use Rattle.device_model.specs.ModelState.{device_at};
-ghost use Rattle.play.specs.PlayedScript.{IsNewModelOfImage, IsNewModelWithDisks, trim_word};
+ghost use Rattle.play.specs.PlayedScript.{IsNewModelOfImage, IsNewModelWithDisks, trim_config_word};
 
 use configuration::Config;
 use device_model::{Disks, Model, ModelConfig, NoMemory, Trim};
@@ -16,7 +16,7 @@ const ALL_PORTS: u8 = 0x0f;
 /// The promise on trims that a configuration's word names.
 fn trim_of(word: &str) -> Trim
     requires { IsTrimWord word.now }
-    ensures { trim_word result ≡ word.now }
+    ensures { trim_config_word result ≡ word.now }
 {
     match word {
         "full" => Trim::Full,

@@ -1,7 +1,7 @@
 // What is printed of a call.
 ghost use Rattle.std.specs.{Prelude.{◌≡◌, ◌≢◌, ◌≤◌, ℕ, IfErr, OnOk, length, take}, Io.KnownBytes.{Appends}, declared.io.ErrorKind.TheVariants.{Interrupted}, List.{flat_map}};
 ghost use Rattle.block_server.specs.CallResults.{with_replies};
-ghost use Rattle.play.specs.PrintedText.{call_text, end_text, entries_text, replies_text, reset_text, call_result_text, trace_text};
+ghost use Rattle.play.specs.PrintedText.{call_text, flush_end_text, entries_text, replies_text, done_and_replies_text, call_result_text, trace_text};
 ghost use Rattle.script.specs.Answer.{answer_line};
 
 use adapter::{Done, Entry, Operation};
@@ -49,7 +49,7 @@ fn print_replies<W: io::Write>(out: &mut W, replies: &[Reply]) -> io::Result<()>
 
 /// Prints that the call is done, and a line for each reply.
 fn print_done<W: io::Write>(out: &mut W, replies: &[Reply]) -> io::Result<()>
-    ensures { OnOk result (Appends (W.contents out.old) (W.contents out.new) (reset_text replies.now)) }
+    ensures { OnOk result (Appends (W.contents out.old) (W.contents out.new) (done_and_replies_text replies.now)) }
 {
     Answer::Done.print(out)?;
     print_each(out, replies)
@@ -79,7 +79,7 @@ fn print_said<W: io::Write>(out: &mut W, said: &CallResult<()>, replies: &[Reply
 
 /// Prints a line for a command that has ended, if it was a flush.
 fn print_end<W: io::Write>(out: &mut W, done: Done) -> io::Result<()>
-    ensures { OnOk result (Appends (W.contents out.old) (W.contents out.new) (end_text done.operation done)) }
+    ensures { OnOk result (Appends (W.contents out.old) (W.contents out.new) (flush_end_text done.operation done)) }
 {
     match done.operation {
         Operation::Flush => Answer::Flushed(done).print(out),
@@ -120,7 +120,7 @@ fn print_trace<W: io::Write>(
 /// Writes what is printed of a call, in place of what the text had: with a trace, what the tape gained past so many
 /// entries, and then what the call said, of which the replies of a service, a tick, a reset or a revocation stand in a
 /// list. It fails where memory is refused.
-pub fn print_call(
+pub fn set_call_text(
     text: &mut Vec<u8>,
     trace: bool,
     tape: &[Entry],

@@ -14,12 +14,12 @@ use Rattle.refinement.specs.Slots.{SlotStates}
 use Rattle.refinement.specs.Fragments.{TapeGrows}
 use Rattle.port_control.specs.Calls.{ResetsAndFindsDisk, ResetsAndFindsFault, StaysReceivingWithLinkUpIfShown, Starts}
 use Rattle.port_control.specs.Engines.{StopsReceiving}
-use Rattle.port_control.specs.Ports.{IsCommandRegister, IsPlacingRegister, IsResetRegister, IsStoppedReceiving, BacksFault, SendsComresetThen, IsDeviceFound}
+use Rattle.port_control.specs.Ports.{IsCommandRegister, IsPlacingRegister, IsResetRegister, IsStoppedReceiving, BacksFault, SendsComresetThen, IsClearAndUpUnlessPlugEvents}
 use Rattle.port_control.specs.declared.PortFault.{PortFault}
 use Rattle.port_control.specs.declared.PortFault.TheVariants.{NoDevice, Busy, EngineStuck, NotAta}
-use Rattle.port_boot.specs.States.{BacksState, IsBootRegister, IsOnWithPortMemoryAndFreeSlots, IsBroughtUp, EndsBeforeStart, IsStateOfFault}
+use Rattle.port_boot.specs.States.{BacksState, IsWrittenInBootButCi, IsOnWithPortMemoryAndFreeSlots, IsBroughtUp, EndsBeforeStart, IsStateOfFault}
 use Rattle.port_boot.specs.Laws.SlotCondition.{AnyUses, PortUnused}
-use Rattle.port_boot.specs.Laws.RegisterSet.{BootRegisters, Commanding, PlacingRegisters, ResetRegisters}
+use Rattle.port_boot.specs.Laws.RegisterSet.{BootRegisters, CommandRegister, PlacingRegisters, ResetRegisters}
 use Rattle.port_boot.specs.Laws.AccessPurpose.{Controlling}
 use Rattle.port_boot.specs.Laws.{Laws, SlotCondition, RegisterSet, registers_of, slot_uses_meeting}
 use Rattle.refinement.specs.Tape.{TapeTells}
@@ -42,13 +42,13 @@ fault_ends port new state fault told other receives shown wanted = by fault told
     by (NotAta signature) is not shown = subst (λ (s : PortState). BacksState wanted s port new) (sym is) (receives.stopped, inr (inl (refl, (signature, shown))))
 
 -- placing, resetting and starting are of a boot
-pub placing : (r : PortReg) → IsPlacingRegister r → IsBootRegister r
+pub placing : (r : PortReg) → IsPlacingRegister r → IsWrittenInBootButCi r
 placing r is = inl is
 
-pub resetting : (r : PortReg) → IsResetRegister r → IsBootRegister r
+pub resetting : (r : PortReg) → IsResetRegister r → IsWrittenInBootButCi r
 resetting r is = inr (inl is)
 
-pub starting : (r : PortReg) → IsCommandRegister r → IsBootRegister r
+pub starting : (r : PortReg) → IsCommandRegister r → IsWrittenInBootButCi r
 starting r is = inl (inl is)
 
 module _ (laws : Laws) where
@@ -72,14 +72,14 @@ module _ (laws : Laws) where
         }
 
   -- it is a part of the boot, and as much is told of it
-  pub told_boots : (TapeTells : List Access → Type 0) (set : RegisterSet) (fitting : SlotCondition) (port : Port) (old new : Device) → ((r : PortReg) → registers_of set r → IsBootRegister r) →
+  pub told_boots : (TapeTells : List Access → Type 0) (set : RegisterSet) (fitting : SlotCondition) (port : Port) (old new : Device) → ((r : PortReg) → registers_of set r → IsWrittenInBootButCi r) →
       ((uses : SlotStates) → AllFree uses port.0 → slot_uses_meeting fitting port uses) → IsSimulatedAlong TapeTells (ReadsPortOrWrites (registers_of set) port) (slot_uses_meeting fitting port) old new →
-      IsSimulatedAlong TapeTells (ReadsPortOrWrites IsBootRegister port) (λ uses. AllFree uses port.0) old new
+      IsSimulatedAlong TapeTells (ReadsPortOrWrites IsWrittenInBootButCi port) (λ uses. AllFree uses port.0) old new
   told_boots TapeTells set fitting port old new wider fits f =
       told_wider laws TapeTells (Controlling set fitting port) (Controlling BootRegisters PortUnused port) (λ uses. uses) old new (laws.control_of_larger_set set BootRegisters port wider) fits f
 
   pub boots : (set : RegisterSet) (fitting : SlotCondition) (port : Port) (old new : Device) → IsSimulated (ReadsPortOrWrites (registers_of set) port) (slot_uses_meeting fitting port) old new →
-      ((r : PortReg) → registers_of set r → IsBootRegister r) → ((uses : SlotStates) → AllFree uses port.0 → slot_uses_meeting fitting port uses) → IsSimulated (ReadsPortOrWrites IsBootRegister port) (λ uses. AllFree uses port.0) old new
+      ((r : PortReg) → registers_of set r → IsWrittenInBootButCi r) → ((uses : SlotStates) → AllFree uses port.0 → slot_uses_meeting fitting port uses) → IsSimulated (ReadsPortOrWrites IsWrittenInBootButCi port) (λ uses. AllFree uses port.0) old new
   boots set fitting port old new f wider fits = (told_boots (λ made. Unit {0}) set fitting port old new wider fits (record { is_simulated = f; accesses_are_such = tt })).is_simulated
 
   pub placed_bootable : (port : Port) (old mid : Device) → IsOnWithPortMemoryAndFreeSlots port old → IsSimulated (ReadsPortOrWrites IsPlacingRegister port) AnySlotStates old mid → IsOnWithPortMemoryAndFreeSlots port mid
@@ -90,7 +90,7 @@ module _ (laws : Laws) where
     pub reset_bootable : IsOnWithPortMemoryAndFreeSlots port reset
     reset_bootable = bootable_after ResetRegisters AnyUses port mid reset second (λ uses free. tt) (placed_bootable port old mid b first.is_simulated)
 
-    pub reset_boots : IsSimulatedAlong (StopsReceiving port) (ReadsPortOrWrites IsBootRegister port) (λ uses. AllFree uses port.0) old reset
+    pub reset_boots : IsSimulatedAlong (StopsReceiving port) (ReadsPortOrWrites IsWrittenInBootButCi port) (λ uses. AllFree uses port.0) old reset
     reset_boots = told_then laws (StopsReceiving port) (Controlling BootRegisters PortUnused port) (λ early late. laws.falls_with_later_accesses early late 4 14 port) old mid reset
         (told_boots (StopsReceiving port) PlacingRegisters AnyUses port old mid placing (λ uses free. tt) first) (boots ResetRegisters AnyUses port mid reset second resetting (λ uses free. tt))
 
@@ -104,8 +104,8 @@ module _ (laws : Laws) where
     reset_since was = le_trans (later PlacingRegisters AnyUses port old mid first.is_simulated) was.sctl_written_in_call
 
     -- what was found is so of the whole
-    entry_is_found_in_earlier_book : IsDeviceFound port.0 mid reset → IsDeviceFound port.0 old reset
-    entry_is_found_in_earlier_book found = record {
+    clear_and_up_from_old : IsClearAndUpUnlessPlugEvents port.0 mid reset → IsClearAndUpUnlessPlugEvents port.0 old reset
+    clear_and_up_from_old found = record {
       no_cause_is_set = found.no_cause_is_set;
       serr_shows_only_new_plugs = record {
         serr_n_is_clear = λ none. found.serr_shows_only_new_plugs.serr_n_is_clear (plugs_in_parts laws port.0 old mid reset early late none).1;
@@ -124,13 +124,13 @@ module _ (laws : Laws) where
       places = first.is_simulated.is_driven;
       resets = f.comreset_is_sent;
       link_is_up_if_shown_unless_disk_comes = λ none. r.link_is_up_if_shown_unless_disk_comes (comes_in_parts laws port.0 old mid reset early late none).1;
-      device_is_found = λ other. entry_is_found_in_earlier_book (f.device_is_found other);
+      is_clear_and_up_unless_plug_events = λ other. clear_and_up_from_old (f.is_clear_and_up_unless_plug_events other);
     }
 
     module _ (new : Device) (third : IsSimulated (ReadsPortOrWrites IsCommandRegister port) (λ uses. AllFree uses port.0) reset new) where
-      pub up_boots : IsSimulatedAlong (StopsReceiving port) (ReadsPortOrWrites IsBootRegister port) (λ uses. AllFree uses port.0) old new
+      pub up_boots : IsSimulatedAlong (StopsReceiving port) (ReadsPortOrWrites IsWrittenInBootButCi port) (λ uses. AllFree uses port.0) old new
       up_boots = told_then laws (StopsReceiving port) (Controlling BootRegisters PortUnused port) (λ early late. laws.falls_with_later_accesses early late 4 14 port) old reset new reset_boots
-          (boots Commanding PortUnused port reset new third starting (λ uses free. free))
+          (boots CommandRegister PortUnused port reset new third starting (λ uses free. free))
 
       last : TapeGrows reset new
       last = driven_grows laws (ReadsPortOrWrites IsCommandRegister port) reset new third.is_driven
@@ -138,16 +138,16 @@ module _ (laws : Laws) where
       pub brought_up : ResetsAndFindsDisk port mid reset → Starts port reset new → IsBroughtUp port old new
       brought_up f s =
           let written = ap (λ (n : Notes). n.sctl_written_at) s.other_notes_are_kept.1 in
-          let l = later Commanding PortUnused port reset new third in
+          let l = later CommandRegister PortUnused port reset new third in
           let marked = f.comreset_is_sent.sctl_time_in_tape in
           let since = reset_since f.comreset_is_sent in
           let still : (new.port port.0).notes.sctl_written_at ≤ length new.tape = omega (arith, written, l, marked) in
           let later_still : length old.tape ≤ (new.port port.0).notes.sctl_written_at = omega (arith, since, written) in
-          let found = entry_is_found_in_earlier_book f.device_is_found in
+          let found = clear_and_up_from_old f.is_clear_and_up_unless_plug_events in
           let quiet = found.is_clean_to_start (neither_second _ _ f.disk_is_seen.1) in
           let changes = s.errors_change_by_disks quiet.no_link_is_due in
           record {
-            bootable = bootable_after Commanding PortUnused port reset new third (λ uses free. free) reset_bootable;
+            bootable = bootable_after CommandRegister PortUnused port reset new third (λ uses free. free) reset_bootable;
             runs = s.runs;
             no_comreset = s.other_notes_are_kept.0 ∙ f.comreset_is_sent.no_comreset;
             device_was_seen = (ap (λ (n : Notes). n.last_ssts % 16) s.other_notes_are_kept.1 ∙ f.disk_is_seen.0.0, ap (λ (n : Notes). n.link_wait_count) s.other_notes_are_kept.1 ∙ f.disk_is_seen.0.1);

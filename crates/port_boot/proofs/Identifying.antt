@@ -19,22 +19,22 @@ use Rattle.adapter.specs.declared.tape.Entry.{Entry}
 use Rattle.adapter.specs.declared.tape.Entry.TheVariants as entry
 use Rattle.adapter.specs.RegisterEffects.{PortRegisterWritten}
 use Rattle.refinement.specs.Fragments.{SomeMachineAgreesWith, AnySlotStates, SomeMachineAgrees, ReadsPortOrWrites, IsDrivenBy, IsSimulated, IsSimulatedAlong, IsSimulatedAlongChangingUses, GainsNoMove}
-use Rattle.refinement.specs.Halting.{HaltIsOfTaken}
+use Rattle.refinement.specs.Halting.{NotLogOnlyAndQueuedHaltHasTakenCommand}
 use Rattle.refinement.specs.PreservedParts.{SameAdapter}
 use Rattle.refinement.specs.Driver.{AllFree}
 use Rattle.refinement.specs.Slots.{Own, SlotStates, set_slot_state as used, IsMove, IsOver}
-use Rattle.command_table.specs.TableStores.{IsUnused}
-use Rattle.disk_page.specs.PageRequests.{IsPageAccess, LeavesPortWhileAsking, BringsLastPage, ReadsPage}
+use Rattle.command_table.specs.TableStores.{IsSlotStateFree}
+use Rattle.disk_page.specs.PageRequests.{IsSlot0CiOrPageMemoryAccess, LeavesPortWhileAsking, BringsLastPage, ReadsPageOrWaitsInVain}
 use Rattle.identify.specs.declared.DiskInfo.{DiskInfo}
 use Rattle.port_control.specs.Engines.{FailsToStop, FailsToStopReceiving, Stops, StopsReceiving, EngineSticks}
-use Rattle.port_control.specs.Ports.{IsCommandRegister, IsPlacingRegister, RunsInPlaceWithoutCommands, ClearsStAlone, SawDevice}
-use Rattle.port_boot.specs.States.{HasLastIdentifyPage, IsFitAndWanted, IsStateByPage, BacksState, IsReadyAfterBoot, IsBootRegister, IsBootAccess, IsBoot, IsBootTo, IsOnWithPortMemoryAndFreeSlots, IsBroughtUp, IsStoppedAsOrStuck, IsStateStoppedAfterStart, StopsOnWay, IsStateOfFault}
+use Rattle.port_control.specs.Ports.{IsCommandRegister, IsPlacingRegister, RunsInPlaceWithoutCommands, ClearsStAlone, SawDeviceSinceSctlWrite}
+use Rattle.port_boot.specs.States.{HasLastIdentifyPage, IsFitAndWanted, IsStateByPage, BacksState, IsReadyAfterBoot, IsWrittenInBootButCi, IsBootAccess, IsSimulatedBoot, IsSimulatedBootTo, IsOnWithPortMemoryAndFreeSlots, IsBroughtUp, IsStoppedAsOrStuck, IsStateStoppedAfterStart, StopsReceivingAndStartedEngine, IsStateOfFault}
 use Rattle.port_control.specs.declared.PortFault.{PortFault}
 use Rattle.port_control.specs.declared.PortFault.TheVariants.{NoDevice, Busy, EngineStuck, NotAta}
 use Rattle.port_boot.proofs.Bringing.{placing, starting, told_boots}
 use Rattle.port_boot.specs.Laws.SlotCondition.{AnyUses, Slot0Unused, PortUnused}
 use Rattle.port_boot.specs.Laws.AccessPurpose.{Asking, Booting, Controlling}
-use Rattle.port_boot.specs.Laws.RegisterSet.{BootRegisters, Commanding, PlacingRegisters, ButIssued}
+use Rattle.port_boot.specs.Laws.RegisterSet.{BootRegisters, CommandRegister, PlacingRegisters, AllButCi}
 use Rattle.port_boot.specs.Laws.{Laws}
 use Rattle.refinement.specs.Tape.{TapeTells}
 use Rattle.port_boot.proofs.Stretching.{followed_then, followed_wider, same_over, there_after, told_both, told_more, told_since, told_then, told_wider, driven_as}
@@ -44,7 +44,7 @@ pub record IsIdentified (port : Port) (d : Device) (page : List ℕ) : Type 0 wh
   pub bootable : IsOnWithPortMemoryAndFreeSlots port d
   pub runs : RunsInPlaceWithoutCommands port.0 (d.port port.0)
   pub det : (d.port port.0).sctl_det ≡ 0
-  pub saw : SawDevice (d.port port.0).notes
+  pub saw : SawDeviceSinceSctlWrite (d.port port.0).notes
   pub has : HasLastIdentifyPage port.0 d page
 
 pub page_on : (port : ℕ) (old new : Device) (page : List ℕ) → GainsNoMove port Identify old new → (new.port port).notes.sctl_written_at ≡ (old.port port).notes.sctl_written_at →
@@ -64,7 +64,7 @@ module _ (port : Port) (start old mid : Device) (up : IsBroughtUp port start old
   noted : (mid.port port.0).notes.sctl_written_at ≡ (old.port port.0).notes.sctl_written_at
   noted = ap (λ (n : Notes). n.sctl_written_at) l.other_notes_are_kept
 
-  pub asked_saw : SawDevice (mid.port port.0).notes
+  pub asked_saw : SawDeviceSinceSctlWrite (mid.port port.0).notes
   asked_saw = (ap (λ (n : Notes). n.last_ssts % 16) l.other_notes_are_kept ∙ up.device_was_seen.0, ap (λ (n : Notes). n.link_wait_count) l.other_notes_are_kept ∙ up.device_was_seen.1)
 
   pub asked_running : Laws → IsOver (mid.port port.0) 0 → RunsInPlaceWithoutCommands port.0 (mid.port port.0)
@@ -98,13 +98,13 @@ module _ (port : Port) (start old mid : Device) (up : IsBroughtUp port start old
 command_quiet : IsCommandRegister Ci → ⊥
 command_quiet e = absurd (let k : Ci ≡ Cmd = e in cc)
 
-asking : (port : Port) (access : Access) → IsPageAccess port access → IsBootAccess port access
+asking : (port : Port) (access : Access) → IsSlot0CiOrPageMemoryAccess port access → IsBootAccess port access
 asking port access is = inr is
 
-controlling : (port : Port) (access : Access) → ReadsPortOrWrites IsBootRegister port access → IsBootAccess port access
+controlling : (port : Port) (access : Access) → ReadsPortOrWrites IsWrittenInBootButCi port access → IsBootAccess port access
 controlling port access is = inl is
 
-unused : (port : Port) (uses : SlotStates) → AllFree uses port.0 → IsUnused port.0 0 uses
+unused : (port : Port) (uses : SlotStates) → AllFree uses port.0 → IsSlotStateFree port.0 0 uses
 unused port uses free = free 0
 
 -- a port that was to stop was driven so, however it ended
@@ -113,7 +113,7 @@ halt_driven port wanted state old new (inl x) = x.1.is_simulated.is_simulated.is
 halt_driven port wanted state old new (inr x) = x.2.is_simulated.is_simulated.is_driven
 
 -- a boot to any state but Dead
-pub boots_to : (TapeTells : List Access → Type 0) (port : Port) (old new : Device) (state : PortState) → state ≢ Dead → IsBoot TapeTells port old new → IsBootTo TapeTells port state old new
+pub boots_to : (TapeTells : List Access → Type 0) (port : Port) (old new : Device) (state : PortState) → state ≢ Dead → IsSimulatedBoot TapeTells port old new → IsSimulatedBootTo TapeTells port state old new
 boots_to TapeTells port old new Dead alive b = absurd (alive refl)
 boots_to TapeTells port old new Absent alive b = b
 boots_to TapeTells port old new Ready alive b = b
@@ -124,8 +124,8 @@ module _ (laws : Laws) where
   -- ---- kinds of accesses
 
   -- no access changes what the adapter is
-  pub asking_adapter : (port : Port) (old new : Device) → IsDrivenBy (IsPageAccess port) old new → SameAdapter old new
-  asking_adapter port = same_over laws (IsPageAccess port)
+  pub asking_adapter : (port : Port) (old new : Device) → IsDrivenBy (IsSlot0CiOrPageMemoryAccess port) old new → SameAdapter old new
+  asking_adapter port = same_over laws (IsSlot0CiOrPageMemoryAccess port)
 
   -- PxIE may be written
   pub enabling : (port : Port) (v : ℕ) (d : Device) → IsOnWithPortMemoryAndFreeSlots port d → IsStable (MayWrite (Px port Ie) v) d
@@ -133,11 +133,11 @@ module _ (laws : Laws) where
 
   -- a stop is a part of the boot
   stop_boots : (TapeTells : List Access → Type 0) (port : Port) (mid new : Device) → IsSimulatedAlong TapeTells (ReadsPortOrWrites IsCommandRegister port) AnySlotStates mid new → IsSimulatedAlong TapeTells (IsBootAccess port) AnySlotStates mid new
-  stop_boots TapeTells port mid new f = told_wider laws TapeTells (Controlling Commanding AnyUses port) (Booting AnyUses port) (λ uses. uses) mid new
-      (λ access may. inl (laws.control_of_larger_set Commanding BootRegisters port starting access may)) (λ uses is. is) f
+  stop_boots TapeTells port mid new f = told_wider laws TapeTells (Controlling CommandRegister AnyUses port) (Booting AnyUses port) (λ uses. uses) mid new
+      (λ access may. inl (laws.control_of_larger_set CommandRegister BootRegisters port starting access may)) (λ uses is. is) f
 
   module _ (port : Port) (start old mid : Device) (up : IsBroughtUp port start old) (on : IsOn mid) (l : LeavesPortWhileAsking port.0 old mid) where
-    module _ (driven : IsDrivenBy (IsPageAccess port) old mid) where
+    module _ (driven : IsDrivenBy (IsSlot0CiOrPageMemoryAccess port) old mid) where
       pub asked_there : HasPort mid port.0
       asked_there = there_after (asking_adapter port old mid driven) up.bootable.has_port
 
@@ -151,7 +151,7 @@ module _ (laws : Laws) where
   -- ---- no page came
 
   module _ (port : Port) (start old mid : Device) (up : IsBroughtUp port start old) (on : IsOn mid) (l : LeavesPortWhileAsking port.0 old mid)
-      (reads : ReadsPage port Identify None old mid) (agrees : (uses : SlotStates) → IsUnused port.0 0 uses → SomeMachineAgrees uses old → SomeMachineAgrees (used uses port.0 0 (Own Identify)) mid) where
+      (reads : ReadsPageOrWaitsInVain port Identify None old mid) (agrees : (uses : SlotStates) → IsSlotStateFree port.0 0 uses → SomeMachineAgrees uses old → SomeMachineAgrees (used uses port.0 0 (Own Identify)) mid) where
     pub unasked_there : HasPort mid port.0
     unasked_there = asked_there port start old mid up on l reads.1.is_simulated.is_driven
 
@@ -161,7 +161,7 @@ module _ (laws : Laws) where
     module _ (new : Device) (has : ClearsStAlone (mid.port port.0) (new.port port.0)) where
       -- asked, and then stopped, of which so much is told
       module _ (TapeTells : List Access → Type 0) (since : (early late : List Access) → TapeTells late → TapeTells (early ++ late)) (stops : IsSimulatedAlong TapeTells (ReadsPortOrWrites IsCommandRegister port) AnySlotStates mid new) where
-        given : IsSimulatedAlongChangingUses TapeTells (IsBootAccess port) (IsUnused port.0 0) (λ uses. used uses port.0 0 (Own Identify)) old new
+        given : IsSimulatedAlongChangingUses TapeTells (IsBootAccess port) (IsSlotStateFree port.0 0) (λ uses. used uses port.0 0 (Own Identify)) old new
         given = told_both laws (λ early. Unit {0}) TapeTells TapeTells (λ early late any is. since early late is) (Booting Slot0Unused port) (Booting AnyUses port) (λ uses. used uses port.0 0 (Own Identify)) (λ uses. uses)
             (λ access may. may)
             (λ uses free. tt) old mid new
@@ -171,7 +171,7 @@ module _ (laws : Laws) where
         given_boots : IsSimulatedAlongChangingUses TapeTells (IsBootAccess port) (λ uses. AllFree uses port.0) (λ uses. used uses port.0 0 (Own Identify)) old new
         given_boots = told_wider laws TapeTells (Booting Slot0Unused port) (Booting PortUnused port) (λ uses. used uses port.0 0 (Own Identify)) old new (λ access may. may) (unused port) given
 
-        stopped_boots : IsOver (new.port port.0) 0 → IsBoot TapeTells port old new
+        stopped_boots : IsOver (new.port port.0) 0 → IsSimulatedBoot TapeTells port old new
         stopped_boots over = told_wider laws TapeTells (Booting Slot0Unused port) (Booting PortUnused port) (λ uses. uses) old new (λ access may. may) (unused port)
             (let f = laws.fragments.own_command_is_over (Booting Slot0Unused port) port Identify 1 old new (inr (refl, refl)) (λ uses free. free) over given.is_simulated in
             record { is_simulated = f.is_simulated; accesses_are_such = subst TapeTells (sym f.accesses_are_such) given.accesses_are_such })
@@ -188,18 +188,18 @@ module _ (laws : Laws) where
           )
       unasked_ends wanted result (inr x) = let P : PortState → Type 0 = λ s. BacksState wanted s port.0 new in subst P (sym x.0) (x.1, x.2.stuck_is_backed)
 
-      pub unasked_boots : (result : PortState) → IsStoppedAsOrStuck port (Unfit 9) result mid new → IsBootTo (Stops port) port result old new
+      pub unasked_boots : (result : PortState) → IsStoppedAsOrStuck port (Unfit 9) result mid new → IsSimulatedBootTo (Stops port) port result old new
       unasked_boots result (inl x) =
-          let P : PortState → Type 0 = λ s. IsBootTo (Stops port) port s old new in
+          let P : PortState → Type 0 = λ s. IsSimulatedBootTo (Stops port) port s old new in
           subst P (sym x.0) (stopped_boots (Stops port) (λ early late. laws.falls_with_earlier_accesses early late 0 15 port) x.1.is_simulated (record { is_not_issued = x.1.stopped.engine_is_stopped.no_command_is_issued 0; is_not_taken = x.1.stopped.engine_is_stopped.no_command_is_taken 0 }))
       unasked_boots result (inr x) =
-          let P : PortState → Type 0 = λ s. IsBootTo (Stops port) port s old new in
+          let P : PortState → Type 0 = λ s. IsSimulatedBootTo (Stops port) port s old new in
           subst P (sym x.0) (inr (given_boots (EngineSticks port) (λ early late. laws.sticks_with_earlier_accesses early late port) (halting_sticks port mid new x.2.is_simulated)))
 
   -- ---- a page came
 
   module _ (port : Port) (start old mid : Device) (page : List ℕ) (up : IsBroughtUp port start old) (on : IsOn mid) (l : LeavesPortWhileAsking port.0 old mid)
-      (reads : ReadsPage port Identify (Some page) old mid) (agrees : (uses : SlotStates) → IsUnused port.0 0 uses → SomeMachineAgrees uses old → SomeMachineAgrees uses mid) where
+      (reads : ReadsPageOrWaitsInVain port Identify (Some page) old mid) (agrees : (uses : SlotStates) → IsSlotStateFree port.0 0 uses → SomeMachineAgrees uses old → SomeMachineAgrees uses mid) where
     pub identified : IsIdentified port mid page
     identified =
         let a = up.bootable.machine_is_related in
@@ -263,7 +263,7 @@ module _ (laws : Laws) where
           }
 
       -- what halts the port then is of a command that is taken
-      pub enabled_halts : (SomeMachineAgreesWith (λ uses. AllFree uses port.0) old → (mid.port port.0).halt ≡ NotHalted) → (wanted : Option (List ℕ)) (info : DiskInfo) → v ≡ named_causes_mask → IsFitAndWanted wanted page info → HaltIsOfTaken (new.port port.0)
+      pub enabled_halts : (SomeMachineAgreesWith (λ uses. AllFree uses port.0) old → (mid.port port.0).halt ≡ NotHalted) → (wanted : Option (List ℕ)) (info : DiskInfo) → v ≡ named_causes_mask → IsFitAndWanted wanted page info → NotLogOnlyAndQueuedHaltHasTakenCommand (new.port port.0)
       enabled_halts calm wanted info told fit =
           let a = identified.bootable.machine_is_related in
           laws.access_keeps_halt_of_taken a.0 a.2.machine port (Writing (Px port Ie) v) mid new a.2.reached a.2.driver_relation.state_relation (λ (e : Px port Ie ≡ Px port Cmd). absurd cc) call
@@ -274,17 +274,17 @@ module _ (laws : Laws) where
           (laws.fragments.writes (Booting PortUnused port) (Px port Ie) v mid new (inl (refl, inr (inr refl))) (enabling port v mid identified.bootable) (λ uses free. tt) call).is_simulated
 
     -- or the port is stopped, of which so much is told
-    halted_as : (TapeTells : List Access → Type 0) → ((early late : List Access) → TapeTells late → TapeTells (early ++ late)) → (new : Device) → IsSimulatedAlong TapeTells (ReadsPortOrWrites IsCommandRegister port) AnySlotStates mid new → IsBoot TapeTells port old new
+    halted_as : (TapeTells : List Access → Type 0) → ((early late : List Access) → TapeTells late → TapeTells (early ++ late)) → (new : Device) → IsSimulatedAlong TapeTells (ReadsPortOrWrites IsCommandRegister port) AnySlotStates mid new → IsSimulatedBoot TapeTells port old new
     halted_as TapeTells since new stops = told_since laws TapeTells (Booting PortUnused port) since (λ uses. uses) old mid new asked_boots
         (told_wider laws TapeTells (Booting AnyUses port) (Booting PortUnused port) (λ uses. uses) mid new (λ access may. may) (λ uses free. tt) (stop_boots TapeTells port mid new stops))
 
-    pub halted_boots : (wanted : Option (List ℕ)) (state result : PortState) (new : Device) → IsStateByPage wanted state page → IsStoppedAsOrStuck port state result mid new → IsBootTo (Stops port) port result old new
+    pub halted_boots : (wanted : Option (List ℕ)) (state result : PortState) (new : Device) → IsStateByPage wanted state page → IsStoppedAsOrStuck port state result mid new → IsSimulatedBootTo (Stops port) port result old new
     halted_boots wanted state result new judged (inl x) =
-        let P : PortState → Type 0 = λ s. IsBootTo (Stops port) port s old new in
+        let P : PortState → Type 0 = λ s. IsSimulatedBootTo (Stops port) port s old new in
         let alive : state ≢ Dead = λ (dead : state ≡ Dead). absurd (subst (λ (s : PortState). IsStateByPage wanted s page) dead judged) in
         subst P (sym x.0) (boots_to (Stops port) port old new state alive (halted_as (Stops port) (λ early late. laws.falls_with_earlier_accesses early late 0 15 port) new x.1.is_simulated))
     halted_boots wanted state result new judged (inr x) =
-        let P : PortState → Type 0 = λ s. IsBootTo (Stops port) port s old new in
+        let P : PortState → Type 0 = λ s. IsSimulatedBootTo (Stops port) port s old new in
         subst P (sym x.0) (inl (halted_as (EngineSticks port) (λ early late. laws.sticks_with_earlier_accesses early late port) new (halting_sticks port mid new x.2.is_simulated)))
 
     module _ (new : Device) (stops : IsDrivenBy (ReadsPortOrWrites IsCommandRegister port) mid new) (has : ClearsStAlone (mid.port port.0) (new.port port.0)) where
@@ -292,7 +292,7 @@ module _ (laws : Laws) where
       halted_page =
           let h = identified in
           let silent = laws.accesses_gain_no_move port Identify mid new
-          (driven_as (ReadsPortOrWrites IsCommandRegister port) (ReadsPortOrWrites (λ r. r ≢ Ci) port) mid new (laws.control_of_larger_set Commanding ButIssued port (λ r is same. command_quiet (subst IsCommandRegister same is))) stops) (λ slot. record { is_not_issued = h.runs.ci_is_clear slot; is_not_taken = h.runs.none_is_taken slot }) in
+          (driven_as (ReadsPortOrWrites IsCommandRegister port) (ReadsPortOrWrites (λ r. r ≢ Ci) port) mid new (laws.control_of_larger_set CommandRegister AllButCi port (λ r is same. command_quiet (subst IsCommandRegister same is))) stops) (λ slot. record { is_not_issued = h.runs.ci_is_clear slot; is_not_taken = h.runs.none_is_taken slot }) in
           page_on port.0 mid new page silent.0 (ap (λ (n : Notes). n.sctl_written_at) has.other_notes_are_kept) h.has
 
       pub halted_ends : (wanted : Option (List ℕ)) (state result : PortState) → IsStateByPage wanted state page → IsStoppedAsOrStuck port state result mid new → BacksState wanted result port.0 new
@@ -305,47 +305,47 @@ module _ (laws : Laws) where
 
   -- ---- the whole boot
 
-  pub up_boots : (TapeTells : List Access → Type 0) (port : Port) (old mid : Device) → IsSimulatedAlong TapeTells (ReadsPortOrWrites IsBootRegister port) (λ uses. AllFree uses port.0) old mid → IsBoot TapeTells port old mid
+  pub up_boots : (TapeTells : List Access → Type 0) (port : Port) (old mid : Device) → IsSimulatedAlong TapeTells (ReadsPortOrWrites IsWrittenInBootButCi port) (λ uses. AllFree uses port.0) old mid → IsSimulatedBoot TapeTells port old mid
   up_boots TapeTells port old mid f = told_wider laws TapeTells (Controlling BootRegisters PortUnused port) (Booting PortUnused port) (λ uses. uses) old mid (controlling port) (λ uses free. free) f
 
   -- no part came after it, since FR didn't fall
-  pub stuck_boots : (port : Port) (old mid : Device) → IsSimulatedAlong (FailsToStopReceiving port) (ReadsPortOrWrites IsPlacingRegister port) AnySlotStates old mid → IsBoot (EngineSticks port) port old mid
+  pub stuck_boots : (port : Port) (old mid : Device) → IsSimulatedAlong (FailsToStopReceiving port) (ReadsPortOrWrites IsPlacingRegister port) AnySlotStates old mid → IsSimulatedBoot (EngineSticks port) port old mid
   stuck_boots port old mid f = told_more (FailsToStopReceiving port) (EngineSticks port) (IsBootAccess port) (λ uses. AllFree uses port.0) (λ uses. uses) old mid (laws.failing_receiving_sticks port)
       (up_boots (FailsToStopReceiving port) port old mid (told_boots laws (FailsToStopReceiving port) PlacingRegisters AnyUses port old mid placing (λ uses free. tt) f))
 
   -- no part came after it, since there was a fault
   pub faulty_boots : (port : Port) (old mid : Device) (fault : PortFault) → fault ≢ EngineStuck → (state : PortState) → IsStateOfFault state fault →
-      IsSimulatedAlong (StopsReceiving port) (ReadsPortOrWrites IsBootRegister port) (λ uses. AllFree uses port.0) old mid → IsBootTo (StopsOnWay port state) port state old mid
+      IsSimulatedAlong (StopsReceiving port) (ReadsPortOrWrites IsWrittenInBootButCi port) (λ uses. AllFree uses port.0) old mid → IsSimulatedBootTo (StopsReceivingAndStartedEngine port state) port state old mid
   faulty_boots port old mid fault other state told first = by fault other told
     where
-      early : (s : PortState) → state ≡ s → s ≢ Dead → (IsStateStoppedAfterStart s → ⊥) → IsBootTo (StopsOnWay port state) port state old mid
+      early : (s : PortState) → state ≡ s → s ≢ Dead → (IsStateStoppedAfterStart s → ⊥) → IsSimulatedBootTo (StopsReceivingAndStartedEngine port state) port state old mid
       early s is alive late =
-          let P : PortState → Type 0 = λ x. IsBootTo (StopsOnWay port x) port x old mid in
-          subst P (sym is) (boots_to (StopsOnWay port s) port old mid s alive
-          (told_more (StopsReceiving port) (StopsOnWay port s) (IsBootAccess port) (λ uses. AllFree uses port.0) (λ uses. uses) old mid (λ accesses here. (here, λ is. absurd (late is))) (up_boots (StopsReceiving port) port old mid first)))
+          let P : PortState → Type 0 = λ x. IsSimulatedBootTo (StopsReceivingAndStartedEngine port x) port x old mid in
+          subst P (sym is) (boots_to (StopsReceivingAndStartedEngine port s) port old mid s alive
+          (told_more (StopsReceiving port) (StopsReceivingAndStartedEngine port s) (IsBootAccess port) (λ uses. AllFree uses port.0) (λ uses. uses) old mid (λ accesses here. (here, λ is. absurd (late is))) (up_boots (StopsReceiving port) port old mid first)))
 
-      by : (fault : PortFault) → fault ≢ EngineStuck → IsStateOfFault state fault → IsBootTo (StopsOnWay port state) port state old mid
+      by : (fault : PortFault) → fault ≢ EngineStuck → IsStateOfFault state fault → IsSimulatedBootTo (StopsReceivingAndStartedEngine port state) port state old mid
       by NoDevice other told = early Absent told (λ e. absurd cc) (λ late. late)
       by Busy other told = early (Unfit 7) told (λ e. absurd cc) (λ late. absurd (late.0 refl))
       by EngineStuck other told = absurd (other refl)
       by (NotAta signature) other told = early (Unfit 8) told (λ e. absurd cc) (λ late. absurd (late.1 refl))
 
   -- what was proved of one part is so of the whole
-  module _ (port : Port) (old mid new : Device) (first : IsSimulatedAlong (StopsReceiving port) (ReadsPortOrWrites IsBootRegister port) (λ uses. AllFree uses port.0) old mid) where
-    pub whole_ready : (result : Result DiskInfo PortState) → OnOk result (IsSimulated (IsBootAccess port) (λ uses. AllFree uses port.0) mid new) → OnOk result (IsBoot (StopsReceiving port) port old new)
+  module _ (port : Port) (old mid new : Device) (first : IsSimulatedAlong (StopsReceiving port) (ReadsPortOrWrites IsWrittenInBootButCi port) (λ uses. AllFree uses port.0) old mid) where
+    pub whole_ready : (result : Result DiskInfo PortState) → OnOk result (IsSimulated (IsBootAccess port) (λ uses. AllFree uses port.0) mid new) → OnOk result (IsSimulatedBoot (StopsReceiving port) port old new)
     whole_ready (Ok info) then = told_then laws (StopsReceiving port) (Booting PortUnused port) (λ early late. laws.falls_with_later_accesses early late 4 14 port) old mid new (up_boots (StopsReceiving port) port old mid first) then
     whole_ready (Err state) then = then
 
     -- both engines fell
-    whole : (state : PortState) → IsBoot (Stops port) port mid new → IsBoot (StopsOnWay port state) port old new
-    whole state then = told_both laws (StopsReceiving port) (Stops port) (StopsOnWay port state) (λ early late here is. (laws.falls_with_later_accesses early late 4 14 port here, λ _. laws.falls_with_earlier_accesses early late 0 15 port is)) (Booting PortUnused port) (Booting PortUnused port)
+    whole : (state : PortState) → IsSimulatedBoot (Stops port) port mid new → IsSimulatedBoot (StopsReceivingAndStartedEngine port state) port old new
+    whole state then = told_both laws (StopsReceiving port) (Stops port) (StopsReceivingAndStartedEngine port state) (λ early late here is. (laws.falls_with_later_accesses early late 4 14 port here, λ _. laws.falls_with_earlier_accesses early late 0 15 port is)) (Booting PortUnused port) (Booting PortUnused port)
         (λ uses. uses) (λ uses. uses) (λ access may. may) (λ uses free. free) old mid new (up_boots (StopsReceiving port) port old mid first) then
 
     -- or one is stuck
     dies : (next : SlotStates → SlotStates) → IsSimulatedAlongChangingUses (EngineSticks port) (IsBootAccess port) (λ uses. AllFree uses port.0) next mid new → IsSimulatedAlongChangingUses (EngineSticks port) (IsBootAccess port) (λ uses. AllFree uses port.0) next old new
     dies next then = told_since laws (EngineSticks port) (Booting PortUnused port) (λ early late. laws.sticks_with_earlier_accesses early late port) next old mid new (up_boots (StopsReceiving port) port old mid first).is_simulated then
 
-    pub whole_ended : (result : Result DiskInfo PortState) → IfErr result (λ state. IsBootTo (Stops port) port state mid new) → IfErr result (λ state. IsBootTo (StopsOnWay port state) port state old new)
+    pub whole_ended : (result : Result DiskInfo PortState) → IfErr result (λ state. IsSimulatedBootTo (Stops port) port state mid new) → IfErr result (λ state. IsSimulatedBootTo (StopsReceivingAndStartedEngine port state) port state old new)
     whole_ended (Ok info) then = then
     whole_ended (Err Dead) (inl then) = inl (dies (λ uses. uses) then)
     whole_ended (Err Dead) (inr then) = inr (dies (λ uses. used uses port.0 0 (Own Identify)) then)

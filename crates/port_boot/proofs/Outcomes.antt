@@ -19,7 +19,7 @@ use Rattle.refinement.specs.PortFacts.{Undisturbed, ShowsNoTrouble}
 use Rattle.refinement.specs.PreservedParts.{NoPlugEvents, DoesNotWrite}
 use Rattle.refinement.specs.StartedPort.{IsStarted}
 use Rattle.refinement.specs.Fragments.{TapeGrows}
-use Rattle.disk_page.specs.PageRequests.{IsPageAccess, LeavesPortWhileAsking}
+use Rattle.disk_page.specs.PageRequests.{IsSlot0CiOrPageMemoryAccess, LeavesPortWhileAsking}
 use Rattle.port_control.specs.Engines.{Stops}
 use Rattle.port_control.specs.Ports.{IsCommandRegister, SerrShowsOnlyNewPlugs}
 use Rattle.port_control.specs.declared.PortFault.{PortFault}
@@ -29,16 +29,16 @@ use Rattle.identify.specs.declared.DiskInfo.{DiskInfo}
 use Rattle.identify.specs.declared.Unfit.{Unfit as Fault}
 use Rattle.identify.specs.declared.Unfit.TheVariants.{BadChecksum, Word83, No48Bit, SectorSize, NoFlush, NoSectors}
 use Rattle.port_boot.specs.Outcomes.{EndsReady, EndsUnready, FailsToIdentify, Identifies, BootBringsUp}
-use Rattle.port_boot.specs.States.{IsStateOfFault, IsStateByPage, IsBootRegister, IsBeforeStart, IsStoppedAsOrStuck, IsBootAccess, IsBroughtUp, AsksDiskThenEnables, BringsReady, EndsBeforeStart, EndsAfterStart, IsStateStoppedAfterStart, ShowsOnlyNewErrors, BitsRiseWithCause, StaysRunningIfUndisturbed, StopsWithLinkUpIfUndisturbed}
+use Rattle.port_boot.specs.States.{IsStateOfFault, IsStateByPage, IsWrittenInBootButCi, IsBeforeStart, IsStoppedAsOrStuck, IsBootAccess, IsBroughtUp, AsksDiskThenEnables, BringsReady, EndsBeforeStart, EndsAfterStart, IsStateStoppedAfterStart, ShowsOnlyGainedErrors, BitsRiseWithCause, StaysRunningIfUndisturbed, StopsWithLinkUpIfUndisturbed}
 use Rattle.port_boot.proofs.Identifying.{whole_ended, whole_ready}
 use Rattle.port_boot.proofs.Staying.{boot_driven}
 use Rattle.port_boot.proofs.Enduring.{Endures, Lasts, endures, lasts, lasts_access, lasts_more, goes_more}
 use Rattle.port_boot.specs.Laws.{Laws}
 use Rattle.port_boot.proofs.Stretching.{driven_grows, calm_in_parts, comes_in_parts, plugs_in_parts}
 use Rattle.std.proofs.lemmas.List.Elements.{All-weaker}
-use Rattle.port_boot.specs.Laws.RegisterSet.{Commanding}
+use Rattle.port_boot.specs.Laws.RegisterSet.{CommandRegister}
 
-asking_spares : (port : Port) (spared : Reg) → Px port Ci ≢ spared → (access : Access) → IsPageAccess port access → DoesNotWrite spared access
+asking_spares : (port : Port) (spared : Reg) → Px port Ci ≢ spared → (access : Access) → IsSlot0CiOrPageMemoryAccess port access → DoesNotWrite spared access
 asking_spares port spared other (Reading r v) is = tt
 asking_spares port spared other (Writing r v) is = λ e. other (sym is.0 ∙ e)
 asking_spares port spared other (Loading at bytes) is = tt
@@ -99,10 +99,10 @@ handed_on P (Err s) state is h = subst P (sym is) h
 module _ (laws : Laws) where
   -- ---- while the disk is asked for its page
 
-  module _ (port : Port) (start old mid : Device) (up : IsBroughtUp port start old) (driven : IsDrivenBy (IsPageAccess port) old mid) where
+  module _ (port : Port) (start old mid : Device) (up : IsBroughtUp port start old) (driven : IsDrivenBy (IsSlot0CiOrPageMemoryAccess port) old mid) where
     asked : Lasts port.0 old mid
     asked =
-        let spares = λ (r : Reg) (other : Px port Ci ≢ r). All-weaker (IsPageAccess port) (DoesNotWrite r) (asking_spares port r other) driven.accesses driven.accesses_are_of_kind in
+        let spares = λ (r : Reg) (other : Px port Ci ≢ r). All-weaker (IsSlot0CiOrPageMemoryAccess port) (DoesNotWrite r) (asking_spares port r other) driven.accesses driven.accesses_are_of_kind in
         lasts laws port driven.accesses old mid up.bootable.adapter_is_on driven.all_are_done (spares Ghc (λ (e : Px port Ci ≡ Ghc). absurd (cc)))
         (spares (Px port Sctl) (λ (e : Px port Ci ≡ Px port Sctl). absurd (cc))) (spares (Px port Cmd) (λ (e : Px port Ci ≡ Px port Cmd). absurd (cc)))
 
@@ -117,8 +117,8 @@ module _ (laws : Laws) where
     pub stops_then : (new : Device) → IsOn mid → LeavesPortWhileAsking port.0 old mid → IsDrivenBy (ReadsPortOrWrites IsCommandRegister port) mid new → StopsWithLinkUpIfUndisturbed port old new
     stops_then new on l stop =
         let late : Endures port.0 mid new = endures laws port stop.accesses mid new on stop.all_are_done
-        (All-weaker (ReadsPortOrWrites IsCommandRegister port) (DoesNotWrite Ghc) (λ access is. laws.accesses_of_port_spare_ghc port access (laws.control_spares_other_ports Commanding port access is)) stop.accesses stop.accesses_are_of_kind)
-        (All-weaker (ReadsPortOrWrites IsCommandRegister port) (DoesNotWrite (Px port Sctl)) (laws.control_spares_other_registers Commanding port Sctl no_control) stop.accesses stop.accesses_are_of_kind) in
+        (All-weaker (ReadsPortOrWrites IsCommandRegister port) (DoesNotWrite Ghc) (λ access is. laws.accesses_of_port_spare_ghc port access (laws.control_spares_other_ports CommandRegister port access is)) stop.accesses stop.accesses_are_of_kind)
+        (All-weaker (ReadsPortOrWrites IsCommandRegister port) (DoesNotWrite (Px port Sctl)) (laws.control_spares_other_registers CommandRegister port Sctl no_control) stop.accesses stop.accesses_are_of_kind) in
         let det : (mid.port port.0).sctl_det ≡ 0 = l.controls_are_kept.sctl_det_is_kept ∙ up.no_comreset in
         record {
           asks_disk_then_stops = record { asked = mid; asks = driven; stops = stop };
@@ -168,7 +168,7 @@ module _ (laws : Laws) where
         let parts = calm_in_parts laws port.0 start old new early late calm in
         (parts.1, up.port_is_started (laws.undisturbed_has_no_plug_events port.0 start old parts.0))
 
-    pub shows_news : StaysRunningIfUndisturbed port.0 old new → ShowsOnlyNewErrors port.0 start new
+    pub shows_news : StaysRunningIfUndisturbed port.0 old new → ShowsOnlyGainedErrors port.0 start new
     shows_news runs = record {
       serr_shows_only_new_plugs = clear_since runs.bits_rise_with_cause;
       fatal_bits_show_only_new_errors = fatal_since runs.bits_rise_with_cause;
@@ -202,7 +202,7 @@ module _ (laws : Laws) where
   module _ (port : Port) (start old new : Device) (rises : BootBringsUp port start old) (wanted : Option (List ℕ))
       (written : (new.port port.0).notes.sctl_written_at ≡ (old.port port.0).notes.sctl_written_at) where
     risen : TapeGrows start old
-    risen = driven_grows laws (ReadsPortOrWrites IsBootRegister port) start old rises.boots.is_simulated.is_driven
+    risen = driven_grows laws (ReadsPortOrWrites IsWrittenInBootButCi port) start old rises.boots.is_simulated.is_driven
 
     since : length start.tape ≤ (new.port port.0).notes.sctl_written_at
     since = let before = rises.is_brought_up.sctl_written_in_boot in omega (arith, before, written)

@@ -10,9 +10,9 @@ use Rattle.adapter.specs.Device as device
 use Rattle.adapter.specs.declared.command.Operation.TheVariants.{Identify}
 use Rattle.refinement.specs.Fragments.{IsDrivenBy, SparesOtherPorts, OnlyDeviceChangesPort, GainsNoMove}
 use Rattle.identify.specs.declared.DiskInfo.{DiskInfo}
-use Rattle.port_control.specs.Ports.{IsStopped, RunsInPlaceWithoutCommands, SawDevice, BacksFault}
+use Rattle.port_control.specs.Ports.{IsStopped, RunsInPlaceWithoutCommands, SawDeviceSinceSctlWrite, BacksFault}
 use Rattle.port_control.specs.declared.PortFault.{PortFault}
-use Rattle.port_boot.specs.States.{BacksState, HasFitDiskAndInterrupts, HasLastIdentifyPage, IsBootTo, IsBootAccess, IsReadyAfterBoot, IsUnfit}
+use Rattle.port_boot.specs.States.{BacksState, HasFitDiskAndInterrupts, HasLastIdentifyPage, IsSimulatedBootTo, IsBootAccess, IsReadyAfterBoot, BacksUnfitNumber}
 use Rattle.port_boot.proofs.Identifying.{page_on}
 use Rattle.port_boot.specs.Laws.{Laws}
 use Rattle.refinement.specs.Tape.{TapeTells}
@@ -55,11 +55,11 @@ module _ (port : ℕ) (old new : Device) (l : OnlyDeviceChangesPort (old.port po
   page_stays : GainsNoMove port Identify old new → (page : List ℕ) → HasLastIdentifyPage port old page → HasLastIdentifyPage port new page
   page_stays silent page h = page_on port old new page silent written_on h
 
-  unfit_on : GainsNoMove port Identify old new → (n : ℕ) → IsUnfit n port old → IsUnfit n port new
+  unfit_on : GainsNoMove port Identify old new → (n : ℕ) → BacksUnfitNumber n port old → BacksUnfitNumber n port new
   unfit_on silent n (inl (is, shown)) = inl (is, noted_on (old.port port) (new.port port) l (λ k. BacksFault PortFault.Busy k) shown)
   unfit_on silent n (inr (inl (is, shown))) = inr (inl (is, noted_on (old.port port) (new.port port) l (λ k. (signature : ℕ) × BacksFault (PortFault.NotAta signature) k) shown))
   unfit_on silent n (inr (inr (inl (is, saw, count)))) =
-      inr (inr (inl (is, noted_on (old.port port) (new.port port) l SawDevice saw, noted_on (old.port port) (new.port port) l (λ k. k.slot0_issued_count ≡ MOST_READINGS) count)))
+      inr (inr (inl (is, noted_on (old.port port) (new.port port) l SawDeviceSinceSctlWrite saw, noted_on (old.port port) (new.port port) l (λ k. k.slot0_issued_count ≡ MOST_READINGS) count)))
   unfit_on silent n (inr (inr (inr (page, has, fault)))) = inr (inr (inr (page, page_stays silent page has, fault)))
 
   -- the page is not asked about where the port is dead
@@ -73,11 +73,11 @@ module _ (port : ℕ) (old new : Device) (l : OnlyDeviceChangesPort (old.port po
   pub ready_on : (wanted : Option (List ℕ)) (info : DiskInfo) → GainsNoMove port Identify old new → IsReadyAfterBoot wanted port old info → IsReadyAfterBoot wanted port new info
   ready_on wanted info silent r = record {
     runs = running_on (old.port port) (new.port port) l port r.runs;
-    device_was_seen = noted_on (old.port port) (new.port port) l SawDevice r.device_was_seen;
+    device_was_seen = noted_on (old.port port) (new.port port) l SawDeviceSinceSctlWrite r.device_was_seen;
     has_fit_disk = disk_on wanted port old new info silent l.controls.sctl_det_is_kept l.controls.ie_is_kept written_on r.has_fit_disk;
   }
 
-pub boot_driven : (TapeTells : List Access → Type 0) (port : Port) (old new : Device) (state : PortState) → IsBootTo TapeTells port state old new → IsDrivenBy (IsBootAccess port) old new
+pub boot_driven : (TapeTells : List Access → Type 0) (port : Port) (old new : Device) (state : PortState) → IsSimulatedBootTo TapeTells port state old new → IsDrivenBy (IsBootAccess port) old new
 boot_driven TapeTells port old new Dead (inl b) = b.is_simulated.is_driven
 boot_driven TapeTells port old new Dead (inr b) = b.is_simulated.is_driven
 boot_driven TapeTells port old new Absent b = b.is_simulated.is_driven

@@ -4,26 +4,26 @@ use Rattle.ata_types.specs.declared.Port.{Port}
 use Rattle.adapter.specs.Access.{Access, Does, Writes}
 use Rattle.refinement.specs.Laws.{FragmentLaws, TapeLaws}
 use Rattle.refinement.specs.Driver.{AllFree}
-use Rattle.refinement.specs.Fragments.{AnyAccess, AnySlotStates, HasNoCommand, ReadsPortOrWrites, IsDrivenBy, SparesOtherPorts, GainsNoMove}
+use Rattle.refinement.specs.Fragments.{AnyAccess, AnySlotStates, NoCommandIsIssuedOrTaken, ReadsPortOrWrites, IsDrivenBy, SparesOtherPorts, GainsNoMove}
 use Rattle.refinement.specs.Errors.{ErrorBitsRiseByErrors, NoFaults, NoFatalErrors}
 use Rattle.hba_regs.specs.declared.reg.PortReg.TheVariants.{Ci, Cmd, Sctl}
-use Rattle.refinement.specs.StartedPort.{ClearsNoStart, IsStarted, IsUpForStart}
+use Rattle.refinement.specs.StartedPort.{WritesCmdOnlyWithStSet, IsStarted, IsUpForStart}
 use Rattle.adapter.specs.Device.{Device, DevicePort}
 use Rattle.adapter.specs.Device.Halt.{NotHalted}
 use Rattle.refinement.specs.Relation.{StateRelation}
-use Rattle.refinement.specs.Halting.{HaltIsOfTaken, HaltOfTakenIfSt}
+use Rattle.refinement.specs.Halting.{NotLogOnlyAndQueuedHaltHasTakenCommand, NotLogOnlyAndQueuedHaltHasTakenCommandIfSt}
 use Rattle.block_machine.specs.Histories.{IsReachable}
 use Rattle.block_machine.specs.State.{Machine}
 use Rattle.adapter.specs.declared.tape.Entry.{Entry}
 use Rattle.port_control.specs.Engines.{FailsToStop, FailsToStopReceiving, EngineFalls, EngineSticks}
 use Rattle.refinement.specs.Slots.{IsOver, SlotStates}
 use Rattle.hba_regs.specs.declared.reg.Reg.TheVariants.{Ghc, Px}
-use Rattle.disk_page.specs.PageRequests.{IsPageAccess, LeavesPortWhileAsking}
-use Rattle.port_boot.specs.States.{IsBootRegister, IsBootAccess}
+use Rattle.disk_page.specs.PageRequests.{IsSlot0CiOrPageMemoryAccess, LeavesPortWhileAsking}
+use Rattle.port_boot.specs.States.{IsWrittenInBootButCi, IsBootAccess}
 use Rattle.adapter.specs.Rules.{IsOn, MayWrite, IsStable}
 use Rattle.port_control.specs.Ports.{IsPlacingRegister, IsResetRegister, IsCommandRegister}
 use Rattle.refinement.specs.PortFacts.{RecordsFaultsIfSt, RunsWell, ShowsNoTrouble, Undisturbed}
-use Rattle.command_table.specs.TableStores.{IsUnused}
+use Rattle.command_table.specs.TableStores.{IsSlotStateFree}
 use Rattle.adapter.specs.declared.command.Operation.{Operation}
 use Rattle.refinement.specs.PreservedParts.{NoPlugEvents, SameAdapter, DoesNotWrite}
 use Rattle.hba_regs.specs.declared.reg.PortReg.{PortReg}
@@ -36,18 +36,18 @@ use Rattle.hba_regs.specs.Bits.{bit}
 
 -- sets of registers that are written
 pub data RegisterSet : Type 0 where
-  Commanding : RegisterSet
+  CommandRegister : RegisterSet
   PlacingRegisters : RegisterSet
   ResetRegisters : RegisterSet
   BootRegisters : RegisterSet
-  ButIssued : RegisterSet
+  AllButCi : RegisterSet
 
 abbrev pub registers_of : RegisterSet → PortReg → Type 0
-registers_of Commanding = IsCommandRegister
+registers_of CommandRegister = IsCommandRegister
 registers_of PlacingRegisters = IsPlacingRegister
 registers_of ResetRegisters = IsResetRegister
-registers_of BootRegisters = IsBootRegister
-registers_of ButIssued = λ r. r ≢ Ci
+registers_of BootRegisters = IsWrittenInBootButCi
+registers_of AllButCi = λ r. r ≢ Ci
 
 -- the uses of slots that fit: any, with slot 0 of the port unused, or with none of its slots used
 pub data SlotCondition : Type 0 where
@@ -57,7 +57,7 @@ pub data SlotCondition : Type 0 where
 
 abbrev pub slot_uses_meeting : SlotCondition → Port → SlotStates → Type 0
 slot_uses_meeting AnyUses port = AnySlotStates
-slot_uses_meeting Slot0Unused port = IsUnused port.0 0
+slot_uses_meeting Slot0Unused port = IsSlotStateFree port.0 0
 slot_uses_meeting PortUnused port = λ uses. AllFree uses port.0
 
 -- a port's registers are read, and those of a set written; a port is booted; or its disk is asked for its page
@@ -69,12 +69,12 @@ pub data AccessPurpose : Type 0 where
 abbrev pub accesses_for : AccessPurpose → Access → Type 0
 accesses_for (Controlling set fitting port) = ReadsPortOrWrites (registers_of set) port
 accesses_for (Booting fitting port) = IsBootAccess port
-accesses_for (Asking port) = IsPageAccess port
+accesses_for (Asking port) = IsSlot0CiOrPageMemoryAccess port
 
 abbrev pub slot_uses_for : AccessPurpose → SlotStates → Type 0
 slot_uses_for (Controlling set fitting port) = slot_uses_meeting fitting port
 slot_uses_for (Booting fitting port) = slot_uses_meeting fitting port
-slot_uses_for (Asking port) = IsUnused port.0 0
+slot_uses_for (Asking port) = IsSlotStateFree port.0 0
 
 -- ---- laws
 
@@ -89,12 +89,12 @@ pub record Laws : Type 0 where
       → IsStable (MayWrite r v) d
   pub tape : TapeLaws
   pub access_gains_no_move : (port : ℕ) (o : Operation) (access : Access) (old new : Device)
-      → HasNoCommand (old.port port)
+      → NoCommandIsIssuedOrTaken (old.port port)
       → Does access old new → GainsNoMove port o old new
   pub accesses_gain_no_move : (port : Port) (o : Operation) (old new : Device)
-      → IsDrivenBy (ReadsPortOrWrites (λ r. r ≢ Ci) port) old new → HasNoCommand (old.port port.0)
+      → IsDrivenBy (ReadsPortOrWrites (λ r. r ≢ Ci) port) old new → NoCommandIsIssuedOrTaken (old.port port.0)
       → GainsNoMove port.0 o old new
-      × HasNoCommand (new.port port.0)
+      × NoCommandIsIssuedOrTaken (new.port port.0)
   -- what goes on
   pub access_changes_by_errors : (port : Port) (access : Access) (old new : Device) → Does access old new
       → ErrorBitsRiseByErrors port.0 old new
@@ -103,7 +103,7 @@ pub record Laws : Type 0 where
       → IsUpForStart (old.port port.0)
       → IsUpForStart (new.port port.0)
   pub access_keeps_started : (port : Port) (access : Access) (old new : Device) → old.hr ≡ false
-      → ClearsNoStart port access
+      → WritesCmdOnlyWithStSet port access
       → DoesNotWrite (Px port Sctl) access → Undisturbed port.0 old new → Does access old new
       → IsStarted (old.port port.0) → IsStarted (new.port port.0)
   pub access_keeps_fault_record : (port : Port) (access : Access) (old new : Device) → DoesNotWrite (Px port Cmd) access
@@ -112,8 +112,9 @@ pub record Laws : Type 0 where
   pub access_keeps_halt_of_taken : (uses : SlotStates) (m : Machine) (port : Port) (access : Access) (old new : Device)
       → IsReachable m
       → StateRelation uses m old → DoesNotWrite (Px port Cmd) access → Does access old new
-      → HaltOfTakenIfSt (old.port port.0) → HaltOfTakenIfSt (new.port port.0)
-  pub not_halted_is_halt_of_taken : (p : DevicePort) → p.halt ≡ NotHalted → HaltIsOfTaken p
+      → NotLogOnlyAndQueuedHaltHasTakenCommandIfSt (old.port port.0)
+      → NotLogOnlyAndQueuedHaltHasTakenCommandIfSt (new.port port.0)
+  pub not_halted_is_halt_of_taken : (p : DevicePort) → p.halt ≡ NotHalted → NotLogOnlyAndQueuedHaltHasTakenCommand p
   pub started_port_is_up : (p : DevicePort) → IsStarted p → p.sctl_det ≢ 1 → IsUpForStart p
   pub started_quiet_port_runs_well : (p : DevicePort) → IsStarted p → ShowsNoTrouble p → RunsWell p
   pub runs_well_is_started : (p : DevicePort) → RunsWell p → IsStarted p
@@ -130,11 +131,11 @@ pub record Laws : Type 0 where
       × (new.tape ≡ old.tape ++ gained)
   pub accesses_of_port_spare_ghc : (port : Port) (access : Access) → SparesOtherPorts port access
       → DoesNotWrite Ghc access
-  pub asking_spares_other_ports : (port : Port) (access : Access) → IsPageAccess port access
+  pub asking_spares_other_ports : (port : Port) (access : Access) → IsSlot0CiOrPageMemoryAccess port access
       → SparesOtherPorts port access
   pub asking_leaves_no_command : (port : ℕ) (old new : Device) → LeavesPortWhileAsking port old new
-      → HasNoCommand (old.port port)
-      → IsOver (new.port port) 0 → HasNoCommand (new.port port)
+      → NoCommandIsIssuedOrTaken (old.port port)
+      → IsOver (new.port port) 0 → NoCommandIsIssuedOrTaken (new.port port)
   -- what is told of engines
   pub failing_sticks : (port : Port) (accesses : List Access) → FailsToStop port accesses → EngineSticks port accesses
   pub failing_receiving_sticks : (port : Port) (accesses : List Access) → FailsToStopReceiving port accesses

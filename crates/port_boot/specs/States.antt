@@ -23,12 +23,12 @@ use Rattle.refinement.specs.PortFacts.{RecordsFaultsIfSt, RunsWell, Undisturbed}
 use Rattle.refinement.specs.PreservedParts.{NoPlugEvents}
 use Rattle.refinement.specs.Slots.{Own, set_slot_state, IsMove}
 use Rattle.refinement.specs.StartedPort.{IsUpForStart, IsStoppedAndUpForStartIfShown, IsStarted}
-use Rattle.disk_page.specs.PageRequests.{IsPageAccess}
+use Rattle.disk_page.specs.PageRequests.{IsSlot0CiOrPageMemoryAccess}
 use Rattle.identify.specs.IdentityPage.{Describes, IsFitPage, IsFirstUnfit, IsSerial, unfit_number}
 use Rattle.identify.specs.declared.DiskInfo.{DiskInfo}
 use Rattle.identify.specs.declared.Unfit.{Unfit as Fault}
 use Rattle.port_control.specs.Engines.{Stops, StopsReceiving, EngineSticks}
-use Rattle.port_control.specs.Ports.{FailsToStopPort, PortStops, IsCommandRegister, IsStopped, RunsInPlaceWithoutCommands, IsPlacingRegister, IsResetRegister, SawDevice, BacksFault, FindsSignature, SeesResetFault, SendsComresetThen, SerrShowsOnlyNewPlugs, IsDeviceFound}
+use Rattle.port_control.specs.Ports.{FailsToStopPort, PortStops, IsCommandRegister, IsStopped, RunsInPlaceWithoutCommands, IsPlacingRegister, IsResetRegister, SawDeviceSinceSctlWrite, BacksFault, FindsSignature, SeesResetFault, SendsComresetThen, SerrShowsOnlyNewPlugs, IsClearAndUpUnlessPlugEvents}
 use Rattle.port_control.specs.declared.PortFault.{PortFault}
 use Rattle.port_control.specs.declared.PortFault.TheVariants.{NoDevice, Busy, EngineStuck, NotAta}
 
@@ -77,10 +77,10 @@ IsStateByPage wanted _ page = ⊥
 
 -- Why a disk is unfit: 7, it stayed busy; 8, its signature is no ATA disk's; 9, the command for its page didn't end;
 -- else its page's first fault.
-abbrev pub IsUnfit : ℕ → ℕ → Device → Type 0
-IsUnfit n port d = ((n ≡ 7) × BacksFault Busy (d.port port).notes)
+abbrev pub BacksUnfitNumber : ℕ → ℕ → Device → Type 0
+BacksUnfitNumber n port d = ((n ≡ 7) × BacksFault Busy (d.port port).notes)
     ⊎ ((n ≡ 8) × ((signature : ℕ) × BacksFault (NotAta signature) (d.port port).notes))
-    ⊎ ((n ≡ 9) × SawDevice (d.port port).notes × ((d.port port).notes.slot0_issued_count ≡ MOST_READINGS))
+    ⊎ ((n ≡ 9) × SawDeviceSinceSctlWrite (d.port port).notes × ((d.port port).notes.slot0_issued_count ≡ MOST_READINGS))
     ⊎ ((page : List ℕ) × HasLastIdentifyPage port d page ×
     ((fault : Fault) × IsFirstUnfit page fault × (n ≡ unfit_number fault)))
 
@@ -95,7 +95,7 @@ IsStateOfFault state (NotAta signature) = state ≡ Unfit 8
 -- with no command issued, active or taken; a Dead one was to stop.
 abbrev pub BacksState : Option (List ℕ) → PortState → ℕ → Device → Type 0
 BacksState wanted Absent port d = IsStopped (d.port port) × BacksFault NoDevice (d.port port).notes
-BacksState wanted (Unfit n) port d = IsStopped (d.port port) × IsUnfit n port d
+BacksState wanted (Unfit n) port d = IsStopped (d.port port) × BacksUnfitNumber n port d
 BacksState wanted Foreign port d = IsStopped (d.port port)
     × ((page : List ℕ) × HasLastIdentifyPage port d page × HasOtherSerial wanted page)
 BacksState wanted Dead port d = ((d.port port).st ≡ false) × BacksFault EngineStuck (d.port port).notes
@@ -114,32 +114,32 @@ pub record HasFitDiskAndInterrupts (wanted : Option (List ℕ)) (port : ℕ) (d 
 -- Behind Ready stands such a disk, on a port that runs, with no command in a slot, and on which a device was seen.
 pub record IsReadyAfterBoot (wanted : Option (List ℕ)) (port : ℕ) (d : Device) (info : DiskInfo) : Type 0 where
   pub runs : RunsInPlaceWithoutCommands port (d.port port)
-  pub device_was_seen : SawDevice (d.port port).notes
+  pub device_was_seen : SawDeviceSinceSctlWrite (d.port port).notes
   pub has_fit_disk : HasFitDiskAndInterrupts wanted port d info
 
 -- ---- accesses
 
--- the registers that are written before IDENTIFY DEVICE is asked for, and after it: all but PxCI and PxSACT
-abbrev pub IsBootRegister : PortReg → Type 0
-IsBootRegister r = IsPlacingRegister r ⊎ (IsResetRegister r ⊎ (r ≡ Ie))
+-- the registers that a boot writes, but for PxCI, by which IDENTIFY DEVICE is issued
+abbrev pub IsWrittenInBootButCi : PortReg → Type 0
+IsWrittenInBootButCi r = IsPlacingRegister r ⊎ (IsResetRegister r ⊎ (r ≡ Ie))
 
 -- it is one of these writes, a reading of a register of the port, or one of asking for the page
 abbrev pub IsBootAccess : Port → Access → Type 0
-IsBootAccess port access = ReadsPortOrWrites IsBootRegister port access ⊎ IsPageAccess port access
+IsBootAccess port access = ReadsPortOrWrites IsWrittenInBootButCi port access ⊎ IsSlot0CiOrPageMemoryAccess port access
 
 -- What a boot is to each machine that agrees with a driver that uses no slot of the port: steps of the device alone,
 -- after which none is used; and so much is told of its accesses.
-abbrev pub IsBoot : (List Access → Type 0) → Port → Device → Device → Type 0
-IsBoot Tells port old new = IsSimulatedAlong Tells (IsBootAccess port) (λ uses. AllFree uses port.0) old new
+abbrev pub IsSimulatedBoot : (List Access → Type 0) → Port → Device → Device → Type 0
+IsSimulatedBoot Tells port old new = IsSimulatedAlong Tells (IsBootAccess port) (λ uses. AllFree uses port.0) old new
 
 -- So it is of a boot to this state. Where the port is dead, 64 readings are told in place of that, which showed an
 -- engine that is stuck; and its slot 0 may have IDENTIFY DEVICE.
-abbrev pub IsBootTo : (List Access → Type 0) → Port → PortState → Device → Device → Type 0
-IsBootTo Tells port Dead old new = IsBoot (EngineSticks port) port old new
+abbrev pub IsSimulatedBootTo : (List Access → Type 0) → Port → PortState → Device → Device → Type 0
+IsSimulatedBootTo Tells port Dead old new = IsSimulatedBoot (EngineSticks port) port old new
     ⊎ IsSimulatedAlongChangingUses (EngineSticks port) (IsBootAccess port) (λ uses. AllFree uses port.0)
     (λ uses. set_slot_state uses port.0 0 (Own Identify))
     old new
-IsBootTo Tells port _ old new = IsBoot Tells port old new
+IsSimulatedBootTo Tells port _ old new = IsSimulatedBoot Tells port old new
 
 -- ---- how a boot goes
 
@@ -156,7 +156,7 @@ pub record BringsUpPort (port : Port) (old new : Device) : Type 0 where
 -- The disk was asked for its page; and last of all the port was made to tell of the causes of interrupts.
 pub record AsksDiskThenEnables (port : Port) (old new : Device) : Type 0 where
   pub asked : Device
-  pub asks : IsDrivenBy (IsPageAccess port) old asked
+  pub asks : IsDrivenBy (IsSlot0CiOrPageMemoryAccess port) old asked
   pub enables_interrupts : Writes (Px port Ie) named_causes_mask asked new
 
 -- The whole way to a port that is ready. It runs well where no disk went or came on the way, and nothing went wrong
@@ -177,7 +177,7 @@ pub record EndsBeforeStart (port : Port) (state : PortState) (old new : Device) 
   pub resets : SendsComresetThen port (SeesResetFault port fault) placed new
   pub link_is_up_if_shown_unless_disk_comes : NoDiskComes port.0 old new
       → IsStoppedAndUpForStartIfShown (new.port port.0)
-  pub device_is_found : fault ≢ NoDevice → IsDeviceFound port.0 old new
+  pub is_clear_and_up_unless_plug_events : fault ≢ NoDevice → IsClearAndUpUnlessPlugEvents port.0 old new
 
 -- the states in which a port wasn't started
 abbrev pub IsBeforeStart : PortState → Type 0
@@ -193,15 +193,16 @@ IsStateStoppedAfterStart _ = ⊥
 
 -- What the accesses of a boot to a state that isn't Dead tell of the port's engines: the one that receives FISes fell;
 -- and where the port was started, so did the other.
-abbrev pub StopsOnWay : Port → PortState → List Access → Type 0
-StopsOnWay port state accesses = StopsReceiving port accesses × (IsStateStoppedAfterStart state → Stops port accesses)
+abbrev pub StopsReceivingAndStartedEngine : Port → PortState → List Access → Type 0
+StopsReceivingAndStartedEngine port state accesses = StopsReceiving port accesses
+    × (IsStateStoppedAfterStart state → Stops port accesses)
 
 -- ---- what a port shows of trouble after a boot
 
 -- Nothing of what was before COMRESET: N of PxSERR tells a disk that went or came since, and X one that came; IFS, HBDS
 -- and HBFS of PxIS tell a fatal error since, and TFES a fault. Faults since ST was set are on record, so that no link
 -- is due. And where none of these is on the tape, the port runs well.
-pub record ShowsOnlyNewErrors (port : ℕ) (old new : Device) : Type 0 where
+pub record ShowsOnlyGainedErrors (port : ℕ) (old new : Device) : Type 0 where
   pub serr_shows_only_new_plugs : SerrShowsOnlyNewPlugs port old new
   pub fatal_bits_show_only_new_errors : NoFatalErrors port old new → (place : ℕ) → 27 ≤ place → place ≤ 29
       → (new.port port).is place ≡ false
@@ -212,7 +213,7 @@ pub record ShowsOnlyNewErrors (port : ℕ) (old new : Device) : Type 0 where
 -- The disk was asked for its page, and then the port was stopped: of registers PxCMD alone was written after it.
 pub record AsksThenStops (port : Port) (old new : Device) : Type 0 where
   pub asked : Device
-  pub asks : IsDrivenBy (IsPageAccess port) old asked
+  pub asks : IsDrivenBy (IsSlot0CiOrPageMemoryAccess port) old asked
   pub stops : IsDrivenBy (ReadsPortOrWrites IsCommandRegister port) asked new
 
 -- A port that was started, asked, and stopped again: PxSERR tells no disk of before COMRESET; its link isn't due
@@ -242,7 +243,7 @@ pub record IsBroughtUp (port : Port) (old new : Device) : Type 0 where
   pub bootable : IsOnWithPortMemoryAndFreeSlots port new
   pub runs : RunsInPlaceWithoutCommands port.0 (new.port port.0)
   pub no_comreset : (new.port port.0).sctl_det ≡ 0
-  pub device_was_seen : SawDevice (new.port port.0).notes
+  pub device_was_seen : SawDeviceSinceSctlWrite (new.port port.0).notes
   pub st_set_in_tape : (new.port port.0).notes.st_set_at ≤ length new.tape
   pub sctl_written_in_boot : length old.tape ≤ (new.port port.0).notes.sctl_written_at
   pub sctl_time_in_tape : (new.port port.0).notes.sctl_written_at ≤ length new.tape

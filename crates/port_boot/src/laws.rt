@@ -2,11 +2,11 @@
 ghost use Rattle.std.specs.Prelude.{ℕ, ◌≡◌, ◌≢◌, ◌++◌, true, false, All, Contains, List, Option, Some};
 ghost use Rattle.ata_types.specs.{declared.Port.{Port}, declared.PortState.{PortState}, declared.PortState.TheVariants.{Dead}};
 ghost use Rattle.hba_regs.specs.{declared.reg.PortReg.TheVariants.{Cmd, Sctl}, declared.reg.Reg.TheVariants.{Ghc, Px}};
-ghost use Rattle.adapter.specs.{Access.{Access, Does, DoesAll, is_named_cause, is_pending, shown_interrupt}, Device.{Device}, PendingInterrupts.{LeavesIe, KeepsIsBit, SetsCause, interrupting_port}, Rules.{IsOn}, Steps.{Can, DeviceTransition, Steps, device_after}, declared.tape.Entry.{Entry}, declared.command.Operation.TheVariants.{Identify}};
+ghost use Rattle.adapter.specs.{Access.{Access, Does, DoesAll, is_named_cause, is_ips_set, shown_interrupt}, Device.{Device}, PendingInterrupts.{LeavesIe, KeepsIsBit, SetsCause, interrupting_port}, Rules.{IsOn}, Steps.{Can, DeviceTransition, Steps, device_after}, declared.tape.Entry.{Entry}, declared.command.Operation.TheVariants.{Identify}};
 ghost use Rattle.refinement.specs.{Fragments.{ReadsPortOrWrites, IsDrivenBy, SparesOtherPorts, OnlyDeviceChangesPort, GainsNoMove}, PortFacts.{RunsWell, Undisturbed}, PreservedParts.{DoesNotWrite}};
 ghost use Rattle.identify.specs.declared.DiskInfo.{DiskInfo};
-ghost use Rattle.port_boot.specs.States.{BacksState, BringsReady, HasFitDiskAndInterrupts, HasLastIdentifyPage, IsBootTo, IsBootAccess, IsReadyAfterBoot, StaysRunningIfUndisturbed, ShownDiskIsIn, StopsOnWay};
-ghost use Rattle.port_control.specs.{Engines.{StopsBothEngines}, Ports.{IsCommandRegister}};
+ghost use Rattle.port_boot.specs.States.{BacksState, BringsReady, HasFitDiskAndInterrupts, HasLastIdentifyPage, IsSimulatedBootTo, IsBootAccess, IsReadyAfterBoot, StaysRunningIfUndisturbed, ShownDiskIsIn, StopsReceivingAndStartedEngine};
+ghost use Rattle.port_control.specs.{Engines.{StopsEachEngine}, Ports.{IsCommandRegister}};
 
 use super::prerequisites::law_prerequisites;
 use adapter::laws::{law_an_enabled_cause_is_pending, law_what_the_tape_tells_is_pending};
@@ -39,20 +39,20 @@ pub fn law_what_was_found_goes_on()
 /// nor its bit of IS, and reset nothing, it is pending at the end where the tape has told since of a command that ended
 /// or failed, a fatal error, or a disk that went or came: where GHC.IE is one, this is what a handler of interrupts
 /// waits for.
-pub fn law_a_ready_port_interrupts()
+pub fn law_ready_port_causes_set_ips()
     ensures shown_cause_is_pending { (wanted : Option (List ℕ)) (port place : ℕ) (d : Device) (info : DiskInfo)
         → HasFitDiskAndInterrupts wanted port d info → is_named_cause place ≡ true
         → shown_interrupt (d.port port) place ≡ true
-        → is_pending (d.port port) ≡ true }
+        → is_ips_set (d.port port) ≡ true }
     ensures raised_cause_is_pending { (wanted : Option (List ℕ)) (port place : ℕ) (step : DeviceTransition) (d : Device)
         (info : DiskInfo)
         → HasFitDiskAndInterrupts wanted port d info → Can step d → SetsCause step port place
-        → is_pending ((device_after step d).port port) ≡ true }
+        → is_ips_set ((device_after step d).port port) ≡ true }
     ensures tape_event_is_pending { (wanted : Option (List ℕ)) (port : ℕ) (entry : Entry) (accesses : List Access)
         (gained : List Entry) (old new : Device) (info : DiskInfo) → HasFitDiskAndInterrupts wanted port old info
         → interrupting_port entry ≡ Some port → DoesAll accesses old new → All (KeepsIsBit port) accesses
         → All (LeavesIe port) accesses → old.hr ≡ false → new.tape ≡ old.tape ++ gained
-        → Contains gained entry → is_pending (new.port port) ≡ true }
+        → Contains gained entry → is_ips_set (new.port port) ≡ true }
 {
     law_an_enabled_cause_is_pending();
     law_what_the_tape_tells_is_pending();
@@ -68,9 +68,10 @@ pub fn law_a_boot_is_of_its_port()
 /// A boot, to whatever state, was made by its accesses; and those of a stop are among them.
 pub fn law_boots_are_driven()
     ensures boots { (port : Port) (state : PortState) (old new : Device)
-        → IsBootTo (StopsOnWay port state) port state old new → IsDrivenBy (IsBootAccess port) old new }
+        → IsSimulatedBootTo (StopsReceivingAndStartedEngine port state) port state old new
+        → IsDrivenBy (IsBootAccess port) old new }
     ensures stops { (port : Port) (state : PortState) (old new : Device)
-        → IsBootTo (StopsBothEngines port) port state old new
+        → IsSimulatedBootTo (StopsEachEngine port) port state old new
         → IsDrivenBy (IsBootAccess port) old new }
     ensures cmd_access_is_boot_access { (port : Port) (access : Access)
         → ReadsPortOrWrites IsCommandRegister port access

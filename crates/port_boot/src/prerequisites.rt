@@ -8,7 +8,7 @@ use refinement::access_kinds::{
     law_fragment_prerequisites, law_port_register_accesses_are_of_port,
 };
 use refinement::fragments::{
-    law_other_ports_are_untouched, law_tape_prerequisites, law_unused_slots_are_silent,
+    law_other_ports_are_untouched, law_port_without_command_gains_no_move, law_tape_prerequisites,
 };
 use refinement::laws::law_writes_but_ci_stay_permitted;
 use refinement::port_facts::{
@@ -16,7 +16,7 @@ use refinement::port_facts::{
     law_running_well_is_found, law_shown_link_is_up_for_start,
     law_undisturbed_has_no_error_or_plug,
 };
-use refinement::recovering::law_halts_are_of_taken_commands;
+use refinement::recovering::law_queued_halt_has_taken_command;
 use std::marker::Brand;
 
 /// The laws that the proofs of this crate rest on.
@@ -33,10 +33,10 @@ pub fn law_prerequisites()
     law_fragment_prerequisites::<Brand>();
     law_port_register_accesses_are_of_port::<Brand>();
     law_writes_but_ci_stay_permitted();
-    law_halts_are_of_taken_commands();
+    law_queued_halt_has_taken_command();
     law_other_ports_are_untouched();
     law_tape_prerequisites();
-    law_unused_slots_are_silent();
+    law_port_without_command_gains_no_move();
     law_asking_is_of_one_port();
     law_what_is_told_of_engines_stays();
 }

@@ -12,10 +12,10 @@ use Rattle.adapter.specs.Device.{Device}
 use Rattle.adapter.specs.Rules.{IsOn, MayWrite, IsStable}
 use Rattle.refinement.specs.Fragments.{AnySlotStates, ReadsPortOrWrites, IsSimulated}
 use Rattle.refinement.specs.PreservedParts.{DoesNotWrite}
-use Rattle.port_control.specs.Ports.{IsSerrOrIs, IsOnWithPortAndAgrees, IsStoppedReceiving, SawDevice, ClearsErrors, SerrShowsOnlyNewPlugs, ClearsErrorState}
+use Rattle.port_control.specs.Ports.{IsSerrOrIs, IsOnWithPortAndAgrees, IsStoppedReceiving, SawDeviceSinceSctlWrite, ClearsErrors, SerrShowsOnlyNewPlugs, ClearsErrorState}
 use Rattle.port_control.proofs.Using.{usable_after}
 use Rattle.port_control.proofs.Settling.{comes_in_parts, plugs_in_parts, Settles, settles}
-use Rattle.port_control.specs.Laws.RegisterSet.{Clearing}
+use Rattle.port_control.specs.Laws.RegisterSet.{ClearingErrors}
 use Rattle.port_control.specs.Laws.AccessPurpose.{Controlling}
 use Rattle.port_control.specs.Laws.{Laws}
 use Rattle.port_control.proofs.Stretching.{followed_read, followed_then, followed_write}
@@ -32,17 +32,17 @@ module _ (laws : Laws) where
 
   -- what PxSSTS was read as stays
   saw_still : (port : Port) (r : PortReg) (v : ℕ) (old new : Device) → DoesNotWrite (Px port Sctl) (Writing (Px port r) v) → Writes (Px port r) v old new →
-      SawDevice (old.port port.0).notes → SawDevice (new.port port.0).notes
+      SawDeviceSinceSctlWrite (old.port port.0).notes → SawDeviceSinceSctlWrite (new.port port.0).notes
   saw_still port r v old new spares call saw =
       let link = (laws.access_notes port (Writing (Px port r) v) old new call).link tt in
       (ap (λ (n : ℕ). n % 16) link.0 ∙ saw.0, link.1 spares ∙ saw.1)
 
   module _ (port : Port) (old mid new : Device) (u : IsOnWithPortAndAgrees AnySlotStates port old) (serr : Writes (Px port Serr) 0xffffffff old mid) where
     pub first : IsSimulated (ReadsPortOrWrites IsSerrOrIs port) AnySlotStates old mid
-    first = followed_write laws (Controlling Clearing port) (Px port Serr) 0xffffffff old mid (refl, inl refl) (serr_may port 0xffffffff old u) (λ uses is. tt) serr
+    first = followed_write laws (Controlling ClearingErrors port) (Px port Serr) 0xffffffff old mid (refl, inl refl) (serr_may port 0xffffffff old u) (λ uses is. tt) serr
 
     pub clearing : IsOnWithPortAndAgrees AnySlotStates port mid
-    clearing = usable_after laws Clearing port old mid u first
+    clearing = usable_after laws ClearingErrors port old mid u first
 
     -- PxSERR tells no disk of before, whatever is cleared after it
     pub since_clear : IsSimulated (ReadsPortOrWrites IsSerrOrIs port) AnySlotStates mid new → (old.port port.0).link_due ≡ false → SerrShowsOnlyNewPlugs port.0 old new
@@ -58,12 +58,12 @@ module _ (laws : Laws) where
 
     module _ (is : Writes (Px port Is) 0xffffffff mid new) where
       second : IsSimulated (ReadsPortOrWrites IsSerrOrIs port) AnySlotStates mid new
-      second = followed_write laws (Controlling Clearing port) (Px port Is) 0xffffffff mid new (refl, inr refl) (is_may port 0xffffffff mid clearing) (λ uses is. tt) is
+      second = followed_write laws (Controlling ClearingErrors port) (Px port Is) 0xffffffff mid new (refl, inr refl) (is_may port 0xffffffff mid clearing) (λ uses is. tt) is
 
       pub clears : IsSimulated (ReadsPortOrWrites IsSerrOrIs port) AnySlotStates old new
-      clears = followed_then laws (Controlling Clearing port) old mid new first second
+      clears = followed_then laws (Controlling ClearingErrors port) old mid new first second
 
-      pub cleared_saw : SawDevice (old.port port.0).notes → SawDevice (new.port port.0).notes
+      pub cleared_saw : SawDeviceSinceSctlWrite (old.port port.0).notes → SawDeviceSinceSctlWrite (new.port port.0).notes
       cleared_saw saw =
           saw_still port Is 0xffffffff mid new (λ (e : Px port Is ≡ Px port Sctl). absurd (cc)) is
           (saw_still port Serr 0xffffffff old mid (λ (e : Px port Serr ≡ Px port Sctl). absurd (cc)) serr saw)
@@ -83,16 +83,16 @@ module _ (laws : Laws) where
       (undue : (old.port port.0).link_due ≡ false) (det : (old.port port.0).sctl_det ≡ 0) (first : IsSimulated (ReadsPortOrWrites IsSerrOrIs port) AnySlotStates old mid)
       (clears : ClearsErrors port old mid) (read : Reads (Px port Tfd) v mid new) where
     forgetting : IsOnWithPortAndAgrees AnySlotStates port mid
-    forgetting = usable_after laws Clearing port old mid u first
+    forgetting = usable_after laws ClearingErrors port old mid u first
 
     then : IsSimulated (ReadsPortOrWrites IsSerrOrIs port) AnySlotStates mid new
-    then = followed_read laws (Controlling Clearing port) (Px port Tfd) v mid new refl read
+    then = followed_read laws (Controlling ClearingErrors port) (Px port Tfd) v mid new refl read
 
     pub forgets_followed : IsSimulated (ReadsPortOrWrites IsSerrOrIs port) AnySlotStates old new
-    forgets_followed = followed_then laws (Controlling Clearing port) old mid new first then
+    forgets_followed = followed_then laws (Controlling ClearingErrors port) old mid new first then
 
     pub forgets_on : IsOn new
-    forgets_on = (usable_after laws Clearing port mid new forgetting then).adapter_is_on
+    forgets_on = (usable_after laws ClearingErrors port mid new forgetting then).adapter_is_on
 
     -- neither a write nor a reading of another register leaves another value of PxSSTS, or another count
     abbrev SameLink : Device → Device → Type 0

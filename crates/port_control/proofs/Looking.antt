@@ -10,18 +10,18 @@ use Rattle.hba_regs.specs.Bits.{bit}
 use Rattle.hba_regs.specs.declared.reg.PortReg.{PortReg}
 use Rattle.hba_regs.specs.declared.reg.PortReg.TheVariants.{Tfd, Sig, Ssts}
 use Rattle.hba_regs.specs.declared.reg.Reg.TheVariants.{Px}
-use Rattle.adapter.specs.Access.{Reads, count_after_reading, link_count_after_reading}
+use Rattle.adapter.specs.Access.{Reads, count_after_reading, link_wait_count_full_once_linked}
 use Rattle.adapter.specs.Access.Access.{Reading}
 use Rattle.adapter.specs.Device.{Notes, DevicePort, Device}
 use Rattle.refinement.specs.Fragments.{AnySlotStates, ReadsPortOrWrites, IsSimulated}
 use Rattle.refinement.specs.Errors.{NoDiskComes}
-use Rattle.refinement.specs.PortFacts.{IsStoppedWithDrqWhileLinkAwaited, IsCleanToStart, CrAndTfesAreClear}
+use Rattle.refinement.specs.PortFacts.{WhileLinkAwaitedCrIsClearAndDrqSet, IsCleanToStart, CrAndTfesAreClear}
 use Rattle.refinement.specs.StartedPort.{IsUpForStart, IsStoppedAndUpForStartIfShown}
-use Rattle.port_control.specs.Ports.{IsSerrOrIs, IsOnWithPortAndAgrees, HasLink, ShowsIdle, SawDevice, SawIdle, IsVainReading, ReadsInVain, ReadsUntil, LastSignatureIsShown}
+use Rattle.port_control.specs.Ports.{IsSerrOrIs, IsOnWithPortAndAgrees, HasLink, ShowsIdle, SawDeviceSinceSctlWrite, SawIdle, IsVainReading, ReadsInVain, ReadsUntil, LastSignatureIsShown}
 use Rattle.port_control.proofs.Using.{usable_read}
 use Rattle.port_control.proofs.Ceasing.{counted_again}
 use Rattle.port_control.proofs.Settling.{comes_in_parts, Settles, settles}
-use Rattle.port_control.specs.Laws.RegisterSet.{Clearing}
+use Rattle.port_control.specs.Laws.RegisterSet.{ClearingErrors}
 use Rattle.port_control.specs.Laws.AccessPurpose.{Controlling}
 use Rattle.port_control.specs.Laws.{Laws}
 use Rattle.port_control.proofs.Stretching.{followed_read, followed_then}
@@ -39,21 +39,21 @@ pub record IsMissing (port : Port) (start : Device) (n : ℕ) (d : Device) : Typ
 
 -- a link is awaited on a port whose TFES is clear
 abbrev AwaitsEngineStop : DevicePort → Type 0
-AwaitsEngineStop p = IsStoppedWithDrqWhileLinkAwaited p × CrAndTfesAreClear p
+AwaitsEngineStop p = WhileLinkAwaitedCrIsClearAndDrqSet p × CrAndTfesAreClear p
 
 -- so many readings of PxTFD showed BSY or DRQ
 pub record IsBusyStill (port : Port) (start : Device) (n : ℕ) (d : Device) : Type 0 where
   pub followed : IsSimulated (ReadsPortOrWrites IsSerrOrIs port) AnySlotStates start d
   pub usable : IsOnWithPortAndAgrees AnySlotStates port d
   pub det : (d.port port.0).sctl_det ≡ 0
-  pub saw : SawDevice (d.port port.0).notes
+  pub saw : SawDeviceSinceSctlWrite (d.port port.0).notes
   pub low : n ≤ (d.port port.0).notes.busy_count
   pub high : 0 < n → (d.port port.0).notes.busy_count ≤ MOST_READINGS
   pub stays : ReadsInVain port Tfd ShowsIdle n start d
   pub awaits : AwaitsEngineStop (start.port port.0) → AwaitsEngineStop (d.port port.0)
   pub quiet : 0 < n → AwaitsEngineStop (start.port port.0) → bit (d.port port.0).notes.last_tfd 3 ≡ false → IsCleanToStart (d.port port.0)
 
-counted_far : (det n count : ℕ) → det ≢ 3 → n ≤ count → n < MOST_READINGS → (n + 1 ≤ link_count_after_reading det count) × (link_count_after_reading det count ≤ MOST_READINGS)
+counted_far : (det n count : ℕ) → det ≢ 3 → n ≤ count → n < MOST_READINGS → (n + 1 ≤ link_wait_count_full_once_linked det count) × (link_wait_count_full_once_linked det count ≤ MOST_READINGS)
 counted_far det n count far low small =
     elim (eqb_tells det 3) [
       | inl both ↦ absurd (far both.1)
@@ -62,10 +62,10 @@ counted_far det n count far low small =
 
 module _ (laws : Laws) where
   pub looks : (port : Port) (r : PortReg) (v : ℕ) (old new : Device) → Reads (Px port r) v old new → IsSimulated (ReadsPortOrWrites IsSerrOrIs port) AnySlotStates old new
-  looks port r v old new call = followed_read laws (Controlling Clearing port) (Px port r) v old new refl call
+  looks port r v old new call = followed_read laws (Controlling ClearingErrors port) (Px port r) v old new refl call
 
   looks_more : (port : Port) (r : PortReg) (v : ℕ) (start d e : Device) → IsSimulated (ReadsPortOrWrites IsSerrOrIs port) AnySlotStates start d → Reads (Px port r) v d e → IsSimulated (ReadsPortOrWrites IsSerrOrIs port) AnySlotStates start e
-  looks_more port r v start d e f call = followed_then laws (Controlling Clearing port) start d e f (looks port r v d e call)
+  looks_more port r v start d e f call = followed_then laws (Controlling ClearingErrors port) start d e f (looks port r v d e call)
 
   -- ---- readings until something shows
 
@@ -95,16 +95,16 @@ module _ (laws : Laws) where
     pub missing_followed : IsSimulated (ReadsPortOrWrites IsSerrOrIs port) AnySlotStates start e
     missing_followed = looks_more port Ssts v start d e w.followed call
 
-    missing_count : (e.port port.0).notes.link_wait_count ≡ link_count_after_reading (v % 16) (d.port port.0).notes.link_wait_count
+    missing_count : (e.port port.0).notes.link_wait_count ≡ link_wait_count_full_once_linked (v % 16) (d.port port.0).notes.link_wait_count
     missing_count =
         ap (λ (k : Notes). k.link_wait_count) (laws.notes_read port Ssts v d e off call)
-        ∙ ap (λ (det : ℕ). if nat_eq det 0 then link_count_after_reading (v % 16) (d.port port.0).notes.link_wait_count else (d.port port.0).notes.link_wait_count) w.det
+        ∙ ap (λ (det : ℕ). if nat_eq det 0 then link_wait_count_full_once_linked (v % 16) (d.port port.0).notes.link_wait_count else (d.port port.0).notes.link_wait_count) w.det
 
     missing_last : (e.port port.0).notes.last_ssts ≡ v
     missing_last = ap (λ (k : Notes). k.last_ssts) (laws.notes_read port Ssts v d e off call)
 
-    pub device_seen : v % 16 ≡ 3 → SawDevice (e.port port.0).notes
-    device_seen three = (ap (λ (k : ℕ). k % 16) missing_last ∙ three, missing_count ∙ ap (λ (k : ℕ). link_count_after_reading k (d.port port.0).notes.link_wait_count) three)
+    pub device_seen : v % 16 ≡ 3 → SawDeviceSinceSctlWrite (e.port port.0).notes
+    device_seen three = (ap (λ (k : ℕ). k % 16) missing_last ∙ three, missing_count ∙ ap (λ (k : ℕ). link_wait_count_full_once_linked k (d.port port.0).notes.link_wait_count) three)
 
     pub device_up : v % 16 ≡ 3 → NoDiskComes port.0 start e → IsStoppedAndUpForStartIfShown (start.port port.0) → IsUpForStart (e.port port.0)
     device_up three none coming =
@@ -138,7 +138,7 @@ module _ (laws : Laws) where
     pub busy_followed : IsSimulated (ReadsPortOrWrites IsSerrOrIs port) AnySlotStates start e
     busy_followed = looks_more port Tfd v start d e w.followed call
 
-    pub busy_saw : SawDevice (e.port port.0).notes
+    pub busy_saw : SawDeviceSinceSctlWrite (e.port port.0).notes
     busy_saw = let same = laws.notes_read port Tfd v d e quiet call in (ap (λ (k : Notes). k.last_ssts % 16) same ∙ w.saw.0, ap (λ (k : Notes). k.link_wait_count) same ∙ w.saw.1)
 
     pub idle_seen : bit v 7 || bit v 3 ≡ false → SawIdle (e.port port.0).notes
@@ -178,7 +178,7 @@ module _ (laws : Laws) where
     signed : (e.port port.0).notes ≡ record (d.port port.0).notes { last_sig = v }
     signed = laws.notes_read port Sig v d e u.adapter_is_on.no_reset call
 
-    pub sig_saw : SawDevice (d.port port.0).notes → SawDevice (e.port port.0).notes
+    pub sig_saw : SawDeviceSinceSctlWrite (d.port port.0).notes → SawDeviceSinceSctlWrite (e.port port.0).notes
     sig_saw saw = (ap (λ (k : Notes). k.last_ssts % 16) signed ∙ saw.0, ap (λ (k : Notes). k.link_wait_count) signed ∙ saw.1)
 
     pub sig_idle : SawIdle (d.port port.0).notes → SawIdle (e.port port.0).notes

@@ -12,13 +12,13 @@ use Rattle.adapter.specs.Device.{Device}
 use Rattle.adapter.specs.Rules.{IsOn, MayWrite, IsStable}
 use Rattle.refinement.specs.Fragments.{AnySlotStates, ReadsPortOrWrites, IsSimulated}
 use Rattle.refinement.specs.Errors.{NoDiskComes}
-use Rattle.refinement.specs.PortFacts.{IsStoppedWithDrqWhileLinkAwaited, IsCleanToStart, CrAndTfesAreClear}
+use Rattle.refinement.specs.PortFacts.{WhileLinkAwaitedCrIsClearAndDrqSet, IsCleanToStart, CrAndTfesAreClear}
 use Rattle.refinement.specs.StartedPort.{IsUpForStart, IsStoppedAndUpForStartIfShown}
 use Rattle.refinement.specs.Fragments.{TapeGrows}
-use Rattle.port_control.specs.Ports.{IsSerrOrIs, IsResetRegister, IsOnWithPortAndAgrees, IsStoppedReceiving, HasLink, ShowsIdle, ReadsInVain, ReadsUntil, ClearsErrors, FindsLinkAndClearsErrors, FindsSignature, FindsBusy, SendsComresetThen, SerrShowsOnlyNewPlugs, FindsAwaitedLink, IsDeviceFound}
+use Rattle.port_control.specs.Ports.{IsSerrOrIs, IsResetRegister, IsOnWithPortAndAgrees, IsStoppedReceiving, HasLink, ShowsIdle, ReadsInVain, ReadsUntil, ClearsErrors, FindsLinkAndClearsErrors, FindsSignature, FindsBusy, SendsComresetThen, SerrShowsOnlyNewPlugs, IsClearAndUpIfStoppedUnlessPlugEvents, IsClearAndUpUnlessPlugEvents}
 use Rattle.port_control.proofs.Using.{usable_after, receiving_write, stays_on, tape_gains}
 use Rattle.port_control.proofs.Settling.{comes_in_parts, plugs_in_parts, no_start, Settles, settles}
-use Rattle.port_control.specs.Laws.RegisterSet.{Clearing, Resetting}
+use Rattle.port_control.specs.Laws.RegisterSet.{ClearingErrors, ResettingLink}
 use Rattle.port_control.specs.Laws.AccessPurpose.{Controlling}
 use Rattle.port_control.specs.Laws.{Laws}
 use Rattle.port_control.proofs.Stretching.{followed_then, followed_wider, followed_write}
@@ -63,10 +63,10 @@ module _ (laws : Laws) where
 
   module _ (port : Port) (old sent : Device) (u : IsOnWithPortAndAgrees AnySlotStates port old) (receives : IsStoppedReceiving port.0 (old.port port.0)) (one : Writes (Px port Sctl) 1 old sent) where
     first : IsSimulated (ReadsPortOrWrites IsResetRegister port) AnySlotStates old sent
-    first = followed_write laws (Controlling Resetting port) (Px port Sctl) 1 old sent (refl, inl refl) (sctl_may port 1 old u receives (inr refl)) (λ uses is. tt) one
+    first = followed_write laws (Controlling ResettingLink port) (Px port Sctl) 1 old sent (refl, inl refl) (sctl_may port 1 old u receives (inr refl)) (λ uses is. tt) one
 
     sending : IsOnWithPortAndAgrees AnySlotStates port sent
-    sending = usable_after laws Resetting port old sent u first
+    sending = usable_after laws ResettingLink port old sent u first
 
     receives_still : IsStoppedReceiving port.0 (sent.port port.0)
     receives_still = receiving_write laws port Sctl 1 old sent u.adapter_is_on.no_reset (inl refl) one receives
@@ -76,8 +76,8 @@ module _ (laws : Laws) where
 
     module _ (new : Device) (zero : Writes (Px port Sctl) 0 sent new) where
       pub reset_followed : IsSimulated (ReadsPortOrWrites IsResetRegister port) AnySlotStates old new
-      reset_followed = followed_then laws (Controlling Resetting port) old sent new first
-          (followed_write laws (Controlling Resetting port) (Px port Sctl) 0 sent new (refl, inl refl) ending_may (λ uses is. tt) zero)
+      reset_followed = followed_then laws (Controlling ResettingLink port) old sent new first
+          (followed_write laws (Controlling ResettingLink port) (Px port Sctl) 0 sent new (refl, inl refl) ending_may (λ uses is. tt) zero)
 
       pub reset_receives : IsStoppedReceiving port.0 (new.port port.0)
       reset_receives = receiving_write laws port Sctl 0 sent new sending.adapter_is_on.no_reset (inl refl) zero receives_still
@@ -104,7 +104,7 @@ module _ (laws : Laws) where
             sctl_time_in_tape = omega (arith, at);
           }
 
-      pub reset_awaited : IsStoppedWithDrqWhileLinkAwaited (new.port port.0)
+      pub reset_awaited : WhileLinkAwaitedCrIsClearAndDrqSet (new.port port.0)
       reset_awaited = laws.writes_keep_drq_till_link port.0 (Px port Sctl) 0 sent new ending_may
           (λ d steps. ((laws.law_step_lists_keep_what_steps_keep _ _ steps).port_bits_only_fall port.0).cr_stays_clear receives_still.stopped.engine_is_stopped.cr_is_clear) zero
           (laws.comreset_shows_drq_till_link port 1 old sent receives.stopped.engine_is_stopped.cr_is_clear refl one)
@@ -117,7 +117,7 @@ module _ (laws : Laws) where
           (laws.comreset_begins_coming_up port 1 old sent receives.stopped.engine_is_stopped.cr_is_clear refl one)
 
   -- what was found since, where the link was coming up
-  pub found_on : (port : ℕ) (old mid new : Device) → TapeGrows old mid → TapeGrows mid new → (NoDiskComes port old mid → IsStoppedAndUpForStartIfShown (mid.port port)) → IsStoppedWithDrqWhileLinkAwaited (mid.port port) → FindsAwaitedLink port mid new → IsDeviceFound port old new
+  pub found_on : (port : ℕ) (old mid new : Device) → TapeGrows old mid → TapeGrows mid new → (NoDiskComes port old mid → IsStoppedAndUpForStartIfShown (mid.port port)) → WhileLinkAwaitedCrIsClearAndDrqSet (mid.port port) → IsClearAndUpIfStoppedUnlessPlugEvents port mid new → IsClearAndUpUnlessPlugEvents port old new
   found_on port old mid new early late coming awaited finds = record {
     no_cause_is_set = finds.no_cause_is_set;
     serr_shows_only_new_plugs = record {
@@ -132,25 +132,25 @@ module _ (laws : Laws) where
   -- the two together
   module _ (port : Port) (old mid new : Device) (u : IsOnWithPortAndAgrees AnySlotStates port old) (sends : IsSimulated (ReadsPortOrWrites IsResetRegister port) AnySlotStates old mid) (looks : IsSimulated (ReadsPortOrWrites IsSerrOrIs port) AnySlotStates mid new) where
     pub looking : IsOnWithPortAndAgrees AnySlotStates port mid
-    looking = usable_after laws Resetting port old mid u sends
+    looking = usable_after laws ResettingLink port old mid u sends
 
     pub looked : Settles port mid new
     looked = settles laws port mid new looking.adapter_is_on looks.is_driven
 
     pub both_followed : IsSimulated (ReadsPortOrWrites IsResetRegister port) AnySlotStates old new
-    both_followed = followed_then laws (Controlling Resetting port) old mid new sends (followed_wider laws Clearing Resetting port mid new (λ r is. inr is) looks)
+    both_followed = followed_then laws (Controlling ResettingLink port) old mid new sends (followed_wider laws ClearingErrors ResettingLink port mid new (λ r is. inr is) looks)
 
     pub both_on : IsOn new
-    both_on = stays_on laws Resetting port old new both_followed.is_driven u.adapter_is_on
+    both_on = stays_on laws ResettingLink port old new both_followed.is_driven u.adapter_is_on
 
     sent_grows : TapeGrows old mid
-    sent_grows = tape_gains laws Resetting port old mid sends.is_driven
+    sent_grows = tape_gains laws ResettingLink port old mid sends.is_driven
 
     module _ (coming : NoDiskComes port.0 old mid → IsStoppedAndUpForStartIfShown (mid.port port.0)) where
       pub both_coming : NoDiskComes port.0 old new → IsStoppedAndUpForStartIfShown (new.port port.0)
       both_coming none = let parts = comes_in_parts laws port.0 old mid new sent_grows looked.grows none in looked.coming parts.1 (coming parts.0)
 
-      pub both_found : IsStoppedWithDrqWhileLinkAwaited (mid.port port.0) → FindsAwaitedLink port.0 mid new → IsDeviceFound port.0 old new
+      pub both_found : WhileLinkAwaitedCrIsClearAndDrqSet (mid.port port.0) → IsClearAndUpIfStoppedUnlessPlugEvents port.0 mid new → IsClearAndUpUnlessPlugEvents port.0 old new
       both_found awaited finds = found_on port.0 old mid new sent_grows looked.grows coming awaited finds
 
   -- ---- looking for the device
@@ -159,7 +159,7 @@ module _ (laws : Laws) where
       (up : NoDiskComes port.0 old seen → IsStoppedAndUpForStartIfShown (old.port port.0) → IsUpForStart (seen.port port.0))
       (calm : (place : ℕ) → place < 32 → (cleared.port port.0).is place ≡ false)
       (clear : (seen.port port.0).link_due ≡ false → SerrShowsOnlyNewPlugs port.0 seen cleared)
-      (quiet : IsStoppedWithDrqWhileLinkAwaited (cleared.port port.0) → CrAndTfesAreClear (cleared.port port.0) → bit (new.port port.0).notes.last_tfd 3 ≡ false → IsCleanToStart (new.port port.0)) where
+      (quiet : WhileLinkAwaitedCrIsClearAndDrqSet (cleared.port port.0) → CrAndTfesAreClear (cleared.port port.0) → bit (new.port port.0).notes.last_tfd 3 ≡ false → IsCleanToStart (new.port port.0)) where
     early_half : TapeGrows old cleared
     early_half = laws.tape.growth_is_transitive old seen cleared a.grows b.grows
 
@@ -185,7 +185,7 @@ module _ (laws : Laws) where
           serr_x_is_clear = λ none. let parts = comes_in_parts laws port.0 seen cleared new b.grows c.grows none in change.serr_x_rises_by_disk_coming parts.1 ((clear undue).serr_x_is_clear parts.0);
         }
 
-    pub has_device : FindsAwaitedLink port.0 old new
+    pub has_device : IsClearAndUpIfStoppedUnlessPlugEvents port.0 old new
     has_device = record {
       no_cause_is_set = λ place small. c.calm receives_cleared place (calm place small);
       serr_shows_only_new_plugs = λ coming. record {

@@ -8,15 +8,15 @@ use Rattle.adapter.specs.Device.{Device}
 use Rattle.adapter.specs.Rules.{IsOn}
 use Rattle.refinement.specs.Fragments.{ReadsPortOrWrites, IsDrivenBy}
 use Rattle.refinement.specs.Errors.{NoDiskComes, LinkErrorsRiseByDisks}
-use Rattle.refinement.specs.PortFacts.{IsStoppedWithDrqWhileLinkAwaited, IsCleanToStart}
+use Rattle.refinement.specs.PortFacts.{WhileLinkAwaitedCrIsClearAndDrqSet, IsCleanToStart}
 use Rattle.refinement.specs.PreservedParts.{DoesNotWrite, NoPlugEvents}
-use Rattle.refinement.specs.StartedPort.{IsUpForStart, IsStoppedAndUpForStartIfShown, SetsNoStart}
+use Rattle.refinement.specs.StartedPort.{IsUpForStart, IsStoppedAndUpForStartIfShown, WritesCmdOnlyWithStClear}
 use Rattle.refinement.specs.Fragments.{TapeGrows}
 use Rattle.port_control.specs.Ports.{IsSerrOrIs, IsStoppedReceiving}
 use Rattle.port_control.proofs.Using.{receiving_read, receiving_write}
 use Rattle.std.specs.Prelude.{All, List}
 use Rattle.std.proofs.lemmas.List.Elements.{All-head, All-tail}
-use Rattle.port_control.specs.Laws.RegisterSet.{Clearing}
+use Rattle.port_control.specs.Laws.RegisterSet.{ClearingErrors}
 use Rattle.port_control.specs.Laws.{Laws}
 
 pub record Settles (port : Port) (old new : Device) : Type 0 where
@@ -27,13 +27,13 @@ pub record Settles (port : Port) (old new : Device) : Type 0 where
   pub coming : NoDiskComes port.0 old new → IsStoppedAndUpForStartIfShown (old.port port.0) → IsStoppedAndUpForStartIfShown (new.port port.0)
   pub up : NoPlugEvents port.0 old new → IsStoppedReceiving port.0 (old.port port.0) → IsUpForStart (old.port port.0) → IsUpForStart (new.port port.0)
   pub calm : IsStoppedReceiving port.0 (old.port port.0) → (place : ℕ) → (old.port port.0).is place ≡ false → (new.port port.0).is place ≡ false
-  pub awaited : IsStoppedWithDrqWhileLinkAwaited (old.port port.0) → IsStoppedWithDrqWhileLinkAwaited (new.port port.0)
+  pub awaited : WhileLinkAwaitedCrIsClearAndDrqSet (old.port port.0) → WhileLinkAwaitedCrIsClearAndDrqSet (new.port port.0)
   pub quiet : IsCleanToStart (old.port port.0) → IsCleanToStart (new.port port.0)
   pub undue : (old.port port.0).link_due ≡ false → (new.port port.0).link_due ≡ false
   pub change : (old.port port.0).link_due ≡ false → LinkErrorsRiseByDisks port.0 old new
 
 -- what isn't written isn't ST
-pub no_start : (port : Port) (access : Access) → DoesNotWrite (Px port Cmd) access → SetsNoStart port access
+pub no_start : (port : Port) (access : Access) → DoesNotWrite (Px port Cmd) access → WritesCmdOnlyWithStClear port access
 no_start port access spares v is = absurd (subst (DoesNotWrite (Px port Cmd)) is spares refl)
 
 -- PxSCTL and PxCMD aren't written
@@ -87,19 +87,19 @@ module _ (laws : Laws) where
 
   module _ (port : Port) (access : Access) (old new : Device) (on : IsOn old) (kind : ReadsPortOrWrites IsSerrOrIs port access) (does : Does access old new) where
     control : DoesNotWrite (Px port Sctl) access
-    control = laws.control_spares_other_registers Clearing port Sctl spares_control access kind
+    control = laws.control_spares_other_registers ClearingErrors port Sctl spares_control access kind
 
-    command : SetsNoStart port access
-    command = no_start port access (laws.control_spares_other_registers Clearing port Cmd spares_command access kind)
+    command : WritesCmdOnlyWithStClear port access
+    command = no_start port access (laws.control_spares_other_registers ClearingErrors port Cmd spares_command access kind)
 
     receives : IsStoppedReceiving port.0 (old.port port.0) → IsStoppedReceiving port.0 (new.port port.0)
-    receives h = elim (laws.control_reads_or_writes Clearing port access kind) [
+    receives h = elim (laws.control_reads_or_writes ClearingErrors port access kind) [
       | inl (r, v, e) ↦ receiving_read laws port r v old new on.no_reset (subst (λ (a : Access). Does a old new) e does) h
       | inr (r, v, e, w) ↦ receiving_write laws port r v old new on.no_reset (inr w) (subst (λ (a : Access). Does a old new) e does) h
     ]
 
     quiets : IsCleanToStart (old.port port.0) → IsCleanToStart (new.port port.0)
-    quiets q = elim (laws.control_reads_or_writes Clearing port access kind) [
+    quiets q = elim (laws.control_reads_or_writes ClearingErrors port access kind) [
       | inl (r, v, e) ↦ laws.reads_keep_clean_to_start port.0 (Px port r) v old new (subst (λ (a : Access). Does a old new) e does) q
       | inr (r, v, e, w) ↦ laws.writes_keep_clean_to_start port (Px port r) v old new
           (λ (e : Px port r ≡ Px port Cmd). let same : r ≡ Cmd = cc in absurd (spares_command (subst IsSerrOrIs same w)))
@@ -119,7 +119,7 @@ module _ (laws : Laws) where
           coming = λ none h. laws.access_keeps_coming_up port access old new command does none h;
           up = up;
           calm = λ r place h. laws.access_keeps_cause_clear port place access old new r.stopped.engine_is_stopped.cr_is_clear does h;
-          awaited = λ h. laws.access_keeps_drq_till_link port access old new (laws.control_spares_other_registers Clearing port Cmd spares_command access kind) control does h;
+          awaited = λ h. laws.access_keeps_drq_till_link port access old new (laws.control_spares_other_registers ClearingErrors port Cmd spares_command access kind) control does h;
           quiet = quiets;
           undue = λ h. laws.tape.access_but_sctl_write_makes_no_link_due port access old new on.no_reset h control does;
           change = λ h. laws.tape.access_raises_link_errors_by_disks port access old new on.no_reset h does;
@@ -130,7 +130,7 @@ module _ (laws : Laws) where
   settles_over port [] old new on all is = subst (Settles port old) (sym is) (settles_none port old)
   settles_over port (access ∷ accesses) old new on all (mid, does, rest) =
       let kind = All-head (ReadsPortOrWrites IsSerrOrIs port) access accesses all in
-      let host = laws.accesses_of_port_spare_ghc port access (laws.control_spares_other_ports Clearing port access kind) in
+      let host = laws.accesses_of_port_spare_ghc port access (laws.control_spares_other_ports ClearingErrors port access kind) in
       let later = laws.access_keeps_on access old mid on (λ v is. absurd (subst (DoesNotWrite Ghc) is host refl)) does in
       settles_more port old mid new (access_settles port access old mid on kind does) (settles_over port accesses mid new later (All-tail (ReadsPortOrWrites IsSerrOrIs port) access accesses all) rest)
 

@@ -26,7 +26,7 @@ use Rattle.port_control.proofs.Resetting.{grows_longer}
 use Rattle.port_control.proofs.Settling.{plugs_in_parts}
 use Rattle.port_control.specs.Laws.RegisterSet.{Commanding}
 use Rattle.port_control.specs.Laws.{Laws}
-use Rattle.port_control.specs.Laws.AccessPurpose.{Starting}
+use Rattle.port_control.specs.Laws.AccessPurpose.{StartingWithAllFree}
 use Rattle.port_control.proofs.Stretching.{followed_read, followed_then, followed_write}
 
 -- a write of PxCMD leaves the addresses and PxSCTL.DET
@@ -92,11 +92,11 @@ module _ (laws : Laws) where
 
     module _ (new : Device) (write : Writes (Px port Cmd) v mid new) where
       pub start_followed : IsSimulated (ReadsPortOrWrites IsCommandRegister port) (NoneUsed port) old new
-      start_followed = followed_then laws (Starting port) old mid new (followed_read laws (Starting port) (Px port Cmd) was old mid refl read)
-          (followed_write laws (Starting port) (Px port Cmd) v mid new (refl, refl) start_may start_leaves write)
+      start_followed = followed_then laws (StartingWithAllFree port) old mid new (followed_read laws (StartingWithAllFree port) (Px port Cmd) was old mid refl read)
+          (followed_write laws (StartingWithAllFree port) (Px port Cmd) v mid new (refl, refl) start_may start_leaves write)
 
       pub start_usable : IsOnWithPortAndAgrees (NoneUsed port) port new
-      start_usable = usable_by laws Commanding port old new (NoneUsed port) start_followed.is_driven (λ uses free. laws.fragments.some_machine_agrees (Starting port) (λ uses. uses) uses old new free start_followed) u
+      start_usable = usable_by laws Commanding port old new (NoneUsed port) start_followed.is_driven (λ uses free. laws.fragments.some_machine_agrees (StartingWithAllFree port) (λ uses. uses) uses old new free start_followed) u
 
       started : ((new.port port.0).cr ≡ true) × ((new.port port.0).notes.st_set_at ≡ length new.tape)
       started = laws.start_sets_cr_and_time port v mid new still.stopped.engine_is_stopped.st_is_clear one write

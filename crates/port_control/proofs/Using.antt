@@ -10,7 +10,7 @@ use Rattle.hba_regs.specs.declared.reg.Reg.TheVariants.{Px}
 use Rattle.adapter.specs.Access.{Access, Reads, Writes, port_after_write, port_after_st_write, port_after_fre_write}
 use Rattle.adapter.specs.Access.Access.{Reading, Writing, Loading, Storing}
 use Rattle.adapter.specs.Device.{Notes, DevicePort, Device}
-use Rattle.adapter.specs.KeptBySteps.{PortBitsOnlyFall, KeepsControlsFlagsRise}
+use Rattle.adapter.specs.KeptBySteps.{PortBitsOnlyFallFreeSlotsStay, KeepsControlsFlagsRise}
 use Rattle.adapter.specs.Rules.{HasPort, MayWrite, IsStable, IsOn}
 use Rattle.adapter.specs.RegisterEffects.{PortRegisterRead, PortRegisterWritten}
 use Rattle.refinement.specs.Fragments.{AnySlotStates, SomeMachineAgrees, ReadsPortOrWrites, IsSimulated, AnyAccess, TapeGrows, IsDrivenBy, SparesOtherPorts}
@@ -35,13 +35,13 @@ beside_then a b c x y =
 
 -- ---- a stopped port stays stopped
 
-pub stopped_on : {p q : DevicePort} → PortBitsOnlyFall p q → IsStopped p → IsStopped q
+pub stopped_on : {p q : DevicePort} → PortBitsOnlyFallFreeSlotsStay p q → IsStopped p → IsStopped q
 stopped_on k h = record {
   engine_is_stopped = record { st_is_clear = k.st_stays_clear h.engine_is_stopped.st_is_clear; cr_is_clear = k.cr_stays_clear h.engine_is_stopped.cr_is_clear; no_command_is_issued = λ slot. k.ci_stays_clear slot (h.engine_is_stopped.no_command_is_issued slot); no_command_is_taken = k.none_stays_taken_while_cr_is_clear h.engine_is_stopped.cr_is_clear h.engine_is_stopped.no_command_is_taken };
   sact_is_clear = λ slot. k.sact_stays_clear slot (h.sact_is_clear slot);
 }
 
-pub receiving_on : {port : ℕ} {p q : DevicePort} → PortBitsOnlyFall p q → KeepsControlsFlagsRise p q → IsStoppedReceiving port p → IsStoppedReceiving port q
+pub receiving_on : {port : ℕ} {p q : DevicePort} → PortBitsOnlyFallFreeSlotsStay p q → KeepsControlsFlagsRise p q → IsStoppedReceiving port p → IsStoppedReceiving port q
 receiving_on k c h = record { stopped = stopped_on k h.stopped; fre_is_set = c.fre_is_kept ∙ h.fre_is_set; areas_are_in_place = k.bases_are_kept ∙ h.areas_are_in_place }
 
 -- a write with ST 0 leaves PxSCTL.DET and the addresses

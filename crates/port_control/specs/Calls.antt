@@ -12,7 +12,7 @@ use Rattle.refinement.specs.PortFacts.{IsCleanToStart, RecordsFaultsIfSt}
 use Rattle.refinement.specs.PreservedParts.{NoPlugEvents}
 use Rattle.refinement.specs.HaltRecovery.{IsLinked, RunsLinked}
 use Rattle.refinement.specs.StartedPort.{IsUpForStart, IsStoppedAndUpForStartIfShown, IsStarted}
-use Rattle.port_control.specs.Ports.{FindsSignature, SerrShowsOnlyNewPlugs, IsDeviceFound, RunsInPlaceWithoutCommands, IsStopped, SeesResetFault, IsStoppedReceiving, SameSctlAndNotesButCmd, SameSctlAndNotesButCmdAndStart, SawDevice, SawIdle, BacksFault, LastSignatureIsShown, SendsComresetThen}
+use Rattle.port_control.specs.Ports.{FindsSignature, SerrShowsOnlyNewPlugs, IsClearAndUpUnlessPlugEvents, RunsInPlaceWithoutCommands, IsStopped, SeesResetFault, IsStoppedReceiving, SameSctlAndNotesButCmd, SameSctlAndNotesButCmdAndStart, SawDeviceSinceSctlWrite, SawIdle, BacksFault, LastSignatureIsShown, SendsComresetThen}
 use Rattle.port_control.specs.declared.PortFault.{PortFault}
 use Rattle.port_control.specs.declared.PortFault.TheVariants.{NoDevice, EngineStuck, NotAta}
 
@@ -44,13 +44,13 @@ pub record MayClearErrorState (port : Port) (d : Device) : Type 0 where
   pub no_link_is_due : (d.port port.0).link_due ≡ false
   pub no_comreset : (d.port port.0).sctl_det ≡ 0
 
--- Whether a device shows in a port was asked, and PxSERR cleared before: one is there with a link; or none was seen,
--- as after 64 readings that found none. A stopped port is stopped still (AHCI 1.3.1, 3.3.10 and 3.3.12).
-pub record AsksForDevice (port : Port) (found : Bool) (old new : Device) : Type 0 where
+-- PxSERR was cleared, and then a device detected in PxSSTS, or none: one is there with a link; or none was seen, as
+-- after 64 readings that found none. A stopped port is stopped still (AHCI 1.3.1, 3.3.10 and 3.3.12).
+pub record DetectsDeviceAfterClearingSerr (port : Port) (found : Bool) (old new : Device) : Type 0 where
   pub stopped : IsStopped (old.port port.0) → IsStopped (new.port port.0)
   pub serr_shows_only_new_plugs : (old.port port.0).link_due ≡ false → SerrShowsOnlyNewPlugs port.0 old new
   pub device_is_shown : found ≡ true → (new.port port.0).ssts_det ≡ 3
-  pub no_device_is_backed : found ≡ false → (old.port port.0).notes.link_wait_count ≡ MOST_READINGS
+  pub no_device_is_backed_if_waited : found ≡ false → (old.port port.0).notes.link_wait_count ≡ MOST_READINGS
       → BacksFault NoDevice (new.port port.0).notes
 
 -- ---- COMRESET
@@ -72,15 +72,16 @@ pub record StaysReceivingWithLinkUpIfShown (port : Port) (old new : Device) : Ty
 -- 10.4.2).
 pub record ResetsAndFindsDisk (port : Port) (old new : Device) : Type 0 where
   pub comreset_is_sent : SendsComresetThen port (FindsSignature port 0x101) old new
-  pub disk_is_seen : let notes = (new.port port.0).notes in SawDevice notes × SawIdle notes × (notes.last_sig ≡ 0x101)
-  pub device_is_found : IsDeviceFound port.0 old new
+  pub disk_is_seen : let notes = (new.port port.0).notes in SawDeviceSinceSctlWrite notes × SawIdle notes
+      × (notes.last_sig ≡ 0x101)
+  pub is_clear_and_up_unless_plug_events : IsClearAndUpUnlessPlugEvents port.0 old new
   pub signature_is_shown : LastSignatureIsShown (new.port port.0)
 
 -- COMRESET was sent, and the readings since showed this fault in place of such a disk.
 pub record ResetsAndFindsFault (port : Port) (fault : PortFault) (old new : Device) : Type 0 where
   pub comreset_is_sent : SendsComresetThen port (SeesResetFault port fault) old new
   pub fault_is_backed : BacksFault fault (new.port port.0).notes × (fault ≢ EngineStuck)
-  pub device_is_found : fault ≢ NoDevice → IsDeviceFound port.0 old new
+  pub is_clear_and_up_unless_plug_events : fault ≢ NoDevice → IsClearAndUpUnlessPlugEvents port.0 old new
   pub signature_is_shown : (signature : ℕ) → fault ≡ NotAta signature → LastSignatureIsShown (new.port port.0)
 
 -- ---- to work on the command list

@@ -28,9 +28,9 @@ DETECT_ACCESSES = 2
 
 -- PxSSTS is read until it shows a device, errors are cleared, PxTFD is read until it shows an idle one, and PxSIG is
 -- read
-abbrev pub AWAIT_DEVICE_ACCESSES : ℕ
-AWAIT_DEVICE_ACCESSES = MOST_READINGS + CLEAR_ACCESSES + MOST_READINGS + 1
+abbrev pub FIND_ATA_DISK_ACCESSES : ℕ
+FIND_ATA_DISK_ACCESSES = MOST_READINGS + CLEAR_ACCESSES + MOST_READINGS + 1
 
 -- PxSCTL is written twice, and the port is looked at
 abbrev pub COMRESET_ACCESSES : ℕ
-COMRESET_ACCESSES = 2 + AWAIT_DEVICE_ACCESSES
+COMRESET_ACCESSES = 2 + FIND_ATA_DISK_ACCESSES

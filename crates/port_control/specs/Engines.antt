@@ -33,8 +33,8 @@ abbrev pub StopsReceiving : Port → List Access → Type 0
 StopsReceiving port accesses = EngineFalls 4 14 port accesses
 
 -- both engines fell
-abbrev pub StopsBothEngines : Port → List Access → Type 0
-StopsBothEngines port accesses = Stops port accesses × StopsReceiving port accesses
+abbrev pub StopsEachEngine : Port → List Access → Type 0
+StopsEachEngine port accesses = Stops port accesses × StopsReceiving port accesses
 
 -- a value of PxCMD shows that an engine was cleared, and runs still
 abbrev pub ShowsStillRunning : ℕ → ℕ → ℕ → Type 0

@@ -17,26 +17,26 @@ use Rattle.adapter.specs.Steps.{Steps}
 use Rattle.refinement.specs.Laws.{FragmentLaws, TapeLaws}
 use Rattle.refinement.specs.Fragments.{AnyAccess, AnySlotStates, IsDrivenBy, SparesOtherPorts, SameSlotStates, OnlyDeviceChangesPort}
 use Rattle.refinement.specs.Errors.{ErrorBitsRiseByErrors, NoFaults, ErrorBitsStayClear}
-use Rattle.refinement.specs.PortFacts.{IsFaulted, RecordsFaultsIfSt, RunsWell, ShowsNoTrouble, PxisValueTellsNoTrouble, Undisturbed}
+use Rattle.refinement.specs.PortFacts.{IsHaltedPlainOrQueued, RecordsFaultsIfSt, RunsWell, ShowsNoTrouble, PxisValueTellsNoTrouble, Undisturbed}
 use Rattle.refinement.specs.PreservedParts.{ControlsChangeOnlyByTheirWrites, LinkIsSameOrComesUp, NoPlugEvents, SameAdapter, DoesNotWrite}
 use Rattle.refinement.specs.PortNotes.{ReadingNotesChangeByReadOrSctlWriteOnly}
 use Rattle.refinement.specs.Slots.{SlotStates}
-use Rattle.refinement.specs.StartedPort.{ClearsNoStart, IsStarted}
-use Rattle.port_control.specs.PortEvents.{IsEventAccess}
-use Rattle.port_control.specs.ServiceAccesses.{IsServiceAccess, HidesNoPlugEvent, HidesNoFatal}
+use Rattle.refinement.specs.StartedPort.{WritesCmdOnlyWithStSet, IsStarted}
+use Rattle.port_control.specs.PortEvents.{IsPxisSstsOrOwnIsAccess}
+use Rattle.port_control.specs.ServiceAccesses.{WritesOnlyHbaIsPxIsCiOrSact, HidesNoPlugEvent, HidesNoFatal}
 
 -- a look at a port, whatever the slots are used for; or ports are served, whose slots are used so
 pub data AccessPurpose : Type 0 where
-  Looking : Port → AccessPurpose
-  Serving : SlotStates → AccessPurpose
+  TakingEvents : Port → AccessPurpose
+  ServingAnyPortWithSlotsUsedSo : SlotStates → AccessPurpose
 
 abbrev pub accesses_for : AccessPurpose → Access → Type 0
-accesses_for (Looking port) = IsEventAccess port
-accesses_for (Serving uses) = IsServiceAccess
+accesses_for (TakingEvents port) = IsPxisSstsOrOwnIsAccess port
+accesses_for (ServingAnyPortWithSlotsUsedSo uses) = WritesOnlyHbaIsPxIsCiOrSact
 
 abbrev pub slot_uses_for : AccessPurpose → SlotStates → Type 0
-slot_uses_for (Looking port) = AnySlotStates
-slot_uses_for (Serving uses) = SameSlotStates uses
+slot_uses_for (TakingEvents port) = AnySlotStates
+slot_uses_for (ServingAnyPortWithSlotsUsedSo uses) = SameSlotStates uses
 
 pub record Laws : Type 0 where
   -- one access
@@ -71,7 +71,7 @@ pub record Laws : Type 0 where
       → (new.port port.0).sact slot ≡ false
   -- a port that runs well
   pub access_keeps_started : (port : Port) (access : Access) (old new : Device) → old.hr ≡ false
-      → ClearsNoStart port access
+      → WritesCmdOnlyWithStSet port access
       → DoesNotWrite (Px port Sctl) access → Undisturbed port.0 old new → Does access old new
       → IsStarted (old.port port.0) → IsStarted (new.port port.0)
   pub started_quiet_port_runs_well : (p : DevicePort) → IsStarted p → ShowsNoTrouble p → RunsWell p
@@ -133,13 +133,14 @@ pub record Laws : Type 0 where
       → DoesNotWrite (Px port Serr) access → Does access old new → HidesNoPlugEvent port.0 old new
   pub tfes_read_means_faulted : (port : Port) (v : ℕ) (old new : Device) → old.hr ≡ false → (old.port port.0).st ≡ true
       → RecordsFaultsIfSt old.tape (old.port port.0) port.0 → Reads (Px port Is) v old new → bit v 30 ≡ true
-      → IsFaulted (new.port port.0).halt
+      → IsHaltedPlainOrQueued (new.port port.0).halt
   pub read_keeps_faulted : (port : ℕ) (r : Reg) (v : ℕ) (old new : Device) → old.hr ≡ false → (old.port port).st ≡ true
-      → RecordsFaultsIfSt old.tape (old.port port) port → IsFaulted (old.port port).halt → Reads r v old new
-      → IsFaulted (new.port port).halt
+      → RecordsFaultsIfSt old.tape (old.port port) port → IsHaltedPlainOrQueued (old.port port).halt → Reads r v old new
+      → IsHaltedPlainOrQueued (new.port port).halt
   pub write_keeps_faulted : (port : ℕ) (r : Reg) (v : ℕ) (old new : Device) → old.hr ≡ false → (old.port port).st ≡ true
-      → RecordsFaultsIfSt old.tape (old.port port) port → IsFaulted (old.port port).halt → Writes r v old new
-      → IsFaulted (new.port port).halt
+      → RecordsFaultsIfSt old.tape (old.port port) port → IsHaltedPlainOrQueued (old.port port).halt
+      → Writes r v old new
+      → IsHaltedPlainOrQueued (new.port port).halt
   pub last_ssts_is_read : (port : Port) (v : ℕ) (old new : Device) → Reads (Px port Ssts) v old new
       → (new.port port.0).notes.last_ssts ≡ v
   pub access_notes : (port : Port) (access : Access) (old new : Device) → Does access old new

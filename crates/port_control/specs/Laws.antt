@@ -13,10 +13,10 @@ use Rattle.adapter.specs.declared.tape.Entry.{Entry}
 use Rattle.refinement.specs.Slots.{Free, SlotStates}
 use Rattle.hba_regs.specs.declared.reg.Reg.TheVariants.{Ghc, Px}
 use Rattle.adapter.specs.Rules.{HasPort, IsOn, MaySetFre, MayStart, MayStopReceiving, MayWrite, IsStable}
-use Rattle.refinement.specs.PortFacts.{IsQuiescentPort, IsStoppedWithDrqWhileLinkAwaited, IsEngineStopped, IsCleanToStart, RecordsFaultsIfSt, CrAndTfesAreClear, StartsCleanAndWritesSctlStopped}
+use Rattle.refinement.specs.PortFacts.{IsQuiescentPort, WhileLinkAwaitedCrIsClearAndDrqSet, IsEngineStopped, IsCleanToStart, RecordsFaultsIfSt, CrAndTfesAreClear, StartsCleanAndWritesSctlStopped}
 use Rattle.port_control.specs.Ports.{IsSerrOrIs, IsPlacingRegister, IsResetRegister, IsCommandRegister}
 use Rattle.refinement.specs.HaltRecovery.{IsLinked, RunsLinked}
-use Rattle.refinement.specs.StartedPort.{IsStoppedAndUpForStartIfShown, IsStarted, IsUpForStart, SetsNoStart}
+use Rattle.refinement.specs.StartedPort.{IsStoppedAndUpForStartIfShown, IsStarted, IsUpForStart, WritesCmdOnlyWithStClear}
 use Rattle.block_machine.specs.Histories.{IsReachable}
 use Rattle.adapter.specs.KeptBySteps.{KeepsOverSteps}
 use Rattle.ata_types.specs.declared.memory.TheConstants.{LIST_BYTES, RECEIVED_FIS_BYTES}
@@ -37,27 +37,27 @@ use Rattle.refinement.specs.MemoryLayout.{command_list_address, received_fis_add
 pub data RegisterSet : Type 0 where
   Commanding : RegisterSet
   Placing : RegisterSet
-  Clearing : RegisterSet
-  Resetting : RegisterSet
+  ClearingErrors : RegisterSet
+  ResettingLink : RegisterSet
 
 abbrev pub registers_of : RegisterSet → PortReg → Type 0
 registers_of Commanding = IsCommandRegister
 registers_of Placing = IsPlacingRegister
-registers_of Clearing = IsSerrOrIs
-registers_of Resetting = IsResetRegister
+registers_of ClearingErrors = IsSerrOrIs
+registers_of ResettingLink = IsResetRegister
 
 -- a port's registers are read, and those of a set written; or a port is started, none of whose slots is used
 pub data AccessPurpose : Type 0 where
   Controlling : RegisterSet → Port → AccessPurpose
-  Starting : Port → AccessPurpose
+  StartingWithAllFree : Port → AccessPurpose
 
 abbrev pub accesses_for : AccessPurpose → Access → Type 0
 accesses_for (Controlling set port) = ReadsPortOrWrites (registers_of set) port
-accesses_for (Starting port) = ReadsPortOrWrites IsCommandRegister port
+accesses_for (StartingWithAllFree port) = ReadsPortOrWrites IsCommandRegister port
 
 abbrev pub slot_uses_for : AccessPurpose → SlotStates → Type 0
 slot_uses_for (Controlling set port) = AnySlotStates
-slot_uses_for (Starting port) = λ uses. AllFree uses port.0
+slot_uses_for (StartingWithAllFree port) = λ uses. AllFree uses port.0
 
 -- ---- laws
 
@@ -150,27 +150,27 @@ pub record Laws : Type 0 where
       → uses port slot ≡ Free → (d.port port).sact slot ≡ false
   -- the link
   pub comreset_shows_drq_till_link : (port : Port) (v : ℕ) (old new : Device) → (old.port port.0).cr ≡ false
-      → v % 16 ≡ 1 → Writes (Px port Sctl) v old new → IsStoppedWithDrqWhileLinkAwaited (new.port port.0)
+      → v % 16 ≡ 1 → Writes (Px port Sctl) v old new → WhileLinkAwaitedCrIsClearAndDrqSet (new.port port.0)
   pub writes_keep_drq_till_link : (port : ℕ) (r : Reg) (v : ℕ) (old new : Device) → IsStable (MayWrite r v) old
       → IsStable (StartsCleanAndWritesSctlStopped r v) old → Writes r v old new
-      → IsStoppedWithDrqWhileLinkAwaited (old.port port)
-      → IsStoppedWithDrqWhileLinkAwaited (new.port port)
+      → WhileLinkAwaitedCrIsClearAndDrqSet (old.port port)
+      → WhileLinkAwaitedCrIsClearAndDrqSet (new.port port)
   pub reads_keep_drq_till_link : (port : ℕ) (r : Reg) (v : ℕ) (old new : Device) → Reads r v old new
-      → IsStoppedWithDrqWhileLinkAwaited (old.port port)
-      → IsStoppedWithDrqWhileLinkAwaited (new.port port)
+      → WhileLinkAwaitedCrIsClearAndDrqSet (old.port port)
+      → WhileLinkAwaitedCrIsClearAndDrqSet (new.port port)
   pub access_keeps_drq_till_link : (port : Port) (access : Access) (old new : Device)
       → DoesNotWrite (Px port Cmd) access
-      → DoesNotWrite (Px port Sctl) access → Does access old new → IsStoppedWithDrqWhileLinkAwaited (old.port port.0)
-      → IsStoppedWithDrqWhileLinkAwaited (new.port port.0)
+      → DoesNotWrite (Px port Sctl) access → Does access old new → WhileLinkAwaitedCrIsClearAndDrqSet (old.port port.0)
+      → WhileLinkAwaitedCrIsClearAndDrqSet (new.port port.0)
   pub comreset_begins_coming_up : (port : Port) (v : ℕ) (old new : Device) → (old.port port.0).cr ≡ false → v % 16 ≡ 1
       → Writes (Px port Sctl) v old new → IsStoppedAndUpForStartIfShown (new.port port.0)
-  pub access_keeps_coming_up : (port : Port) (access : Access) (old new : Device) → SetsNoStart port access
+  pub access_keeps_coming_up : (port : Port) (access : Access) (old new : Device) → WritesCmdOnlyWithStClear port access
       → Does access old new
       → NoDiskComes port.0 old new → IsStoppedAndUpForStartIfShown (old.port port.0)
       → IsStoppedAndUpForStartIfShown (new.port port.0)
   pub access_keeps_up : (port : Port) (access : Access) (old new : Device) → old.hr ≡ false
       → (old.port port.0).cr ≡ false
-      → SetsNoStart port access → DoesNotWrite (Px port Sctl) access → NoPlugEvents port.0 old new
+      → WritesCmdOnlyWithStClear port access → DoesNotWrite (Px port Sctl) access → NoPlugEvents port.0 old new
       → Does access old new
       → IsUpForStart (old.port port.0) → IsUpForStart (new.port port.0)
   pub up_is_found : (port : Port) (v : ℕ) (old new : Device) → NoDiskComes port.0 old new
@@ -189,7 +189,7 @@ pub record Laws : Type 0 where
   pub last_tfd_is_read : (port : Port) (v : ℕ) (old new : Device) → Reads (Px port Tfd) v old new
       → (new.port port.0).notes.last_tfd ≡ v
   pub law_clean_to_start_is_found : (port : Port) (v : ℕ) (old new : Device)
-      → IsStoppedWithDrqWhileLinkAwaited (old.port port.0)
+      → WhileLinkAwaitedCrIsClearAndDrqSet (old.port port.0)
       → CrAndTfesAreClear (old.port port.0) → Reads (Px port Tfd) v old new → bit v 3 ≡ false
       → IsCleanToStart (new.port port.0)
   pub steps_keep_clean_to_start : (port : ℕ) (old new : Device) → Steps old new → IsCleanToStart (old.port port)

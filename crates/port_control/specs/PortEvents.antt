@@ -22,10 +22,10 @@ port_event_of causes status =
     else (if bit causes 30 then TaskFileError else NoEvent))
 
 -- It reads PxIS or PxSSTS, or it writes PxIS, or IS with the port's bit alone.
-abbrev pub IsEventAccess : Port → Access → Type 0
-IsEventAccess port (Reading r v) = (r ≡ Px port Is) ⊎ (r ≡ Px port Ssts)
-IsEventAccess port (Writing r v) = (r ≡ Px port Is) ⊎ ((r ≡ reg.Is) × IsSoleBit port.0 v)
-IsEventAccess port access = ⊥
+abbrev pub IsPxisSstsOrOwnIsAccess : Port → Access → Type 0
+IsPxisSstsOrOwnIsAccess port (Reading r v) = (r ≡ Px port Is) ⊎ (r ≡ Px port Ssts)
+IsPxisSstsOrOwnIsAccess port (Writing r v) = (r ≡ Px port Is) ⊎ ((r ≡ reg.Is) × IsSoleBit port.0 v)
+IsPxisSstsOrOwnIsAccess port access = ⊥
 
 -- PxIS is read and written with what was read; then the port's bit of IS, alone, is written; then PxSSTS is read. The
 -- answer is what the two readings tell.

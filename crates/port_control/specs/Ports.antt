@@ -13,7 +13,7 @@ use Rattle.adapter.specs.Device.{Bases, Notes, DevicePort, Device}
 use Rattle.adapter.specs.Rules.{IsOn, HasPort}
 use Rattle.refinement.specs.Fragments.{SomeMachineAgreesWith, AnySlotStates, ReadsPortOrWrites, IsDrivenBy, IsSimulatedAlong}
 use Rattle.refinement.specs.Errors.{NoDiskComes}
-use Rattle.refinement.specs.PortFacts.{IsStoppedWithDrqWhileLinkAwaited, IsEngineStopped, IsCleanToStart}
+use Rattle.refinement.specs.PortFacts.{WhileLinkAwaitedCrIsClearAndDrqSet, IsEngineStopped, IsCleanToStart}
 use Rattle.refinement.specs.PreservedParts.{NoPlugEvents}
 use Rattle.refinement.specs.MemoryLayout.{command_list_address, received_fis_address}
 use Rattle.refinement.specs.Slots.{SlotStates}
@@ -92,8 +92,8 @@ abbrev pub ShowsIdle : ℕ → Type 0
 ShowsIdle v = bit v 7 || bit v 3 ≡ false
 
 -- a device with a link, since SCTL was written
-abbrev pub SawDevice : Notes → Type 0
-SawDevice n = (n.last_ssts % 16 ≡ 3) × (n.link_wait_count ≡ MOST_READINGS)
+abbrev pub SawDeviceSinceSctlWrite : Notes → Type 0
+SawDeviceSinceSctlWrite n = (n.last_ssts % 16 ≡ 3) × (n.link_wait_count ≡ MOST_READINGS)
 
 -- neither BSY nor DRQ
 abbrev pub SawIdle : Notes → Type 0
@@ -103,9 +103,10 @@ SawIdle n = ShowsIdle n.last_tfd
 -- disk's.
 abbrev pub BacksFault : PortFault → Notes → Type 0
 BacksFault NoDevice n = (n.last_ssts % 16 ≢ 3) × (n.link_wait_count ≡ MOST_READINGS)
-BacksFault Busy n = SawDevice n × (n.busy_count ≡ MOST_READINGS)
+BacksFault Busy n = SawDeviceSinceSctlWrite n × (n.busy_count ≡ MOST_READINGS)
 BacksFault EngineStuck n = n.engine_wait_count ≡ MOST_READINGS
-BacksFault (NotAta signature) n = SawDevice n × ShowsIdle n.last_tfd × (n.last_sig ≡ signature) × (signature ≢ 0x101)
+BacksFault (NotAta signature) n = SawDeviceSinceSctlWrite n × ShowsIdle n.last_tfd × (n.last_sig ≡ signature)
+    × (signature ≢ 0x101)
 
 -- ---- what the calls leave
 
@@ -210,25 +211,26 @@ pub record SerrShowsOnlyNewPlugs (port : ℕ) (old new : Device) : Type 0 where
   pub serr_n_is_clear : NoPlugEvents port old new → (new.port port).serr_n ≡ false
   pub serr_x_is_clear : NoDiskComes port old new → (new.port port).serr_x ≡ false
 
--- A device was seen since COMRESET, and PxSERR and PxIS were cleared. Where no disk came, the link isn't due to come up
+-- PxIS is clear, and PxSERR shows only disks that went or came since. Where no disk came, the link isn't due to come up
 -- any more; where none went either, it is up, with the disk's first FIS received. And whatever went or came: once PxTFD
 -- is read without DRQ, which it shows from COMRESET until the link comes up, the link isn't due, so that ST may be set.
-pub record IsDeviceFound (port : ℕ) (old new : Device) : Type 0 where
+pub record IsClearAndUpUnlessPlugEvents (port : ℕ) (old new : Device) : Type 0 where
   pub no_cause_is_set : (place : ℕ) → place < 32 → (new.port port).is place ≡ false
   pub serr_shows_only_new_plugs : SerrShowsOnlyNewPlugs port old new
   pub no_link_is_due : NoDiskComes port old new → (new.port port).link_due ≡ false
   pub link_is_up : NoPlugEvents port old new → IsUpForStart (new.port port)
   pub is_clean_to_start : bit (new.port port).notes.last_tfd 3 ≡ false → IsCleanToStart (new.port port)
 
--- So it is where the link was coming up before, and was awaited.
-pub record FindsAwaitedLink (port : ℕ) (old new : Device) : Type 0 where
+-- PxIS is clear. The rest is so where the engine stood before, and the link was up if DET was 3; the last, where an
+-- awaited link had CR clear and DRQ set.
+pub record IsClearAndUpIfStoppedUnlessPlugEvents (port : ℕ) (old new : Device) : Type 0 where
   pub no_cause_is_set : (place : ℕ) → place < 32 → (new.port port).is place ≡ false
   pub serr_shows_only_new_plugs : IsStoppedAndUpForStartIfShown (old.port port) → SerrShowsOnlyNewPlugs port old new
   pub no_link_is_due : NoDiskComes port old new → IsStoppedAndUpForStartIfShown (old.port port)
       → (new.port port).link_due ≡ false
   pub link_is_up : NoPlugEvents port old new → IsStoppedAndUpForStartIfShown (old.port port)
       → IsUpForStart (new.port port)
-  pub is_clean_to_start : IsStoppedWithDrqWhileLinkAwaited (old.port port)
+  pub is_clean_to_start : WhileLinkAwaitedCrIsClearAndDrqSet (old.port port)
       → bit (new.port port).notes.last_tfd 3 ≡ false
       → IsCleanToStart (new.port port)
 

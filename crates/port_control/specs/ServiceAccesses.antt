@@ -11,14 +11,14 @@ use Rattle.refinement.specs.Errors.{NoFaults, NoFatalErrors}
 use Rattle.refinement.specs.PreservedParts.{NoPlugEvents, DoesNotWrite}
 
 -- Of registers it writes IS, or a port's PxIS, PxCI or PxSACT, if any.
-abbrev pub IsServiceAccess : Access → Type 0
-IsServiceAccess (Writing r v) =
+abbrev pub WritesOnlyHbaIsPxIsCiOrSact : Access → Type 0
+WritesOnlyHbaIsPxIsCiOrSact (Writing r v) =
     (r ≡ reg.Is) ⊎ ((port : Port) × ((r ≡ Px port Is) ⊎ ((r ≡ Px port Ci) ⊎ (r ≡ Px port Sact))))
-IsServiceAccess access = Unit {0}
+WritesOnlyHbaIsPxIsCiOrSact access = Unit {0}
 
 -- the same, but for writes of this port's PxIS
-abbrev pub IsServiceButPxIs : Port → Access → Type 0
-IsServiceButPxIs port access = IsServiceAccess access × DoesNotWrite (Px port Is) access
+abbrev pub WritesOnlyHbaIsCiSactOrOtherPxIs : Port → Access → Type 0
+WritesOnlyHbaIsCiSactOrOtherPxIs port access = WritesOnlyHbaIsPxIsCiOrSact access × DoesNotWrite (Px port Is) access
 
 -- N and X of PxSERR stay set where they are (AHCI 1.3.1, 3.3.12)
 abbrev pub SerrNXStaySet : DevicePort → DevicePort → Type 0
@@ -42,7 +42,7 @@ HidesNoPlugEvent port old new = (new.port port).serr_n ≡ false → ((old.port 
 
 -- The port told of a change of its link before the fragment, or showed no device; or a disk went or came in the
 -- fragment.
-abbrev pub LinkChangedOrMissing : ℕ → Device → Device → Type 0
-LinkChangedOrMissing port old new =
+abbrev pub OldShowsChangeOrNoDeviceOrPlugEventComes : ℕ → Device → Device → Type 0
+OldShowsChangeOrNoDeviceOrPlugEventComes port old new =
     (((old.port port).serr_n ≡ true) ⊎ ((old.port port).serr_x ≡ true))
     ⊎ (((old.port port).ssts_det ≢ 3) ⊎ (NoPlugEvents port old new → ⊥))

@@ -3,13 +3,13 @@
 //! `take_event` is for ready ports, and acknowledges what it has read. `has_device` and
 //! `has_device_changed_or_missing` are for others, and write nothing. No call asks for a machine, and none hides
 //! trouble that it hasn't read. Here stand, too, the words and laws on accesses that serve ports
-//! (`IsServiceAccess`, `law_services_keep_ports_running`): they let these write PxCI, since it is between issues that
-//! ports are looked at.
+//! (`WritesOnlyHbaIsPxIsCiOrSact`, `law_services_keep_ports_running`): they let these write PxCI, since it is between
+//! issues that ports are looked at.
 ghost use Rattle.std.specs.Prelude.{◌≡◌, ◌||◌, ◌==◌, ◌%◌, not};
 ghost use Rattle.adapter.specs.{Rules.{IsOn, HasPort}, AccessBounds.{MakesAtMost}};
 ghost use Rattle.refinement.specs.Fragments.{AnySlotStates, IsSimulated};
 ghost use Rattle.hba_regs.specs.Bits.{bit};
-ghost use Rattle.port_control.specs.{DeviceChecks.{ChecksForChangeOrNoDevice, ChecksForDevice}, PortEvents.{port_event_of, IsEventAccess, TakesEvent}, EventCosts.{CHANGE_CHECK_ACCESSES, TAKE_EVENT_ACCESSES}};
+ghost use Rattle.port_control.specs.{DeviceChecks.{ChecksForChangeOrNoDevice, ChecksForDevice}, PortEvents.{port_event_of, IsPxisSstsOrOwnIsAccess, TakesEvent}, EventCosts.{CHANGE_CHECK_ACCESSES, TAKE_EVENT_ACCESSES}};
 
 use adapter::Adapter;
 use ata_types::Port;
@@ -84,7 +84,8 @@ pub fn take_event<A: Adapter>(adapter: &mut A, port: Port) -> PortEvent
     requires has_port { HasPort (A.device adapter.old) port.0 }
     ensures adapter_is_on { IsOn (A.device adapter.new) }
     ensures looks { TakesEvent port result (A.device adapter.old) (A.device adapter.new) }
-    ensures followed { IsSimulated (IsEventAccess port) AnySlotStates (A.device adapter.old) (A.device adapter.new) }
+    ensures followed { IsSimulated (IsPxisSstsOrOwnIsAccess port) AnySlotStates (A.device adapter.old)
+        (A.device adapter.new) }
     ensures cost { MakesAtMost TAKE_EVENT_ACCESSES (A.access_count adapter.old) (A.access_count adapter.new) }
 {
     law_prerequisites();
@@ -102,7 +103,8 @@ pub fn has_device<A: Adapter>(adapter: &mut A, port: Port) -> bool
     requires has_port { HasPort (A.device adapter.old) port.0 }
     ensures adapter_is_on { IsOn (A.device adapter.new) }
     ensures finds { ChecksForDevice port result (A.device adapter.old) (A.device adapter.new) }
-    ensures followed { IsSimulated (IsEventAccess port) AnySlotStates (A.device adapter.old) (A.device adapter.new) }
+    ensures followed { IsSimulated (IsPxisSstsOrOwnIsAccess port) AnySlotStates (A.device adapter.old)
+        (A.device adapter.new) }
     ensures cost { MakesAtMost 1 (A.access_count adapter.old) (A.access_count adapter.new) }
 {
     law_prerequisites();
@@ -118,7 +120,8 @@ pub fn has_device_changed_or_missing<A: Adapter>(adapter: &mut A, port: Port) ->
     requires has_port { HasPort (A.device adapter.old) port.0 }
     ensures adapter_is_on { IsOn (A.device adapter.new) }
     ensures finds { ChecksForChangeOrNoDevice port result (A.device adapter.old) (A.device adapter.new) }
-    ensures followed { IsSimulated (IsEventAccess port) AnySlotStates (A.device adapter.old) (A.device adapter.new) }
+    ensures followed { IsSimulated (IsPxisSstsOrOwnIsAccess port) AnySlotStates (A.device adapter.old)
+        (A.device adapter.new) }
     ensures cost { MakesAtMost CHANGE_CHECK_ACCESSES (A.access_count adapter.old) (A.access_count adapter.new) }
 {
     law_prerequisites();

@@ -11,9 +11,9 @@ ghost use Rattle.std.specs.Prelude.{ℕ, ◌≡◌, ◌≢◌, ◌<◌, ◌≤�
 ghost use Rattle.hba_regs.specs.Bits.{bit};
 ghost use Rattle.adapter.specs.{Rules.{IsOn}, AccessBounds.{MakesAtMost}};
 ghost use Rattle.refinement.specs.{Fragments.{AnySlotStates, ReadsPortOrWrites, IsSimulated, IsSimulatedAlong}, Driver.{AllFree}, PortFacts.{IsQuiescentPort}};
-ghost use Rattle.port_control.specs.{Calls.{AsksForDevice, ResetsAndFindsDisk, ResetsAndFindsFault, MayBeginReceiving, MayBeStarted, MayClearErrorState, MayResetLink, StaysReceivingWithLinkUpIfShown, Starts, StaysStoppedWithNotesButCmdKept}, Engines.{FailsToStopReceiving, StopsReceiving}, CallParts.{AwaitsIdle, ClearsFre, FindsAwaitedDevice, LeavesOnlyNewPlugErrors, MissesDevice, PlacesAreas, FindsDiskAfterReset, FindsFaultAfterReset, SendsComreset}};
-ghost use Rattle.port_control.specs.Ports.{FailsToStopPort, FailsToReceive, PortStops, BeginsReceiving, IsCommandRegister, IsPlacingRegister, IsSerrOrIs, IsResetRegister, IsOnWithPortAndAgrees, IsStopped, IsStoppedReceiving, SawDevice, BacksFault, SameSctlAndNotesButCmd, ClearsStAlone, ClearsErrorState, programmed_bases};
-ghost use Rattle.port_control.specs.Costs.{AWAIT_DEVICE_ACCESSES, CLEAR_ACCESSES, COMRESET_ACCESSES, ERROR_STATE_ACCESSES, RECEIVE_ACCESSES, DETECT_ACCESSES, START_ACCESSES, STOP_ACCESSES};
+ghost use Rattle.port_control.specs.{Calls.{DetectsDeviceAfterClearingSerr, ResetsAndFindsDisk, ResetsAndFindsFault, MayBeginReceiving, MayBeStarted, MayClearErrorState, MayResetLink, StaysReceivingWithLinkUpIfShown, Starts, StaysStoppedWithNotesButCmdKept}, Engines.{FailsToStopReceiving, StopsReceiving}, CallParts.{AwaitsIdle, ClearsFre, FindsAwaitedDevice, LeavesOnlyNewPlugErrors, MissesDevice, PlacesAreas, FindsDiskAfterReset, FindsFaultAfterReset, SendsComreset}};
+ghost use Rattle.port_control.specs.Ports.{FailsToStopPort, FailsToReceive, PortStops, BeginsReceiving, IsCommandRegister, IsPlacingRegister, IsSerrOrIs, IsResetRegister, IsOnWithPortAndAgrees, IsStopped, IsStoppedReceiving, SawDeviceSinceSctlWrite, BacksFault, SameSctlAndNotesButCmd, ClearsStAlone, ClearsErrorState, programmed_bases};
+ghost use Rattle.port_control.specs.Costs.{FIND_ATA_DISK_ACCESSES, CLEAR_ACCESSES, COMRESET_ACCESSES, ERROR_STATE_ACCESSES, RECEIVE_ACCESSES, DETECT_ACCESSES, START_ACCESSES, STOP_ACCESSES};
 
 use adapter::Adapter;
 use ata_types::{DRIVER_BYTES, DRIVER_BYTES_PER_PORT, MOST_READINGS, Port, RECEIVED_FIS_OFFSET};
@@ -247,7 +247,7 @@ fn clear_errors<A: Adapter>(adapter: &mut A, port: Port)
     requires receives { IsStoppedReceiving port.0 ((A.device adapter.old).port port.0) }
     ensures followed { IsSimulated (ReadsPortOrWrites IsSerrOrIs port) AnySlotStates (A.device adapter.old)
         (A.device adapter.new) }
-    ensures saw { SawDevice ((A.device adapter.old).port port.0).notes → SawDevice
+    ensures saw { SawDeviceSinceSctlWrite ((A.device adapter.old).port port.0).notes → SawDeviceSinceSctlWrite
         ((A.device adapter.new).port port.0).notes }
     ensures clears { LeavesOnlyNewPlugErrors port (A.device adapter.old) (A.device adapter.new) }
     ensures cost { MakesAtMost CLEAR_ACCESSES (A.access_count adapter.old) (A.access_count adapter.new) }
@@ -275,12 +275,12 @@ pub fn clear_error_state<A: Adapter>(adapter: &mut A, port: Port) -> TaskFile
 
 /// Whether a device with a link shows in a port, as where a device went or came: clears each bit of PxSERR, and reads
 /// PxSSTS (AHCI 1.3.1, 3.3.10 and 3.3.12). A stopped port stays stopped.
-pub fn clear_serr_and_detect<A: Adapter>(adapter: &mut A, port: Port) -> bool
+pub fn clear_serr_and_read_ssts<A: Adapter>(adapter: &mut A, port: Port) -> bool
     requires on_and_agrees { IsOnWithPortAndAgrees AnySlotStates port (A.device adapter.old) }
     ensures adapter_is_on { IsOn (A.device adapter.new) }
     ensures followed { IsSimulated (ReadsPortOrWrites IsSerrOrIs port) AnySlotStates (A.device adapter.old)
         (A.device adapter.new) }
-    ensures detects { AsksForDevice port result (A.device adapter.old) (A.device adapter.new) }
+    ensures detects { DetectsDeviceAfterClearingSerr port result (A.device adapter.old) (A.device adapter.new) }
     ensures cost { MakesAtMost DETECT_ACCESSES (A.access_count adapter.old) (A.access_count adapter.new) }
 {
     law_prerequisites();
@@ -293,7 +293,7 @@ pub fn clear_serr_and_detect<A: Adapter>(adapter: &mut A, port: Port) -> bool
 fn wait_until_idle<A: Adapter>(adapter: &mut A, port: Port) -> bool
     requires usable { IsOnWithPortAndAgrees AnySlotStates port (A.device adapter.old) }
     requires det { ((A.device adapter.old).port port.0).sctl_det ≡ 0 }
-    requires saw { SawDevice ((A.device adapter.old).port port.0).notes }
+    requires saw { SawDeviceSinceSctlWrite ((A.device adapter.old).port port.0).notes }
     ensures followed { IsSimulated (ReadsPortOrWrites IsSerrOrIs port) AnySlotStates (A.device adapter.old)
         (A.device adapter.new) }
     ensures awaits { AwaitsIdle port result (A.device adapter.old) (A.device adapter.new) }
@@ -319,7 +319,7 @@ fn look<A: Adapter>(adapter: &mut A, port: Port) -> Result<(), PortFault>
     ensures sees { OnOk result (FindsDiskAfterReset port (A.device adapter.old) (A.device adapter.new)) }
     ensures fault { IfErr result (λ fault. FindsFaultAfterReset port fault (A.device adapter.old)
         (A.device adapter.new)) }
-    ensures cost { MakesAtMost AWAIT_DEVICE_ACCESSES (A.access_count adapter.old) (A.access_count adapter.new) }
+    ensures cost { MakesAtMost FIND_ATA_DISK_ACCESSES (A.access_count adapter.old) (A.access_count adapter.new) }
 {
     law_prerequisites();
     if !wait_for_device(adapter, port) {

@@ -18,9 +18,9 @@ use refinement::laws::{
 };
 use refinement::port_facts::{
     law_adapter_stays, law_clean_to_start_is_found, law_controls_are_set, law_controls_stay,
-    law_errors_are_cleared, law_faults_are_recorded, law_link_is_awaited, law_notes_are_set,
-    law_notes_stay, law_reset_is_found, law_running_well_is_found, law_shown_link_is_up_for_start,
-    law_stopped_engine_is_read, law_stopped_engine_stays,
+    law_drq_is_shown_while_link_awaited, law_errors_are_cleared, law_faults_are_recorded,
+    law_notes_are_set, law_notes_stay, law_reset_is_found, law_running_well_is_found,
+    law_shown_link_is_up_for_start, law_stopped_engine_is_read, law_stopped_engine_stays,
 };
 use refinement::recovering::{law_link_stays_online, law_running_goes_on};
 use std::marker::Brand;
@@ -39,7 +39,7 @@ pub fn law_prerequisites()
     law_faults_are_recorded();
     law_stopped_engine_stays();
     law_shown_link_is_up_for_start();
-    law_link_is_awaited();
+    law_drq_is_shown_while_link_awaited();
     law_notes_are_set();
     law_notes_stay();
     law_clean_to_start_is_found();

@@ -14,7 +14,7 @@ use Rattle.host_boot.specs.declared.ProbeResult.TheVariants.{Unready}
 use Rattle.identify.specs.declared.wanted.Wanted.{Wanted}
 use Rattle.port_control.specs.declared.Running.{Running}
 use Rattle.port_control.specs.declared.Stopped.{Stopped}
-use Rattle.port_control.specs.PortEvents.{IsEventAccess}
+use Rattle.port_control.specs.PortEvents.{IsPxisSstsOrOwnIsAccess}
 use Rattle.server_history.specs.ErrorHandling.{HasAllSlotsFreeAndCountOfMode}
 use Rattle.server_history.specs.ServerState.{ServerState, SettledInvariant}
 use Rattle.server_history.specs.Probing.{ProbesAnew, IsFoundAfterStop, FindsReasonToBoot, ProbesPort}
@@ -47,11 +47,11 @@ found_anew s new found mode slots number = record s {
 
 -- what the law says of a port that was tried
 abbrev pub SettlesTried : Type 0
-SettlesTried = (s new : ServerState) (port : Port) → SettledInvariant s → (probes : ProbesPort port s new) → (probes.state ≢ Dead → IsSimulated (IsEventAccess port) AnySlotStates s.device probes.device_after_look) → ProbesUnready port s new × SettledInvariant new
+SettlesTried = (s new : ServerState) (port : Port) → SettledInvariant s → (probes : ProbesPort port s new) → (probes.state ≢ Dead → IsSimulated (IsPxisSstsOrOwnIsAccess port) AnySlotStates s.device probes.device_after_look) → ProbesUnready port s new × SettledInvariant new
 
 module _ (law : SettlesTried) (s : ServerState) (port : Port) (state : PortState) (is : probe_result_of s.probe_results port.0 ≡ Unready state) (settled : SettledInvariant s) (seen : Device) where
   -- where nothing shows, that was all
-  pub left_settles : FindsReasonToBoot state port false s.device seen → IsSimulated (IsEventAccess port) AnySlotStates s.device seen → ProbesUnready port s (record s { device = seen }) × SettledInvariant (record s { device = seen })
+  pub left_settles : FindsReasonToBoot state port false s.device seen → IsSimulated (IsPxisSstsOrOwnIsAccess port) AnySlotStates s.device seen → ProbesUnready port s (record s { device = seen }) × SettledInvariant (record s { device = seen })
   left_settles looks followed = law s (record s { device = seen }) port settled probes (λ alive. followed)
     where
       probes : ProbesPort port s (record s { device = seen })
@@ -65,7 +65,7 @@ module _ (law : SettlesTried) (s : ServerState) (port : Port) (state : PortState
         boots = λ booted. let z : false ≡ true = booted in absurd cc;
       }
 
-  module _ (looks : FindsReasonToBoot state port true s.device seen) (followed : IsSimulated (IsEventAccess port) AnySlotStates s.device seen) (new : Device) (found : ProbeResult) (mode : QueueMode) (slots : PortSlots)
+  module _ (looks : FindsReasonToBoot state port true s.device seen) (followed : IsSimulated (IsPxisSstsOrOwnIsAccess port) AnySlotStates s.device seen) (new : Device) (found : ProbeResult) (mode : QueueMode) (slots : PortSlots)
       (finds : ProbesAnew (wanted_of s.wanted port.0) port found mode seen new) (unused : HasAllSlotsFreeAndCountOfMode mode slots) where
     boots_so : ProbesPort port s (found_anew s new found mode slots port.0)
     boots_so = record {

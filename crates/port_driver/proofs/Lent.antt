@@ -17,7 +17,7 @@ use Rattle.error_recovery.specs.Recovery.{PlainUsesSlot0, PlainIsSlot0, PortMayR
 use Rattle.error_recovery.specs.declared.Recovered.{Recovered}
 use Rattle.host_boot.specs.TakeOver.{probe_result_of}
 use Rattle.commands.specs.Masks.{ReadsDone}
-use Rattle.port_control.specs.PortEvents.{IsEventAccess, TakesEvent}
+use Rattle.port_control.specs.PortEvents.{IsPxisSstsOrOwnIsAccess, TakesEvent}
 use Rattle.port_control.specs.declared.events.PortEvent.TheVariants.{TaskFileError}
 use Rattle.request_queue.specs.BookEntries.{BookEntry}
 use Rattle.request_queue.specs.declared.disposition.FailedRequest.{FailedRequest}
@@ -37,12 +37,12 @@ use Rattle.port_driver.proofs.Sending.{ready_there}
 
 -- what laws say of a server of which a port failed
 pub record FailureLaws : Type 0 where
-  pub looking : (s : ServerState) (new : Device) (port : Port) → InCallInvariant s → state_of (probe_result_of s.probe_results port.0) ≡ ReadyState → IsSimulated (IsEventAccess port) AnySlotStates s.device new → InCallInvariant (record s { device = new })
+  pub looking : (s : ServerState) (new : Device) (port : Port) → InCallInvariant s → state_of (probe_result_of s.probe_results port.0) ≡ ReadyState → IsSimulated (IsPxisSstsOrOwnIsAccess port) AnySlotStates s.device new → InCallInvariant (record s { device = new })
   pub finding : (s : ServerState) (new : Device) (port : Port) (mask done : ℕ) → InCallInvariant s → state_of (probe_result_of s.probe_results port.0) ≡ ReadyState → ReadsDone port mask done s.device new → InCallInvariant (record s { device = new })
   pub over : (s : ServerState) (new : Device) (port : Port) (mask done slot : ℕ) → InCallInvariant s → state_of (probe_result_of s.probe_results port.0) ≡ ReadyState → IsMaskOf (slots_at s.slots port.0) mask → slot < 32
       → ReadsDone port mask done s.device new → bit done slot ≡ true → IsOver (new.port port.0) slot
   pub may : (s : ServerState) (seen found : Device) (port : Port) (mask done : ℕ) → InCallInvariant s → state_of (probe_result_of s.probe_results port.0) ≡ ReadyState → TakesEvent port TaskFileError s.device seen
-      → IsSimulated (IsEventAccess port) AnySlotStates s.device seen → ReadsDone port mask done seen found → PortMayRecover port.0 found
+      → IsSimulated (IsPxisSstsOrOwnIsAccess port) AnySlotStates s.device seen → ReadsDone port mask done seen found → PortMayRecover port.0 found
   pub agreed : (s : ServerState) (port : Port) (queued : Bool) → InCallInvariant s → state_of (probe_result_of s.probe_results port.0) ≡ ReadyState → AreAllQueuedAs queued (slots_at s.slots port.0) → SomeMachineAgreesWith (PlainUsesSlot0 queued port.0) s.device
   pub alike : (s : ServerState) (port : Port) (slot : ℕ) (used : SlotUse) → InCallInvariant s → used_for s.slots port.0 slot ≡ Some used → AreAllQueuedAs used.queued (slots_at s.slots port.0)
   pub alone : (s : ServerState) (port : Port) (queued : Bool) (outstanding : ℕ) → InCallInvariant s → IsMaskOf (slots_at s.slots port.0) outstanding → AreAllQueuedAs queued (slots_at s.slots port.0) → PlainIsSlot0 queued outstanding

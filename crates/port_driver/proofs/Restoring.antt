@@ -28,7 +28,7 @@ use Rattle.identify.specs.declared.wanted.Wanted.{Wanted}
 use Rattle.port_boot.specs.States.{IsOnWithPortMemoryAndFreeSlots}
 use Rattle.port_control.specs.Ports.{IsStopped}
 use Rattle.port_control.specs.declared.Stopped.{Stopped}
-use Rattle.port_control.specs.PortEvents.{IsEventAccess}
+use Rattle.port_control.specs.PortEvents.{IsPxisSstsOrOwnIsAccess}
 use Rattle.request_queue.specs.BookEntries.{BookEntry, is_of_port}
 use Rattle.request_queue.specs.Dispositions.{BookAndLoans, AreResolved, disposition_of}
 use Rattle.request_queue.specs.declared.disposition.FailedRequest.{FailedRequest}
@@ -40,7 +40,7 @@ use Rattle.server_history.specs.Turns.{IsPortTurn, InRestart, ServicesPort}
 use Rattle.port_control.specs.declared.events.PortError.{PortError}
 use Rattle.port_control.specs.declared.events.PortError.TheVariants.{FatalError, TaskFileError, TimedOut, LinkChanged}
 use Rattle.slots.specs.SlotUses.{PortSlots, use_at}
-use Rattle.port_driver.specs.LoanRoom.{HaveLoanRoom, BookIsSound, book_and_loans}
+use Rattle.port_driver.specs.LoanRoom.{HaveRoomForIssuedLoans, BookIsSound, book_and_loans}
 use Rattle.port_driver.specs.LentSlots.{HasPortToIssue, with_port_slots}
 use Rattle.port_driver.specs.Recovery.{HandlesPortErrorOf, AnswersDoneAndHandlesError, SeesPortError}
 use Rattle.port_driver.proofs.Sending.{ready_there}
@@ -48,15 +48,15 @@ use Rattle.port_driver.proofs.Sending.{ready_there}
 -- what laws say of what comes after a recovery
 pub record RestoringLaws : Type 0 where
   pub bootable : (s mid : ServerState) (device : Device) (port : Port) (token : Stopped) → InCallInvariant s → state_of (probe_result_of s.probe_results port.0) ≡ ReadyState → (r : IsErrorHandled port s mid device)
-      → IsSimulated (IsEventAccess port) AnySlotStates s.device r.device_after_look → r.result.next ≡ Restart token → IsOnWithPortMemoryAndFreeSlots port device × IsStopped (device.port port.0) × ((device.port port.0).notes.link_wait_count ≡ MOST_READINGS)
+      → IsSimulated (IsPxisSstsOrOwnIsAccess port) AnySlotStates s.device r.device_after_look → r.result.next ≡ Restart token → IsOnWithPortMemoryAndFreeSlots port device × IsStopped (device.port port.0) × ((device.port port.0).notes.link_wait_count ≡ MOST_READINGS)
   pub mode : (s mid : ServerState) (device : Device) (port : Port) → InCallInvariant s → state_of (probe_result_of s.probe_results port.0) ≡ ReadyState → (r : IsErrorHandled port s mid device)
-      → IsSimulated (IsEventAccess port) AnySlotStates s.device r.device_after_look → mode_in s port ≡ probed_mode device.cap (probe_result_of s.probe_results port.0)
+      → IsSimulated (IsPxisSstsOrOwnIsAccess port) AnySlotStates s.device r.device_after_look → mode_in s port ≡ probed_mode device.cap (probe_result_of s.probe_results port.0)
   pub places : (s : ServerState) (port : Port) → InCallInvariant s → state_of (probe_result_of s.probe_results port.0) ≡ ReadyState
       → (quarantined_at s.kept_loans port.0 ≡ []) × (count_by (λ (e : BookEntry). e.request.issued) (requests_of port s.book) ≤ 32)
   pub settled : (s new : ServerState) (port : Port) (later : List Reply) → InCallInvariant s → state_of (probe_result_of s.probe_results port.0) ≡ ReadyState → (a : HasResolved port later s new)
-      → IsSimulated (IsEventAccess port) AnySlotStates s.device a.error_handled.device_after_look → InCallInvariant new
+      → IsSimulated (IsPxisSstsOrOwnIsAccess port) AnySlotStates s.device a.error_handled.device_after_look → InCallInvariant new
   pub error_handled : (s new : ServerState) (port : Port) (replies : List Reply) → SettledInvariant s → state_of (probe_result_of s.probe_results port.0) ≡ ReadyState → (r : HandlesPortError port replies s new)
-      → r.has_resolved.error_handled.port_error ≢ TimedOut → IsSimulated (IsEventAccess port) AnySlotStates s.device r.has_resolved.error_handled.device_after_look → ServicesPort port replies s new × SettledInvariant new
+      → r.has_resolved.error_handled.port_error ≢ TimedOut → IsSimulated (IsPxisSstsOrOwnIsAccess port) AnySlotStates s.device r.has_resolved.error_handled.device_after_look → ServicesPort port replies s new × SettledInvariant new
   pub restarted : (s new : ServerState) (port : Port) (replies : List Reply) → SettledInvariant s → state_of (probe_result_of s.probe_results port.0) ≡ ReadyState → (r : HandlesPortError port replies s new)
       → r.has_resolved.error_handled.port_error ≡ TimedOut → IsPortTurn InRestart port replies s new × SettledInvariant new
 
@@ -158,7 +158,7 @@ module _ (x : Recovery) where
   pub kept_said : (number : ℕ) → number ≡ x.port.0 → (default : List Lending) → quarantined_at x.s.kept_loans x.port.0 ≡ get_or x.s.kept_loans number default
   kept_said number is default = let f = x.sees.in_call_invariant.kept_loans_are_of_four_ports in let l = low in get_or_default x.s.kept_loans x.port.0 [] default (omega (arith, f, l)) ∙ ap (λ (n : ℕ). get_or x.s.kept_loans n default) (sym is)
 
-  pub have_places : (number : ℕ) → number ≡ x.port.0 → (default : List Lending) → HaveLoanRoom (filter (λ (e : BookEntry). is_of_port x.port e.request) x.b) (get_or x.s.kept_loans number default)
+  pub have_places : (number : ℕ) → number ≡ x.port.0 → (default : List Lending) → HaveRoomForIssuedLoans (filter (λ (e : BookEntry). is_of_port x.port e.request) x.b) (get_or x.s.kept_loans number default)
   have_places number is default =
       let few = places.1 in
       let none = ap length (sym (kept_said number is default) ∙ places.0) in

@@ -18,7 +18,7 @@ use Rattle.port_driver.specs.LentSlots.{HasPortToIssue, FitsSlot, with_port_slot
 use Rattle.dma_frames.specs.FrameTables.{OwnersAndLoans}
 use Rattle.adapter.specs.Rules.{HasPort}
 use Rattle.refinement.specs.Fragments.{SomeMachineAgreesWith}
-use Rattle.command_table.specs.TableStores.{IsUnused}
+use Rattle.command_table.specs.TableStores.{IsSlotStateFree}
 use Rattle.host_boot.specs.TakeOver.{probe_result_of}
 use Rattle.host_boot.specs.declared.ProbeResult.{ProbeResult}
 use Rattle.host_boot.specs.declared.ProbeResult.TheVariants.{Unserved, Ready as FoundReady, Unready}
@@ -188,20 +188,20 @@ module _ (s : ServerState) (device : Device) (book : List BookEntry) (slots : Po
     pub may_issue : ((s : ServerState) (request : BookEntry) → InCallInvariant s → Contains s.book request → IsDue (mode_in s request.request.port) (unanswered_of s.book) (as_unanswered request.request)
         → (slot : ℕ) → IsLowestFree (slots_at s.slots request.request.port.0) slot
         → (slot < (mode_in s request.request.port).usable_slots) × (slot < 32) × (slot ≤ s.device.cap / 256 % 32)
-        × (is_plain (mode_in s request.request.port) request.request.op ≡ true → slot ≡ 0) × SomeMachineAgreesWith (IsUnused request.request.port.0 slot) s.device)
-        → (slot : ℕ) → IsLowestFree slots slot → (slot < 32) × (slot ≤ device.cap / 256 % 32) × (is_plain mode e.request.op ≡ true → slot ≡ 0) × SomeMachineAgreesWith (IsUnused port.0 slot) device
+        × (is_plain (mode_in s request.request.port) request.request.op ≡ true → slot ≡ 0) × SomeMachineAgreesWith (IsSlotStateFree request.request.port.0 slot) s.device)
+        → (slot : ℕ) → IsLowestFree slots slot → (slot < 32) × (slot ≤ device.cap / 256 % 32) × (is_plain mode e.request.op ≡ true → slot ≡ 0) × SomeMachineAgreesWith (IsSlotStateFree port.0 slot) device
     may_issue may slot lowest =
         let m = may s e l.in_call_invariant here its_due slot (subst (λ (u : PortSlots). IsLowestFree u slot) its_slots lowest) in (
           m.1,
           subst (λ (d : Device). slot ≤ d.cap / 256 % 32) l.device_is m.2,
           subst (λ (x : QueueMode). is_plain x e.request.op ≡ true → slot ≡ 0) l.mode_is (subst (λ (p : Port). is_plain (mode_in s p) e.request.op ≡ true → slot ≡ 0) turn.3 m.3),
-          subst (SomeMachineAgreesWith (IsUnused port.0 slot)) l.device_is (subst (λ (p : Port). SomeMachineAgreesWith (IsUnused p.0 slot) s.device) turn.3 m.4),
+          subst (SomeMachineAgreesWith (IsSlotStateFree port.0 slot)) l.device_is (subst (λ (p : Port). SomeMachineAgreesWith (IsSlotStateFree p.0 slot) s.device) turn.3 m.4),
         )
 
     pub may_issue_task : ((s : ServerState) (request : BookEntry) → InCallInvariant s → Contains s.book request → IsDue (mode_in s request.request.port) (unanswered_of s.book) (as_unanswered request.request)
         → (slot : ℕ) → IsLowestFree (slots_at s.slots request.request.port.0) slot
         → (slot < (mode_in s request.request.port).usable_slots) × (slot < 32) × (slot ≤ s.device.cap / 256 % 32)
-        × (is_plain (mode_in s request.request.port) request.request.op ≡ true → slot ≡ 0) × SomeMachineAgreesWith (IsUnused request.request.port.0 slot) s.device)
+        × (is_plain (mode_in s request.request.port) request.request.op ≡ true → slot ≡ 0) × SomeMachineAgreesWith (IsSlotStateFree request.request.port.0 slot) s.device)
         → (slot : ℕ) → IsLowestFree slots slot → MayIssueTask port slot device
     may_issue_task may slot lowest =
         let runs = (l.in_call_invariant.port_invariant port.0 there.0).ready_engine_runs its_ready in
@@ -209,7 +209,7 @@ module _ (s : ServerState) (device : Device) (book : List BookEntry) (slots : Po
           adapter_is_on = l.in_call_invariant.adapter_is_on;
           has_port = there;
           driver_memory_fits = l.in_call_invariant.driver_memory_fits;
-          machine_is_related = subst (SomeMachineAgreesWith (IsUnused port.0 slot)) (sym l.device_is) (may_issue may slot lowest).3;
+          machine_is_related = subst (SomeMachineAgreesWith (IsSlotStateFree port.0 slot)) (sym l.device_is) (may_issue may slot lowest).3;
           list_runs = record { st_is_set = runs.st_is_set; list_is_in_place = ap (λ b. b.clb) runs.bases_are_programmed };
         })
 

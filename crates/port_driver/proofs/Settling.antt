@@ -14,7 +14,7 @@ use Rattle.dma_frames.specs.FrameTables.{OwnersAndLoans, SetsLoanOnly}
 use Rattle.ata_types.specs.declared.request.RequestId.{RequestId}
 use Rattle.std.specs.List.{All, AllPairs, Contains}
 use Rattle.port_driver.proofs.Finishing as finishing
-use Rattle.request_queue.specs.BookEntries.{IssuesAreWithinLimit, BookEntry, IsWellFormedEntry, IsEarlier, BookIsWellFormed, update_if_id, ids_where, requeued_request, without_entry}
+use Rattle.request_queue.specs.BookEntries.{IssuesAreWithinLimit, BookEntry, IsWellFormedEntry, IsEarlier, BookIsWellFormed, update_if_id, ids_where, waiting_again_request, without_entry}
 use Rattle.request_queue.specs.Dispositions.{KeepsOrEndsLoan, BookAndLoans, AreResolved, IsResolved, disposition_of, disposition_of_unfailed, keeps_loan, reply_to}
 use Rattle.request_queue.specs.declared.PendingRequest.{PendingRequest}
 use Rattle.request_queue.specs.declared.disposition.Disposition.{Disposition}
@@ -22,7 +22,7 @@ use Rattle.request_queue.specs.declared.disposition.Disposition.TheVariants.{Com
 use Rattle.request_queue.specs.declared.disposition.FailedRequest.{FailedRequest}
 use Rattle.request_queue.specs.declared.disposition.Revalidation.{Revalidation}
 use Rattle.request_queue.specs.declared.disposition.Revalidation.TheVariants.{Dead, DiskLost, SameDisk}
-use Rattle.port_driver.specs.LoanRoom.{HasLoanRoom, HaveLoanRoom, BookIsSound, MayAnswerAll, book_and_loans}
+use Rattle.port_driver.specs.LoanRoom.{HasLoanRoomIfIssued, HaveRoomForIssuedLoans, BookIsSound, MayAnswerAll, book_and_loans}
 
 -- a loan is kept of an issued request alone
 pub kept_issued : (outcome : Outcome) (e : PendingRequest) → keeps_loan outcome e ≡ true → e.issued ≡ true
@@ -69,19 +69,19 @@ left_each id book left P all = All-weaker (Contains book) P (λ e here. All-cont
 issued_cons : (request : BookEntry) (rest : List BookEntry) → count_by (λ (e : BookEntry). e.request.issued) (request ∷ rest) ≡ cond request.request.issued 1 0 + count_by (λ (e : BookEntry). e.request.issued) rest
 issued_cons request rest = sum_by-cons (λ (e : BookEntry). cond e.request.issued 1 0) request rest
 
-pub places_kept : (request : BookEntry) (rest : List BookEntry) (kept : List Lending) (loan : Lending) → request.request.issued ≡ true → HaveLoanRoom (request ∷ rest) kept → HaveLoanRoom rest (kept ++ loan ∷ [])
+pub places_kept : (request : BookEntry) (rest : List BookEntry) (kept : List Lending) (loan : Lending) → request.request.issued ≡ true → HaveRoomForIssuedLoans (request ∷ rest) kept → HaveRoomForIssuedLoans rest (kept ++ loan ∷ [])
 places_kept request rest kept loan issued places =
     let n = length_push kept loan in
     let c = issued_cons request rest ∙ ap (λ (b : Bool). cond b 1 0 + count_by (λ (e : BookEntry). e.request.issued) rest) issued in
     omega (arith, n, places, c)
 
-pub places_left : (request : BookEntry) (rest : List BookEntry) (kept : List Lending) → HaveLoanRoom (request ∷ rest) kept → HaveLoanRoom rest kept
+pub places_left : (request : BookEntry) (rest : List BookEntry) (kept : List Lending) → HaveRoomForIssuedLoans (request ∷ rest) kept → HaveRoomForIssuedLoans rest kept
 places_left request rest kept places = let c = issued_cons request rest in omega (arith, places, c)
 
 -- the request waits again
-pub again : (named id : RequestId) (book later : List BookEntry) (table : OwnersAndLoans) (kept : List Lending) → id ≡ named → later ≡ map (update_if_id named requeued_request) book
-    → book_and_loans later table kept ≡ record (book_and_loans book table kept) { book = map (update_if_id id requeued_request) book }
-again named id book later table kept same is = λ i. book_and_loans ((is ∙ ap (λ (x : RequestId). map (update_if_id x requeued_request) book) (sym same)) i) table kept
+pub again : (named id : RequestId) (book later : List BookEntry) (table : OwnersAndLoans) (kept : List Lending) → id ≡ named → later ≡ map (update_if_id named waiting_again_request) book
+    → book_and_loans later table kept ≡ record (book_and_loans book table kept) { book = map (update_if_id id waiting_again_request) book }
+again named id book later table kept same is = λ i. book_and_loans ((is ∙ ap (λ (x : RequestId). map (update_if_id x waiting_again_request) book) (sym same)) i) table kept
 
 -- a book is shorter once one has left it
 pub shorter : (id : RequestId) (book later : List BookEntry) (taken : BookEntry) → Contains book taken → taken.request.id ≡ id → later ≡ without_entry id book → length later < length book
@@ -148,7 +148,7 @@ no_more passes book ids place n are value most =
     let m = ap length are ∙ length-map (filter (λ (e : BookEntry). passes e.request) book) (λ (e : BookEntry). e.request.id) in omega (arith, value, most, m)
 
 -- and there is a place for the next one's loan, if it is issued
-pub next_place : (request : BookEntry) (rest : List BookEntry) (kept : List Lending) → HaveLoanRoom (request ∷ rest) kept → HasLoanRoom request kept
+pub next_place : (request : BookEntry) (rest : List BookEntry) (kept : List Lending) → HaveRoomForIssuedLoans (request ∷ rest) kept → HasLoanRoomIfIssued request kept
 next_place request rest kept places issued = let c = issued_cons request rest ∙ ap (λ (b : Bool). cond b 1 0 + count_by (λ (e : BookEntry). e.request.issued) rest) issued in omega (arith, places, c)
 
 -- These are left of the requests; and what they come to yet, the whole comes to.

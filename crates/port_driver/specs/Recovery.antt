@@ -8,7 +8,7 @@ use Rattle.refinement.specs.Fragments.{AnySlotStates, IsSimulated}
 use Rattle.dma_frames.specs.FrameTables.{OwnersAndLoans}
 use Rattle.error_recovery.specs.declared.Next.{Next}
 use Rattle.host_boot.specs.TakeOver.{probe_result_of}
-use Rattle.port_control.specs.PortEvents.{IsEventAccess}
+use Rattle.port_control.specs.PortEvents.{IsPxisSstsOrOwnIsAccess}
 use Rattle.port_control.specs.declared.events.PortEvent.{PortEvent}
 use Rattle.port_control.specs.declared.events.PortEvent.TheVariants as look
 use Rattle.request_queue.specs.BookEntries.{BookEntry}
@@ -37,7 +37,7 @@ pub record SeesPortError (s : ServerState) (port : Port) (port_error : PortError
   pub in_call_invariant : InCallInvariant s
   pub ready : state_of (probe_result_of s.probe_results port.0) ≡ Ready
   pub error_is_found : ErrorIsFound port port_error s.device device
-  pub is_simulated : IsSimulated (IsEventAccess port) AnySlotStates s.device device
+  pub is_simulated : IsSimulated (IsPxisSstsOrOwnIsAccess port) AnySlotStates s.device device
 
 -- The server was settled when this error of its port was found out, and has these loans and requests; its port is this
 -- one.
@@ -57,7 +57,7 @@ pub record AnswersDoneAndHandlesError (port : Port) (port_error : PortError) (be
   pub in_call_invariant : InCallInvariant server_after_done_answers
   pub error_handled : IsErrorHandled port s server_after_done_answers new
   pub port_error_is : error_handled.port_error ≡ port_error
-  pub is_simulated : IsSimulated (IsEventAccess port) AnySlotStates s.device error_handled.device_after_look
+  pub is_simulated : IsSimulated (IsPxisSstsOrOwnIsAccess port) AnySlotStates s.device error_handled.device_after_look
   pub mid_server_has_parts : server_after_done_answers
       ≡ with_answers (record s { device = error_handled.device_after_read }) table book slots port
   pub next_is : error_handled.result.next ≡ next
@@ -69,5 +69,5 @@ pub record HandlesPortErrorOf (port : Port) (port_error : PortError) (replies : 
     (old new : ServerState) : Type 0 where
   pub handling : HandlesPortError port replies old new
   pub port_error_is : handling.has_resolved.error_handled.port_error ≡ port_error
-  pub is_simulated : IsSimulated (IsEventAccess port) AnySlotStates old.device
+  pub is_simulated : IsSimulated (IsPxisSstsOrOwnIsAccess port) AnySlotStates old.device
       handling.has_resolved.error_handled.device_after_look

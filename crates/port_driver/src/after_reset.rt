@@ -7,7 +7,7 @@ ghost use Rattle.server_history.specs.{Resets.{IsResetRevalidation, MayResolve, 
 use crate::dispositions::DispositionInputs;
 use crate::recovery::is_same_disk;
 use crate::served_port::{ServedPort, Shared};
-use ata_types::{MOST_UNANSWERED, Port, PortState, Replies};
+use ata_types::{MOST_UNANSWERED_OF_ALL_CLIENTS, Port, PortState, Replies};
 use host_boot::ProbeResult;
 use identify::DiskInfo;
 use request_queue::Revalidation;
@@ -31,12 +31,12 @@ impl ServedPort {
     /// got stuck. The replies come after those that there are.
     pub fn resolve_after_reset(&mut self, shared: &mut Shared, port: Port, replies: &mut Replies)
         requires may_resolve { (s : ServerState) × MayResolve s × HasPortAndShared s s.device shared.old port self.old }
-        requires room { length replies.old.items + length shared.old.book ≤ MOST_UNANSWERED }
+        requires room { length replies.old.items + length shared.old.book ≤ MOST_UNANSWERED_OF_ALL_CLIENTS }
         ensures resolves_port { (s : ServerState) → MayResolve s → HasPortAndShared s s.device shared.old port self.old
             → (its : List Reply) × (replies.new.items ≡ replies.old.items ++ its)
             × ResolvesPort port its s (with_served_port s s.device shared.new port self.new) }
         ensures only_quarantine_changes { self.new ≡ record self.old { kept = self.new.kept } }
-        ensures room { length replies.new.items + length shared.new.book ≤ MOST_UNANSWERED }
+        ensures room { length replies.new.items + length shared.new.book ≤ MOST_UNANSWERED_OF_ALL_CLIENTS }
     {
         let stopped = DispositionInputs {
             failed: None,

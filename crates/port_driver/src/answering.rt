@@ -6,7 +6,7 @@ ghost use Rattle.hba_regs.specs.Bits.{bit};
 ghost use Rattle.server_history.specs.ServerState.{ServerState};
 ghost use Rattle.slots.specs.{SlotUses.{use_at, with_use}, declared.SlotUse.{SlotUse}};
 
-use ata_types::{MOST_UNANSWERED, Outcome, Replies, Reply, Slot};
+use ata_types::{MOST_UNANSWERED_OF_ALL_CLIENTS, Outcome, Replies, Reply, Slot};
 use dma_frames::FrameTable;
 use request_queue::Book;
 use request_queue::laws::{law_an_id_is_one_request, law_operations_change_one_request};
@@ -50,13 +50,13 @@ pub(crate) fn answer_done(
 )
     requires server_has_port { (s : ServerState) × (port : Port)
         × HasPortToAnswer s table.old book.old slots.old port done }
-    requires replies_have_room { length replies.old.items + length book.old ≤ MOST_UNANSWERED }
+    requires replies_have_room { length replies.old.items + length book.old ≤ MOST_UNANSWERED_OF_ALL_CLIENTS }
     ensures answers { (s : ServerState) (port : Port) → HasPortToAnswer s table.old book.old slots.old port done
         → AnswersDoneSlots port done replies.old.items replies.new.items s
         (with_answers s table.new book.new slots.new port) }
     ensures lends { (s : ServerState) (port : Port) → HasPortToAnswer s table.old book.old slots.old port done
         → HasPortToAnswer (with_answers s table.new book.new slots.new port) table.new book.new slots.new port done }
-    ensures room { length replies.new.items + length book.new ≤ MOST_UNANSWERED }
+    ensures room { length replies.new.items + length book.new ≤ MOST_UNANSWERED_OF_ALL_CLIENTS }
 {
     law_a_used_slot_has_its_request();
     law_requests_preserve_invariant();

@@ -2,7 +2,7 @@
 // that is revoked.
 ghost use Rattle.std.specs.Prelude.{◌≡◌, ◌≢◌, ◌++◌, ◌∷◌, Contains, List, filter};
 ghost use Rattle.ata_types.specs.{declared.request.Outcome.TheVariants.{Revoked}, declared.request.Reply.{Reply}};
-ghost use Rattle.port_driver.specs.LoanRoom.{HasLoanRoom, HaveLoanRoom, MayAnswerAll, book_and_loans};
+ghost use Rattle.port_driver.specs.LoanRoom.{HasLoanRoomIfIssued, HaveRoomForIssuedLoans, MayAnswerAll, book_and_loans};
 ghost use Rattle.dma_frames.specs.Loan.{Lending};
 ghost use Rattle.request_queue.specs.{BookEntries.{BookEntry, IsUnanswered, is_of_port, waits_under}, Dispositions.{CompletesAllWith, AreResolved, IsResolved, disposition_of}, declared.disposition.Disposition.TheVariants.{Complete}};
 
@@ -35,7 +35,7 @@ impl Shared {
     )
         requires may { MayAnswerAll self.old.table.value self.old.book replies.old.items }
         requires here { (request : BookEntry) × Contains self.old.book request × (request.request.id ≡ id)
-            × HasLoanRoom request kept.old }
+            × HasLoanRoomIfIssued request kept.old }
         ensures resolves { (request : BookEntry) → Contains self.old.book request → request.request.id ≡ id
             → (its : List Reply) × (replies.new.items ≡ replies.old.items ++ its)
             × IsResolved request (disposition_of stopped.now.failed stopped.now.revalidation request.request) its
@@ -43,7 +43,8 @@ impl Shared {
             (book_and_loans self.new.book self.new.table.value kept.new) }
         ensures others { (e : BookEntry) → Contains self.old.book e → e.request.id ≢ id → Contains self.new.book e }
         ensures places { (request : BookEntry) (rest : List BookEntry) → Contains self.old.book request
-            → request.request.id ≡ id → HaveLoanRoom (request ∷ rest) kept.old → HaveLoanRoom rest kept.new }
+            → request.request.id ≡ id → HaveRoomForIssuedLoans (request ∷ rest) kept.old
+            → HaveRoomForIssuedLoans rest kept.new }
         ensures may { MayAnswerAll self.new.table.value self.new.book replies.new.items }
     {
         law_an_id_is_one_request();
@@ -127,7 +128,8 @@ impl Shared {
         replies: &mut Replies,
     )
         requires all_may_be_answered { MayAnswerAll self.old.table.value self.old.book replies.old.items }
-        requires loans_have_room { HaveLoanRoom (filter (λ (e : BookEntry). is_of_port port e.request) self.old.book)
+        requires loans_have_room { HaveRoomForIssuedLoans (filter (λ (e : BookEntry).
+            is_of_port port e.request) self.old.book)
             kept.old }
         ensures resolves { (its : List Reply) × (replies.new.items ≡ replies.old.items ++ its)
             × AreResolved (disposition_of stopped.now.failed stopped.now.revalidation)

@@ -82,7 +82,7 @@ impl ServedPort {
         if book.is_empty() {
             return;
         }
-        match book.lone_due_id(self.mode, port) {
+        match book.due_id_of_sole_request(self.mode, port) {
             Some(id) => self.issue_one(adapter, book, port, id),
             None => self.issue_listed(adapter, book, port),
         }

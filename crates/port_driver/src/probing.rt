@@ -5,7 +5,7 @@ ghost use Rattle.refinement.specs.Fragments.{SomeMachineAgreesWith, AnySlotState
 ghost use Rattle.server_history.specs.Probing.{ProbesAnew, FindsReasonToBoot};
 ghost use Rattle.error_recovery.specs.Recovery.{StopsOrSticksForReset};
 ghost use Rattle.port_boot.specs.States.{IsOnWithPortMemoryAndFreeSlots};
-ghost use Rattle.port_control.specs.{Ports.{IsStopped}, PortEvents.{IsEventAccess}, Costs.{STOP_ACCESSES}, EventCosts.{CHANGE_CHECK_ACCESSES}};
+ghost use Rattle.port_control.specs.{Ports.{IsStopped}, PortEvents.{IsPxisSstsOrOwnIsAccess}, Costs.{STOP_ACCESSES}, EventCosts.{CHANGE_CHECK_ACCESSES}};
 ghost use Rattle.host_boot.specs.Costs.{REBOOT_ACCESSES};
 ghost use Rattle.error_recovery.specs.declared.Recovered as recovered_record;
 ghost use Rattle.port_control.specs.declared.Stopped as stopped_token;
@@ -27,7 +27,8 @@ pub(crate) fn needs_probe<A: Adapter>(adapter: &mut A, port: Port, state: PortSt
     requires adapter_has_port { HasPort (A.device adapter.old) port.0 }
     ensures adapter_is_on { IsOn (A.device adapter.new) }
     ensures is_looked_at { FindsReasonToBoot state port result (A.device adapter.old) (A.device adapter.new) }
-    ensures followed { IsSimulated (IsEventAccess port) AnySlotStates (A.device adapter.old) (A.device adapter.new) }
+    ensures followed { IsSimulated (IsPxisSstsOrOwnIsAccess port) AnySlotStates (A.device adapter.old)
+        (A.device adapter.new) }
     ensures dead_makes_no_access { state ≡ PortState.Dead → adapter.new ≡ adapter.old }
     ensures cost { MakesAtMost CHANGE_CHECK_ACCESSES (A.access_count adapter.old) (A.access_count adapter.new) }
 {

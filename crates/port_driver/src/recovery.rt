@@ -18,7 +18,7 @@ use super::answering::answer_done;
 use super::modes::{PLAIN_MODE, probed_mode};
 use super::served_port::{ServedPort, Shared};
 use adapter::Adapter;
-use ata_types::{MOST_READINGS, MOST_UNANSWERED, Port, PortState, Replies};
+use ata_types::{MOST_READINGS, MOST_UNANSWERED_OF_ALL_CLIENTS, Port, PortState, Replies};
 use block_machine::QueueMode;
 use commands::done;
 use error_recovery::{FailedSlot, Next, Recovered, recover, stop_for_reset};
@@ -81,14 +81,14 @@ impl ServedPort {
     ) -> (Option<FailedRequest>, Next)
         requires server_is_in_error { (s : ServerState)
             × IsInError s (A.device adapter.old) shared.old port self.old port_error }
-        requires room { length replies.old.items + length shared.old.book ≤ MOST_UNANSWERED }
+        requires room { length replies.old.items + length shared.old.book ≤ MOST_UNANSWERED_OF_ALL_CLIENTS }
         ensures adapter_is_on { IsOn (A.device adapter.new) }
         ensures completes_and_recovers { (s : ServerState)
             → IsInError s (A.device adapter.old) shared.old port self.old port_error
             → AnswersDoneAndHandlesError port port_error replies.old.items replies.new.items result.0 result.1 s
             shared.new.table.value shared.new.book self.new.slots (A.device adapter.new) }
         ensures only_slots_change { self.new ≡ record self.old { slots = self.new.slots } }
-        ensures room { length replies.new.items + length shared.new.book ≤ MOST_UNANSWERED }
+        ensures room { length replies.new.items + length shared.new.book ≤ MOST_UNANSWERED_OF_ALL_CLIENTS }
         ensures cost { MakesAtMost (DONE_ACCESSES + handling_accesses port_error)
             (A.access_count adapter.old) (A.access_count adapter.new) }
     {

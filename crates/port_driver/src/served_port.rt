@@ -74,9 +74,9 @@ impl ServedPort {
         }
     }
 
-    /// Notes what it was found to be by a boot, or once its error was handled, and how it takes commands then. The disk
-    /// that it was last ready with is remembered, and no slot of it is used.
-    pub fn note_probe_result(&mut self, found: ProbeResult, mode: QueueMode)
+    /// Replaces what it was found to be, by a boot or once its error was handled, and how it takes commands then. The
+    /// disk that it was last ready with is remembered, and all its slots are freed.
+    pub fn replace_probe_result_and_free_slots(&mut self, found: ProbeResult, mode: QueueMode)
         requires { mode.usable_slots ≤ 32 }
         ensures { NotesProbeResult found mode self.old self.new }
     {
@@ -95,7 +95,7 @@ impl ServedPort {
             ProbeResult::Unserved => ProbeResult::Unserved,
             _ => ProbeResult::Unready(PortState::Dead),
         };
-        self.note_probe_result(found, PLAIN_MODE);
+        self.replace_probe_result_and_free_slots(found, PLAIN_MODE);
     }
 
     /// Its loans.

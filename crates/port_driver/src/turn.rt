@@ -14,7 +14,7 @@ use crate::probing::{needs_probe, probe_anew};
 use crate::recovery::{error_of, resume_or_reboot, revalidation_of, sort_replies_from};
 use crate::served_port::{ServedPort, Shared};
 use adapter::Adapter;
-use ata_types::{MOST_UNANSWERED, Port, PortState, Replies};
+use ata_types::{MOST_UNANSWERED_OF_ALL_CLIENTS, Port, PortState, Replies};
 use commands::done;
 use host_boot::ProbeResult;
 use port_control::events::{PortError, take_event};
@@ -38,11 +38,11 @@ impl ServedPort {
         requires settled { (s : ServerState) × IsSettledWith s (A.device adapter.old) shared.old port self.old }
         requires over { (slot : ℕ) → slot < 32 → bit finished slot ≡ true
             → IsOver ((A.device adapter.old).port port.0) slot }
-        requires room { length replies.old.items + length shared.old.book ≤ MOST_UNANSWERED }
+        requires room { length replies.old.items + length shared.old.book ≤ MOST_UNANSWERED_OF_ALL_CLIENTS }
         ensures finishes { (s : ServerState) → IsSettledWith s (A.device adapter.old) shared.old port self.old
             → TakesTurn (AnswersDoneAndIssues port finished) replies.old.items replies.new.items s
             (with_served_port s (A.device adapter.new) shared.new port self.new) }
-        ensures room { length replies.new.items + length shared.new.book ≤ MOST_UNANSWERED }
+        ensures room { length replies.new.items + length shared.new.book ≤ MOST_UNANSWERED_OF_ALL_CLIENTS }
         ensures cost { MakesAtMost ISSUE_DUE_ACCESSES (A.access_count adapter.old) (A.access_count adapter.new) }
     {
         law_answer_and_issue_settle();
@@ -72,11 +72,11 @@ impl ServedPort {
     )
         requires sees { (s : ServerState)
             × IsInError s (A.device adapter.old) shared.old port self.old port_error }
-        requires room { length replies.old.items + length shared.old.book ≤ MOST_UNANSWERED }
+        requires room { length replies.old.items + length shared.old.book ≤ MOST_UNANSWERED_OF_ALL_CLIENTS }
         ensures handles { (s : ServerState) → IsInError s (A.device adapter.old) shared.old port self.old port_error
             → TakesTurn (HandlesPortErrorOf port port_error) replies.old.items replies.new.items s
             (with_served_port s (A.device adapter.new) shared.new port self.new) }
-        ensures room { length replies.new.items + length shared.new.book ≤ MOST_UNANSWERED }
+        ensures room { length replies.new.items + length shared.new.book ≤ MOST_UNANSWERED_OF_ALL_CLIENTS }
         ensures cost { MakesAtMost (port_error_accesses port_error)
             (A.access_count adapter.old) (A.access_count adapter.new) }
     {
@@ -96,7 +96,7 @@ impl ServedPort {
             self.mode,
             &self.wanted,
         );
-        self.note_probe_result(found, mode);
+        self.replace_probe_result_and_free_slots(found, mode);
         let stopped = DispositionInputs {
             failed,
             revalidation: revalidation_of(port_error, &was, &found),
@@ -117,11 +117,11 @@ impl ServedPort {
     )
         requires ready { state_of self.old.probe_result ≡ Ready }
         requires settled { (s : ServerState) × IsSettledWith s (A.device adapter.old) shared.old port self.old }
-        requires room { length replies.old.items + length shared.old.book ≤ MOST_UNANSWERED }
+        requires room { length replies.old.items + length shared.old.book ≤ MOST_UNANSWERED_OF_ALL_CLIENTS }
         ensures serves { (s : ServerState) → IsSettledWith s (A.device adapter.old) shared.old port self.old
             → TakesTurn (ServicesPort port) replies.old.items replies.new.items s
             (with_served_port s (A.device adapter.new) shared.new port self.new) }
-        ensures room { length replies.new.items + length shared.new.book ≤ MOST_UNANSWERED }
+        ensures room { length replies.new.items + length shared.new.book ≤ MOST_UNANSWERED_OF_ALL_CLIENTS }
         ensures cost { MakesAtMost TURN_ACCESSES (A.access_count adapter.old) (A.access_count adapter.new) }
     {
         law_looks_preserve_invariant();
@@ -159,7 +159,7 @@ impl ServedPort {
             return;
         }
         let (found, mode) = probe_anew(adapter, port, &self.wanted);
-        self.note_probe_result(found, mode);
+        self.replace_probe_result_and_free_slots(found, mode);
     }
 
     /// The port's turn in a service: a ready one is served, and another one that is served is probed. Of one that isn't
@@ -172,13 +172,13 @@ impl ServedPort {
         replies: &mut Replies,
     )
         requires settled { (s : ServerState) × IsSettledWith s (A.device adapter.old) shared.old port self.old }
-        requires room { length replies.old.items + length shared.old.book ≤ MOST_UNANSWERED }
+        requires room { length replies.old.items + length shared.old.book ≤ MOST_UNANSWERED_OF_ALL_CLIENTS }
         ensures turn { (s : ServerState) → IsSettledWith s (A.device adapter.old) shared.old port self.old
             → TakesTurn (ServesReadyOrProbesUnready self.old.probe_result port) replies.old.items replies.new.items s
             (with_served_port s (A.device adapter.new) shared.new port self.new) }
         ensures no_access_if_unserved_or_dead { (self.old.probe_result ≡ ProbeResult.Unserved)
             ⊎ (self.old.probe_result ≡ ProbeResult.Unready PortState.Dead) → adapter.new ≡ adapter.old }
-        ensures room { length replies.new.items + length shared.new.book ≤ MOST_UNANSWERED }
+        ensures room { length replies.new.items + length shared.new.book ≤ MOST_UNANSWERED_OF_ALL_CLIENTS }
         ensures cost { MakesAtMost TURN_ACCESSES (A.access_count adapter.old) (A.access_count adapter.new) }
     {
         match self.probe_result {
@@ -199,14 +199,14 @@ impl ServedPort {
         replies: &mut Replies,
     )
         requires settled { (s : ServerState) × IsSettledWith s (A.device adapter.old) shared.old port self.old }
-        requires room { length replies.old.items + length shared.old.book ≤ MOST_UNANSWERED }
+        requires room { length replies.old.items + length shared.old.book ≤ MOST_UNANSWERED_OF_ALL_CLIENTS }
         ensures turn { (s : ServerState) (book : List BookEntry) → IsTrue is_overdue ↔ HasOverdueOn port book
             → IsSettledWith s (A.device adapter.old) shared.old port self.old
             → TakesTurn (RestartsOverdueOrRests self.old.probe_result book port) replies.old.items replies.new.items s
             (with_served_port s (A.device adapter.new) shared.new port self.new) }
         ensures no_access_if_unready_or_not_overdue { (is_ready self.old.probe_result ≡ false) ⊎ (is_overdue ≡ false)
             → adapter.new ≡ adapter.old }
-        ensures room { length replies.new.items + length shared.new.book ≤ MOST_UNANSWERED }
+        ensures room { length replies.new.items + length shared.new.book ≤ MOST_UNANSWERED_OF_ALL_CLIENTS }
         ensures cost { MakesAtMost (port_error_accesses PortError.TimedOut)
             (A.access_count adapter.old) (A.access_count adapter.new) }
     {

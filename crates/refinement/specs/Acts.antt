@@ -34,10 +34,10 @@ pub record Act : Type 0 where
   pub steps : List Step
   pub state_after : DriverState
 
--- the access leads from the old device to the new; without one, they are the same
-abbrev pub AccessLeads : Option Access → Device → Device → Type 0
-AccessLeads None old new = new ≡ old
-AccessLeads (Some access) old new = Does access old new
+-- the access is done from the old device to the new; without one, they are the same
+abbrev pub AccessIsDoneOrDeviceIsSame : Option Access → Device → Device → Type 0
+AccessIsDoneOrDeviceIsSame None old new = new ≡ old
+AccessIsDoneOrDeviceIsSame (Some access) old new = Does access old new
 
 -- What the driver decides by an access is one step at most; or, by a write of PxCI, issues of requests of its port:
 -- each bit that is written as one issues a command (AHCI 1.3.1, 3.3.14).
@@ -49,16 +49,18 @@ IsAtMostOneStepOrIssuesOfPort access own = ⊥
 
 -- Over an access these are the device's steps, and after them what the driver decides by it; without one, a step of
 -- the driver's own, or none.
-abbrev pub IsOneAct : Option Access → List Step → Type 0
-IsOneAct None steps = (steps ≡ []) ⊎ ((step : Step) × (IsByDevice step → ⊥) × (steps ≡ step ∷ []))
-IsOneAct (Some access) steps = AllByDevice steps ⊎ ((own before : List Step) × (steps ≡ own ++ before)
+abbrev pub AreDeviceStepsThenDriverDecision : Option Access → List Step → Type 0
+AreDeviceStepsThenDriverDecision None steps = (steps ≡ []) ⊎ ((step : Step) × (IsByDevice step → ⊥)
+    × (steps ≡ step ∷ []))
+AreDeviceStepsThenDriverDecision (Some access) steps = AllByDevice steps
+    ⊎ ((own before : List Step) × (steps ≡ own ++ before)
     × IsAtMostOneStepOrIssuesOfPort access own × AllByDevice before)
 
 -- The act is done, from a machine that agrees with what the driver knew: its steps lead to one that agrees with what it
 -- knows then.
 pub record IsActDone (k : DriverState) (m : Machine) (act : Act) : Type 0 where
-  pub access_leads : AccessLeads act.access k.device act.state_after.device
-  pub is_one_act : IsOneAct act.access act.steps
+  pub access_is_done_or_device_is_same : AccessIsDoneOrDeviceIsSame act.access k.device act.state_after.device
+  pub are_device_steps_then_decision : AreDeviceStepsThenDriverDecision act.access act.steps
   pub driver_advances : DriverAdvances k m act.steps act.state_after
 
 -- one act after another, from the one machine to the next
@@ -75,10 +77,10 @@ abbrev pub accesses_of : List Act → List Access
 accesses_of [] = []
 accesses_of (act ∷ acts) = prepend_access act.access (accesses_of acts)
 
--- all the machine's steps, the last one first
-abbrev pub act_steps : List Act → List Step
-act_steps [] = []
-act_steps (act ∷ acts) = act_steps acts ++ act.steps
+-- of acts, the first one first, all the machine's steps, the last one first
+abbrev pub newest_first_steps_of_acts : List Act → List Step
+newest_first_steps_of_acts [] = []
+newest_first_steps_of_acts (act ∷ acts) = newest_first_steps_of_acts acts ++ act.steps
 
 -- ---- the form
 
@@ -125,4 +127,4 @@ AnySlots s m = Unit {0}
 
 -- the device alone makes steps
 abbrev pub ActsByDeviceAlone : DriverSlots → Machine → List Act → Type 0
-ActsByDeviceAlone s m acts = AllByDevice (act_steps acts)
+ActsByDeviceAlone s m acts = AllByDevice (newest_first_steps_of_acts acts)

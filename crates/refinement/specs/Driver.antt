@@ -37,16 +37,17 @@ pub record IsInFreeHeaderOrTable (uses : SlotStates) (at n : ℕ) : Type 0 where
       ⊎ ((command_table_address port slot ≤ at) × (at + n ≤ command_table_address port slot + TABLE_BYTES))
 
 -- bytes of the scratch frame of a port whose slot 0 is free
-pub record IsInFreeScratch (uses : SlotStates) (at n : ℕ) : Type 0 where
+pub record IsInScratchOfFreeSlot0 (uses : SlotStates) (at n : ℕ) : Type 0 where
   pub port : ℕ
   pub below : port < 4
   pub free : uses port 0 ≡ Free
   pub begins_in_scratch : scratch_frame_address port ≤ at
   pub ends_in_scratch : at + n ≤ scratch_frame_address port + FRAME_BYTES
 
--- what the driver may store for itself
-abbrev pub MayStore : SlotStates → ℕ → ℕ → Type 0
-MayStore uses at n = IsInFreeHeaderOrTable uses at n ⊎ IsInFreeScratch uses at n
+-- The bytes are of a free slot's header or table, or of the scratch frame of a port whose slot 0 is free: there the
+-- driver may store for itself.
+abbrev pub IsInMemoryOfFreeSlot : SlotStates → ℕ → ℕ → Type 0
+IsInMemoryOfFreeSlot uses at n = IsInFreeHeaderOrTable uses at n ⊎ IsInScratchOfFreeSlot0 uses at n
 
 -- ---- writes that leave the slots to their uses
 
@@ -54,9 +55,9 @@ MayStore uses at n = IsInFreeHeaderOrTable uses at n ⊎ IsInFreeScratch uses at
 abbrev pub AllFree : SlotStates → ℕ → Type 0
 AllFree uses port = (slot : ℕ) → uses port slot ≡ Free
 
--- A write of PxCMD sets ST on a port that runs or has no slot in use, and FRE where the received FIS area is in its
--- place.
-pub record IsSafeCmdWrite (uses : SlotStates) (port v : ℕ) (p : DevicePort) : Type 0 where
+-- A write of PxCMD sets ST only where it is set already or no slot is in use, and FRE only where the received FIS area
+-- is in its place.
+pub record SetsStOnlyIfStOrFreeAndFreOnlyInPlace (uses : SlotStates) (port v : ℕ) (p : DevicePort) : Type 0 where
   pub start : bit v 0 ≡ true → (p.st ≡ true) ⊎ AllFree uses port
   pub receive : bit v 4 ≡ true → (port < 4) × (p.bases.fb ≡ received_fis_address port)
 
@@ -70,7 +71,7 @@ pub record KeepsOtherCmdBits (st fre : Bool) (was v : ℕ) : Type 0 where
 -- PxSACT and PxCI have no bit.
 abbrev pub KeepsSlotStates : SlotStates → Reg → ℕ → Device → Type 0
 KeepsSlotStates uses (Px port Clb) v d = (v ≡ command_list_address port.0) ⊎ AllFree uses port.0
-KeepsSlotStates uses (Px port Cmd) v d = IsSafeCmdWrite uses port.0 v (d.port port.0)
+KeepsSlotStates uses (Px port Cmd) v d = SetsStOnlyIfStOrFreeAndFreOnlyInPlace uses port.0 v (d.port port.0)
 KeepsSlotStates uses (Px port Sact) v d = (slot : ℕ) → bit v slot ≡ false
 KeepsSlotStates uses (Px port Ci) v d = (slot : ℕ) → bit v slot ≡ false
 KeepsSlotStates uses r v d = Unit {0}
@@ -104,7 +105,7 @@ pub record TapeBacksSteps (old new : Device) (m : Machine) (steps : List Step) :
 -- The device backs the steps, and all of them are its own: the driver made none.
 pub record IsBackedByDeviceAlone (old new : Device) (m : Machine) (steps : List Step) : Type 0 where
   pub is_backed : TapeBacksSteps old new m steps
-  pub all_steps_are_devices : AllByDevice steps
+  pub all_steps_are_by_device : AllByDevice steps
 
 -- The driver goes from what it knew to what it knows then: from this machine each of these steps may come, the device
 -- backs them, and the machine after them agrees with what the driver knows then.
@@ -136,11 +137,12 @@ MissesScratch port at n = (place : ℕ) → IsScratchByte port place → at ≤ 
 -- The request is due; its slot is armed if the request is queued, and else free; the slot is usable in this mode, and a
 -- plain request's is slot 0; the slot's bytes say its command, which is queued exactly if the request is; and the value
 -- has the slot's bit alone.
-pub record IsPrepared (uses : SlotStates) (m : Machine) (d : Device) (port slot : ℕ) (mode : QueueMode) (e : Pending)
+pub record IsRequestPreparedToIssue (uses : SlotStates) (m : Machine) (d : Device) (port slot : ℕ) (mode : QueueMode)
+    (e : Pending)
     (v : ℕ) : Type 0 where
   pub issue_is_enabled : IsEnabled m (Issue mode e)
   pub port_is : e.request.port.0 ≡ port
-  pub slot_state_is : uses port slot ≡ (if is_plain mode e.request.asked.op then Free else Armed)
+  pub armed_if_queued_else_free : uses port slot ≡ (if is_plain mode e.request.asked.op then Free else Armed)
   pub slot_is_usable : slot < mode.usable_slots
   pub plain_is_in_slot_0 : is_plain mode e.request.asked.op ≡ true → slot ≡ 0
   pub st_is_set : (d.port port).st ≡ true
@@ -155,7 +157,8 @@ pub record IsPrepared (uses : SlotStates) (m : Machine) (d : Device) (port slot 
   pub no_other_bit_is_set : (k : ℕ) → k ≢ slot → bit v k ≡ false
 
 -- The same for a command of the driver's own, in slot 0.
-pub record IsOwnPrepared (uses : SlotStates) (d : Device) (port : ℕ) (o : Operation) (v : ℕ) : Type 0 where
+pub record IsOwnCommandPreparedInSlot0 (uses : SlotStates) (d : Device) (port : ℕ) (o : Operation)
+    (v : ℕ) : Type 0 where
   pub operation_is_drivers_own : client_operation_of o ≡ None
   pub free : uses port 0 ≡ Free
   pub st_is_set : (d.port port).st ≡ true
@@ -171,7 +174,7 @@ pub record IsOwnPrepared (uses : SlotStates) (d : Device) (port : ℕ) (o : Oper
 -- first, after which the machine agrees with what the driver knows then.
 pub record EndsInSteps (k : DriverState) (m : Machine) (own : List Step) (later : DriverState) : Type 0 where
   pub steps : List Step
-  pub all_steps_are_devices : AllByDevice steps
+  pub all_steps_are_by_device : AllByDevice steps
   pub steps_are_enabled : AllEnabled m (own ++ steps)
   pub is_backed : TapeBacksSteps k.device later.device m (own ++ steps)
   pub driver_relation : DriverRelation (after m (own ++ steps)) later
@@ -194,13 +197,13 @@ abbrev pub HasNoSlot : SlotStates → RequestId → Type 0
 HasNoSlot uses id = (port slot : ℕ) → uses port slot ≡ Serves id → ⊥
 
 -- but for this request, what was parked is parked
-abbrev pub ForgetsAtMost : RequestId → (ℕ → List RequestId) → (ℕ → List RequestId) → Type 0
-ForgetsAtMost id parked later = (port : ℕ) (other : RequestId) → Contains (parked port) other → (other ≡ id → ⊥)
+abbrev pub OthersStayParked : RequestId → (ℕ → List RequestId) → (ℕ → List RequestId) → Type 0
+OthersStayParked id parked later = (port : ℕ) (other : RequestId) → Contains (parked port) other → (other ≡ id → ⊥)
     → Contains (later port) other
 
 -- but for the kept requests, what was parked is parked
-abbrev pub ForgetsAtMostKept : Machine → (ℕ → List RequestId) → (ℕ → List RequestId) → Type 0
-ForgetsAtMostKept m parked later = (port : ℕ) (other : RequestId) → Contains (parked port) other
+abbrev pub ParkedStayUnlessKept : Machine → (ℕ → List RequestId) → (ℕ → List RequestId) → Type 0
+ParkedStayUnlessKept m parked later = (port : ℕ) (other : RequestId) → Contains (parked port) other
     → ((e : Pending) → Contains m.kept e → e.request.id ≢ other) → Contains (later port) other
 
 -- the slot was given up, and its request isn't decided yet

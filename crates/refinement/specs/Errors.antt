@@ -99,10 +99,10 @@ pub record ShowsResetStateUntilSerrX (p : DevicePort) : Type 0 where
 -- ---- the engine's work
 
 -- the entry is a move, a clearing, an end, a fault or a fatal error of the port's
-abbrev pub IsEngineWork : ℕ → Entry → Type 0
-IsEngineWork port (entry.Move move) = move.port.0 ≡ port
-IsEngineWork port (entry.Clear clear) = clear.port.0 ≡ port
-IsEngineWork port (entry.Done done) = done.port.0 ≡ port
-IsEngineWork port (entry.Fault fault) = fault.port.0 ≡ port
-IsEngineWork port (entry.Fatal at) = at.0 ≡ port
-IsEngineWork port _ = ⊥
+abbrev pub IsEngineWorkOrErrorOf : ℕ → Entry → Type 0
+IsEngineWorkOrErrorOf port (entry.Move move) = move.port.0 ≡ port
+IsEngineWorkOrErrorOf port (entry.Clear clear) = clear.port.0 ≡ port
+IsEngineWorkOrErrorOf port (entry.Done done) = done.port.0 ≡ port
+IsEngineWorkOrErrorOf port (entry.Fault fault) = fault.port.0 ≡ port
+IsEngineWorkOrErrorOf port (entry.Fatal at) = at.0 ≡ port
+IsEngineWorkOrErrorOf port _ = ⊥

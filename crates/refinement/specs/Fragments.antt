@@ -10,13 +10,13 @@ use Rattle.hba_regs.specs.declared.reg.Reg.TheVariants.{Is, Px}
 use Rattle.adapter.specs.Access.{Access, DoesAll}
 use Rattle.adapter.specs.Access.Access.{Reading, Writing}
 use Rattle.adapter.specs.Device.{DevicePort, Device}
-use Rattle.adapter.specs.KeptBySteps.{PortBitsOnlyFall, KeepsControlsFlagsRise}
+use Rattle.adapter.specs.KeptBySteps.{PortBitsOnlyFallFreeSlotsStay, KeepsControlsFlagsRise}
 use Rattle.adapter.specs.declared.command.Operation.{Operation}
 use Rattle.adapter.specs.declared.tape.Entry.{Entry}
 use Rattle.block_machine.specs.Events.{AllByDevice}
 use Rattle.block_machine.specs.Histories.{IsReachable}
 use Rattle.block_machine.specs.State.{Machine}
-use Rattle.refinement.specs.Acts.{Act, ActsReachWith, act_steps}
+use Rattle.refinement.specs.Acts.{Act, ActsReachWith, newest_first_steps_of_acts}
 use Rattle.refinement.specs.Driver.{DriverState, DriverRelation}
 use Rattle.refinement.specs.PreservedParts.{DoesNotWrite}
 use Rattle.refinement.specs.Slots.{SlotStates, IsMove, IsOver}
@@ -87,9 +87,9 @@ GainsNoMove port o old new = (gained : List Entry) × (new.tape ≡ old.tape ++ 
 
 -- Acts in which the device alone makes steps. Where no access of the kind writes PxCI or PxSACT of a port, its slots
 -- are used after each act as before the first.
-pub record DeviceStepsKeepUnwrittenPortSlots (May : Access
+pub record AllByDeviceAndPortsKeepSlotsIfKindWritesNoCiSact (May : Access
     → Type 0) (uses : SlotStates) (acts : List Act) : Type 0 where
-  pub all_steps_are_devices : AllByDevice (act_steps acts)
+  pub all_steps_are_by_device : AllByDevice (newest_first_steps_of_acts acts)
   pub unwritten_ports_keep_slots : (port : Port) → NoneWrites May (Px port Ci) → NoneWrites May (Px port Sact)
       → All (λ act. act.state_after.slot_states port.0 ≡ uses port.0) acts
 
@@ -100,7 +100,7 @@ pub record IsSimulatedChangingUses (May : Access → Type 0) (Fits : SlotStates 
   pub is_driven : IsDrivenBy May old new
   pub acts_reach : ActsReachWith is_driven.accesses (λ s m. Fits s.slot_states)
       (λ s. record s { slot_states = next s.slot_states })
-      (λ s m. DeviceStepsKeepUnwrittenPortSlots May s.slot_states) old new
+      (λ s m. AllByDeviceAndPortsKeepSlotsIfKindWritesNoCiSact May s.slot_states) old new
 
 -- the same, where each slot goes on as it is used
 abbrev pub IsSimulated : (Access → Type 0) → (SlotStates → Type 0) → Device → Device → Type 0
@@ -126,11 +126,11 @@ abbrev pub TapeGrows : Device → Device → Type 0
 TapeGrows old new = (gained : List Entry) × (new.tape ≡ old.tape ++ gained)
 
 -- no slot of the port has a command, neither issued nor taken
-abbrev pub HasNoCommand : DevicePort → Type 0
-HasNoCommand p = (slot : ℕ) → IsOver p slot
+abbrev pub NoCommandIsIssuedOrTaken : DevicePort → Type 0
+NoCommandIsIssuedOrTaken p = (slot : ℕ) → IsOver p slot
 
 -- A port that the driver doesn't touch: what the device's steps leave of it, and all that readings noted of it.
 pub record OnlyDeviceChangesPort (old new : DevicePort) : Type 0 where
-  pub bits_only_fall : PortBitsOnlyFall old new
+  pub bits_only_fall : PortBitsOnlyFallFreeSlotsStay old new
   pub controls : KeepsControlsFlagsRise old new
   pub notes : new.notes ≡ old.notes

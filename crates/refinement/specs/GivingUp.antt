@@ -23,8 +23,8 @@ ids_in_slots uses port zero = []
 ids_in_slots uses port (suc n) = prepend_slot_request (uses port n) (ids_in_slots uses port n)
 
 -- Each slot of the port is over, and none is armed while ST is one.
-abbrev pub AreSlotsOverAndUnarmedIfSt : SlotStates → DevicePort → ℕ → Type 0
-AreSlotsOverAndUnarmedIfSt uses p port = (slot : ℕ) → IsOver p slot × (uses port slot ≡ Armed → p.st ≡ false)
+abbrev pub AllOverAndNoArmedStateIfSt : SlotStates → DevicePort → ℕ → Type 0
+AllOverAndNoArmedStateIfSt uses p port = (slot : ℕ) → IsOver p slot × (uses port slot ≡ Armed → p.st ≡ false)
 
 -- every slot of the port was given up, and the requests that they served aren't decided yet
 abbrev pub with_all_parked : DriverState → ℕ → DriverState

@@ -12,7 +12,7 @@ use Rattle.adapter.specs.declared.command.Operation.{Operation}
 use Rattle.adapter.specs.declared.tape.Entry.{Entry}
 use Rattle.refinement.specs.Acts.{ActsByDeviceAlone, AccessesAreSimulatedByActs}
 use Rattle.refinement.specs.Fragments.{TapeGrows, SomeMachineAgrees, IsSimulated, IsSimulatedChangingUses, IsSimulatedAlong, IsSimulatedAlongChangingUses, NoneWrites, GainsNoMove}
-use Rattle.refinement.specs.Driver.{AllFree, IsOwnPrepared, KeepsSlotStates, MayStore}
+use Rattle.refinement.specs.Driver.{AllFree, IsOwnCommandPreparedInSlot0, KeepsSlotStates, IsInMemoryOfFreeSlot}
 use Rattle.refinement.specs.Errors.{LinkErrorsRiseByDisks, NoDiskComes, NoFaults, NoFatalErrors}
 use Rattle.refinement.specs.PortFacts.{IsEngineStopped, Undisturbed}
 use Rattle.refinement.specs.GivingUp.{slots_with_all_parked}
@@ -37,10 +37,11 @@ pub record FragmentLaws (Kind : Type 0) (may : Kind → Access → Type 0)
   pub own_command_is_issued : (kind : Kind) (port : Port) (o : Operation) (v : ℕ) (old new : Device)
       → may kind (Writing (Px port Ci) v)
       → old.hr ≡ false
-      → ((uses : SlotStates) → fits kind uses → IsOwnPrepared uses old port.0 o v) → Writes (Px port Ci) v old new
+      → ((uses : SlotStates) → fits kind uses → IsOwnCommandPreparedInSlot0 uses old port.0 o v)
+      → Writes (Px port Ci) v old new
       → IsSimulatedChangingUses (may kind) (fits kind) (λ uses. set_slot_state uses port.0 0 (Own o)) old new
   pub stores : (kind : Kind) (at : ℕ) (bytes : List ℕ) (old new : Device) → may kind (Storing at bytes)
-      → ((uses : SlotStates) → fits kind uses → MayStore uses at (length bytes)) → Stores at bytes old new
+      → ((uses : SlotStates) → fits kind uses → IsInMemoryOfFreeSlot uses at (length bytes)) → Stores at bytes old new
       → IsSimulated (may kind) (fits kind) old new
   pub fragments_join : (kind narrower : Kind) (first second : SlotStates → SlotStates)
       → ((access : Access) → may narrower access → may kind access)

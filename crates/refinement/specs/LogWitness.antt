@@ -12,7 +12,7 @@ use Rattle.adapter.specs.declared.command.Operation.TheVariants.{ReadLog}
 use Rattle.block_machine.specs.Histories.{IsReachable}
 use Rattle.block_machine.specs.State.{Machine}
 use Rattle.refinement.specs.Relation.{port_at}
-use Rattle.refinement.specs.Driver.{DriverRelation, IsOwnPrepared, idle_driver_state}
+use Rattle.refinement.specs.Driver.{DriverRelation, IsOwnCommandPreparedInSlot0, idle_driver_state}
 use Rattle.refinement.specs.PortFacts.{RunsWell}
 use Rattle.refinement.specs.Slots.{Free, Own, SlotStates, set_slot_state}
 use Rattle.refinement.specs.ReadWitness.{encoded_page_prd, ready_port, ready_device}
@@ -33,8 +33,8 @@ log_port = record ready_port { halt = LogOnly }
 abbrev pub log_device : Device
 log_device = record (ready_device log_memory) { port = changed (ready_device log_memory).port 0 log_port }
 
-abbrev pub log_uses : SlotStates
-log_uses = set_slot_state (λ port slot. Free) 0 0 (Own ReadLog)
+abbrev pub slot_states_with_own_read_log : SlotStates
+slot_states_with_own_read_log = set_slot_state (λ port slot. Free) 0 0 (Own ReadLog)
 
 -- A machine agrees with its driver, for whom READ LOG EXT is prepared. The write of PxCI is permitted, and issues it.
 -- PxCI may be read 0 then, and PxIS with DHRS alone: the port runs well.
@@ -44,12 +44,12 @@ pub record LogEndsHaltWitness : Type 0 where
   pub driver_relation : DriverRelation machine (idle_driver_state log_device)
   pub halted : (log_device.port 0).halt ≡ LogOnly
   pub runs_linked : RunsLinked (log_device.port 0)
-  pub prepared : IsOwnPrepared (idle_driver_state log_device).slot_states log_device 0 ReadLog 1
+  pub prepared : IsOwnCommandPreparedInSlot0 (idle_driver_state log_device).slot_states log_device 0 ReadLog 1
   pub permitted : IsStable (MayWrite (Px (port_at 0) Ci) 1) log_device
   pub issued : Device
   pub writes : Writes (Px (port_at 0) Ci) 1 log_device issued
-  pub ends_halt : PlainSlot0IsIssuedOrNotHalted log_uses 0 issued
-  pub fault_leaves_issued : FaultLeavesIssued log_uses 0 issued
+  pub ends_halt : PlainSlot0IsIssuedOrNotHalted slot_states_with_own_read_log 0 issued
+  pub fault_leaves_issued : FaultLeavesIssued slot_states_with_own_read_log 0 issued
   pub ended_device : Device
   pub reads : Reads (Px (port_at 0) Ci) 0 issued ended_device
   pub found : Device

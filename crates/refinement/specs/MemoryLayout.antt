@@ -3,7 +3,7 @@
 use Rattle.std.specs.Prelude.{ℕ, ◌+◌, ◌*◌, ◌/◌, ◌%◌, ◌<◌, ◌≤◌, ◌⊎◌, List}
 use Rattle.ata_types.specs.declared.memory.TheConstants.{FRAME_BYTES, HEADER_BYTES, DRIVER_BYTES_PER_PORT, RECEIVED_FIS_OFFSET, SCRATCH_OFFSET, TABLES_OFFSET, TABLE_BYTES}
 use Rattle.ata_types.specs.declared.request.Frame.{Frame}
-use Rattle.block_machine.specs.State.{frame_at}
+use Rattle.block_machine.specs.State.{nth_frame}
 
 -- the driver's frames of each port: the command list, the received FIS area, a command table for each slot, and the
 -- scratch frame
@@ -22,7 +22,7 @@ scratch_frame_address port = DRIVER_BYTES_PER_PORT * port + SCRATCH_OFFSET
 -- The place of sector number i of these frames: eight sectors stand in each, in order. So says `place_of` of
 -- `command_table`, on which this crate doesn't stand.
 abbrev pub sector_address : List Frame → ℕ → ℕ
-sector_address frames i = FRAME_BYTES * (frame_at frames (i / 8)).0 + 512 * (i % 8)
+sector_address frames i = FRAME_BYTES * (nth_frame frames (i / 8)).0 + 512 * (i % 8)
 
 -- a byte of the slot's header, but for PRDBC, or of its table
 abbrev pub IsTableOrHeaderByteButPrdbc : ℕ → ℕ → ℕ → Type 0

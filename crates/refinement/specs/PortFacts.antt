@@ -19,7 +19,7 @@ use Rattle.adapter.specs.declared.tape.Fault as tape_fault
 use Rattle.block_machine.specs.State.{Pending, Machine}
 use Rattle.block_machine.specs.Steps.{MayStillMove, AllTouched, NoneKept}
 use Rattle.refinement.specs.Simulation.{SimulatesSteps}
-use Rattle.refinement.specs.Slots.{Serves, SlotStates, IsOver, PageStandsInScratch}
+use Rattle.refinement.specs.Slots.{Serves, SlotStates, IsOver, PageCameSinceAndStandsInScratch}
 
 -- ---- an engine that has stopped
 
@@ -42,14 +42,14 @@ pub record IsQuiescentPort (p : DevicePort) : Type 0 where
 
 -- A request of the port was ended, with each of its sectors touched since its last issue. Where no kept request is on
 -- the port, it is in the book.
-pub record EndedIn (m : Machine) (port : Port) (id : RequestId) : Type 0 where
+pub record EndedOnPort (m : Machine) (port : Port) (id : RequestId) : Type 0 where
   pub pending : Pending
   pub may_still_move : MayStillMove m pending
   pub id_is : pending.request.id ≡ id
   pub port_is : pending.request.port ≡ port
   pub ended : pending.ended ≡ true
   pub all_are_touched : AllTouched pending
-  pub stands_in_book : NoneKept m port → Contains m.book pending
+  pub in_book_if_none_kept : NoneKept m port → Contains m.book pending
 
 -- the slot's command is over, and its bit of SACT is clear
 pub record IsSlotClear (p : DevicePort) (slot : ℕ) : Type 0 where
@@ -58,18 +58,20 @@ pub record IsSlotClear (p : DevicePort) (slot : ℕ) : Type 0 where
 
 -- What CI tells of a command of the driver's own: the machine follows, and the command is over and has brought its page
 -- since ST was set.
-pub record FollowsAndHasPageSinceStart (uses : SlotStates) (m : Machine) (port : ℕ) (o : Operation)
+pub record FollowsAndHasPageSinceStSet (uses : SlotStates) (m : Machine) (port : ℕ) (o : Operation)
     (old new : Device) : Type 0 where
   pub simulates_steps : SimulatesSteps uses m old new
   pub slot_is_clear : IsSlotClear (new.port port) 0
-  pub page_is_in_scratch : PageStandsInScratch new.memory new.tape port o (new.port port).notes.st_set_at
+  pub page_since_st_set_is_in_scratch : PageCameSinceAndStandsInScratch new.memory new.tape port o
+      (new.port port).notes.st_set_at
 
 -- ---- frames that the device leaves alone
 
 -- The device uses no byte of the frame: none is of a header, a table or a place of a command that is issued or taken,
 -- or of a received FIS area that is in use.
-abbrev pub DeviceSparesFrame : Frame → Device → Type 0
-DeviceSparesFrame frame d = (port slot at : ℕ) → FRAME_BYTES * frame.0 ≤ at → at < FRAME_BYTES * frame.0 + FRAME_BYTES
+abbrev pub DeviceOwnsNoByteOfFrame : Frame → Device → Type 0
+DeviceOwnsNoByteOfFrame frame d = (port slot at : ℕ) → FRAME_BYTES * frame.0 ≤ at
+    → at < FRAME_BYTES * frame.0 + FRAME_BYTES
     → rules.DeviceOwns d (d.port port) slot at → ⊥
 
 -- the commands of the request of this id are over, in each slot
@@ -126,8 +128,8 @@ pub record ClearsNoTrouble (port : Port) (r : Reg) (v : ℕ) : Type 0 where
 -- ---- faults since ST was set
 
 -- a fault has halted the port, by a plain or by a queued command
-abbrev pub IsFaulted : Halt → Type 0
-IsFaulted halt = (halt ≡ HaltedPlain) ⊎ (halt ≡ HaltedQueued)
+abbrev pub IsHaltedPlainOrQueued : Halt → Type 0
+IsHaltedPlainOrQueued halt = (halt ≡ HaltedPlain) ⊎ (halt ≡ HaltedQueued)
 
 -- the entry is a fault of the port
 abbrev pub IsFaultOf : ℕ → Entry → Type 0
@@ -153,16 +155,16 @@ pub record ShowsFault (entries : List Entry) (p : DevicePort) (port : ℕ) : Typ
 pub record RecordsFaults (tape : List Entry) (p : DevicePort) (port : ℕ) : Type 0 where
   pub st_set_is_on_tape : p.notes.st_set_at ≤ length tape
   pub no_link_is_due : p.link_due ≡ false
-  pub tfes_tells_fault : p.is 30 ≡ true → IsFaulted p.halt
-  pub shows_last_fault : IsFaulted p.halt → ShowsFault (drop p.notes.st_set_at tape) p port
+  pub tfes_tells_fault : p.is 30 ≡ true → IsHaltedPlainOrQueued p.halt
+  pub shows_last_fault : IsHaltedPlainOrQueued p.halt → ShowsFault (drop p.notes.st_set_at tape) p port
 
 -- so it is while ST is 1
 abbrev pub RecordsFaultsIfSt : List Entry → DevicePort → ℕ → Type 0
 RecordsFaultsIfSt tape p port = p.st ≡ true → RecordsFaults tape p port
 
 -- From COMRESET until the link comes up the engine stands, and the task file shows DRQ, bit 3.
-abbrev pub IsStoppedWithDrqWhileLinkAwaited : DevicePort → Type 0
-IsStoppedWithDrqWhileLinkAwaited p = (p.link_due ≡ true) ⊎ (p.sctl_det ≡ 1) → (p.cr ≡ false) × (bit p.tfd 3 ≡ true)
+abbrev pub WhileLinkAwaitedCrIsClearAndDrqSet : DevicePort → Type 0
+WhileLinkAwaitedCrIsClearAndDrqSet p = (p.link_due ≡ true) ⊎ (p.sctl_det ≡ 1) → (p.cr ≡ false) × (bit p.tfd 3 ≡ true)
 
 -- the engine stands, and TFES is clear
 abbrev pub CrAndTfesAreClear : DevicePort → Type 0

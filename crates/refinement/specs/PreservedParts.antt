@@ -60,7 +60,7 @@ pub record NoPlugEvents (port : ℕ) (old new : Device) : Type 0 where
 -- the same disk is in, or out, with as many sectors
 pub record KeepsDisk (old new : DevicePort) : Type 0 where
   pub present : new.present ≡ old.present
-  pub plugged_so_far : new.plug_history ≡ old.plug_history
+  pub plug_history : new.plug_history ≡ old.plug_history
   pub name : new.disk.name ≡ old.disk.name
   pub size : new.disk.sector_count ≡ old.disk.sector_count
 
@@ -87,5 +87,5 @@ abbrev pub LinkIsSameOrComesUp : DevicePort → DevicePort → Type 0
 LinkIsSameOrComesUp old new = SameLink old new ⊎ ComesUp old new
 
 -- a device shows in PxSSTS, whose DET is 3, or no disk is in (AHCI 1.3.1, 3.3.10)
-abbrev pub ShowsDiskIfIn : DevicePort → Type 0
-ShowsDiskIfIn p = (p.ssts_det ≡ 3) ⊎ (p.present ≡ false)
+abbrev pub HasDet3IfDiskPresent : DevicePort → Type 0
+HasDet3IfDiskPresent p = (p.ssts_det ≡ 3) ⊎ (p.present ≡ false)

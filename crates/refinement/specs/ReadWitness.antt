@@ -17,8 +17,8 @@ use Rattle.block_machine.specs.Histories.{IsReachable}
 use Rattle.block_machine.specs.State.{Pending, Machine}
 use Rattle.block_machine.specs.Steps.{WaitAgain, IsEnabled, MayStillMove}
 use Rattle.refinement.specs.Relation.{port_at}
-use Rattle.refinement.specs.Driver.{DriverState, DriverRelation, IsPrepared, IsOwnPrepared, HasNoSlot, idle_driver_state, with_slot_freed_and_request_parked}
-use Rattle.refinement.specs.PortFacts.{IsEngineStopped, FollowsAndHasPageSinceStart}
+use Rattle.refinement.specs.Driver.{DriverState, DriverRelation, IsRequestPreparedToIssue, IsOwnCommandPreparedInSlot0, HasNoSlot, idle_driver_state, with_slot_freed_and_request_parked}
+use Rattle.refinement.specs.PortFacts.{IsEngineStopped, FollowsAndHasPageSinceStSet}
 use Rattle.refinement.specs.MemoryLayout.{scratch_frame_address}
 use Rattle.refinement.specs.Slots.{Free, Own, Serves, SlotStates, set_slot_state, IsEnded}
 
@@ -47,7 +47,8 @@ pub record PreparedReadWitness : Type 0 where
   pub mode : QueueMode
   pub request : Pending
   pub id_is : request.request.id ≡ first_id
-  pub prepared : IsPrepared (idle_driver_state prepared_read).slot_states machine prepared_read 0 0 mode request 1
+  pub prepared : IsRequestPreparedToIssue (idle_driver_state prepared_read).slot_states machine
+      prepared_read 0 0 mode request 1
   pub permitted : IsStable (MayWrite (Px (port_at 0) Ci) 1) prepared_read
   pub writes : Writes (Px (port_at 0) Ci) 1 prepared_read first_read_device
 
@@ -101,7 +102,7 @@ pub record ParkedReadWitness : Type 0 where
 -- A machine is reached that answered request 1 PortDead: its frames are kept. It agrees with the driver of the first
 -- read, whose slot serves the request still, and with the one who has taken it from there; so no slot serves a kept
 -- request then.
-pub record KeptReadAgrees : Type 0 where
+pub record PortDeadReadAgreesServedAndParked : Type 0 where
   pub machine : Machine
   pub reached : IsReachable machine
   pub request : Pending
@@ -126,7 +127,7 @@ pub record DoneRequestAgrees (k : DriverState) (id : RequestId) : Type 0 where
   pub request : Pending
   pub id_is : request.request.id ≡ id
   pub ended : IsEnded (device.port 0) 0 request
-  pub stands_in_book : Contains machine.book request
+  pub request_is_in_book : Contains machine.book request
 
 -- so it is of the first read
 abbrev pub EndedReadAgrees : Type 0
@@ -167,11 +168,12 @@ pub record OwnCommandAgrees : Type 0 where
   pub machine : Machine
   pub reached : IsReachable machine
   pub relation_before_issue : DriverRelation machine (idle_driver_state prepared_identify)
-  pub prepared : IsOwnPrepared (idle_driver_state prepared_identify).slot_states prepared_identify 0 Identify 1
+  pub prepared : IsOwnCommandPreparedInSlot0 (idle_driver_state prepared_identify).slot_states
+      prepared_identify 0 Identify 1
   pub permitted : IsStable (MayWrite (Px (port_at 0) Ci) 1) prepared_identify
   pub writes : Writes (Px (port_at 0) Ci) 1 prepared_identify issued_identify
   pub driver_relation : DriverRelation machine own_driver_state
   pub device_after_read : Device
   pub reads : Reads (Px (port_at 0) Ci) 0 issued_identify device_after_read
-  pub finds_own_page : FollowsAndHasPageSinceStart own_driver_state.slot_states machine 0 Identify issued_identify
+  pub finds_own_page : FollowsAndHasPageSinceStSet own_driver_state.slot_states machine 0 Identify issued_identify
       device_after_read

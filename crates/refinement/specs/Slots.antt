@@ -187,7 +187,8 @@ IsMove port o _ = ⊥
 
 -- The page that the port's last command of this operation brought stands in the scratch frame, and it came when the
 -- tape was at least so long.
-pub record PageStandsInScratch (memory : ℕ → ℕ) (tape : List Entry) (port : ℕ) (o : Operation) (since : ℕ) : Type 0
+pub record PageCameSinceAndStandsInScratch (memory : ℕ → ℕ) (tape : List Entry) (port : ℕ) (o : Operation)
+    (since : ℕ) : Type 0
   where
     pub before : List Entry
     pub came_since : since ≤ length before
@@ -212,13 +213,16 @@ pub record OwnIsTaken (memory : ℕ → ℕ) (tape : List Entry) (p : DevicePort
   pub places_are : command.places ≡ scratch_frame_address port ∷ []
   pub running : p.cr ≡ true
   pub issued : p.ci slot ≡ p.st
-  pub page_is_brought : (command.moved ≡ 0) ⊎ ((command.moved ≡ 1) × PageStandsInScratch memory tape port c.operation
+  pub page_stands_in_scratch_if_moved : (command.moved ≡ 0) ⊎ ((command.moved ≡ 1)
+      × PageCameSinceAndStandsInScratch memory tape port c.operation
       p.notes.st_set_at)
 
--- over: on a running port the device has brought its page since ST was set
-pub record OwnIsOver (memory : ℕ → ℕ) (tape : List Entry) (p : DevicePort) (port slot : ℕ) (c : Meaning) : Type 0 where
+-- over: where ST is one, its page came since ST was set, and stands in the scratch frame
+pub record OwnIsOverWithPageIfSt (memory : ℕ → ℕ) (tape : List Entry) (p : DevicePort) (port slot : ℕ)
+    (c : Meaning) : Type 0 where
   pub over : IsOver p slot
-  pub page_is_brought : (p.st ≡ false) ⊎ PageStandsInScratch memory tape port c.operation p.notes.st_set_at
+  pub page_stands_in_scratch_if_st : (p.st ≡ false)
+      ⊎ PageCameSinceAndStandsInScratch memory tape port c.operation p.notes.st_set_at
 
 -- The slot has a command of the driver's own, which is plain and has its page in the scratch frame. Only slot 0 has
 -- one.
@@ -233,7 +237,7 @@ pub record ServesOwn (memory : ℕ → ℕ) (tape : List Entry) (p : DevicePort)
   pub unqueued : p.sact slot ≡ false
   pub st_set_is_on_tape : p.notes.st_set_at ≤ length tape
   pub stage : OwnAwaitsFetch p slot ⊎ (OwnIsTaken memory tape p port slot command
-      ⊎ OwnIsOver memory tape p port slot command)
+      ⊎ OwnIsOverWithPageIfSt memory tape p port slot command)
 
 -- no command is issued or taken, and no bit of SACT is set
 pub record IsEmptySlot (p : DevicePort) (slot : ℕ) : Type 0 where

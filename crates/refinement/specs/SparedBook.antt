@@ -19,8 +19,9 @@ AllAsFarOrFurther [] later = later ≡ []
 AllAsFarOrFurther (old ∷ olds) [] = ⊥
 AllAsFarOrFurther (old ∷ olds) (new ∷ news) = IsAsFarOrFurther old new × AllAsFarOrFurther olds news
 
--- Grants, owners, loans and the next id are the same; so are the requests that are unanswered, and those that are kept.
-pub record KeepsLoansAndBookOnlyAdvances (m later : Machine) : Type 0 where
+-- Grants, owners, loans and the next id are the same; each request that is unanswered or kept is as far as it was, or
+-- further.
+pub record KeepsLoansAndPendingsOnlyAdvance (m later : Machine) : Type 0 where
   pub rows : later.rows ≡ m.rows
   pub owner : later.owner ≡ m.owner
   pub lent : later.lent ≡ m.lent

@@ -38,9 +38,9 @@ pub record IsStarted (p : DevicePort) : Type 0 where
   pub is_not_broken : p.broken ≡ false
 
 -- a write of PxCMD, if the access is one, has ST 0
-abbrev pub SetsNoStart : Port → Access → Type 0
-SetsNoStart port access = (v : ℕ) → access ≡ Writing (Px port Cmd) v → bit v 0 ≡ false
+abbrev pub WritesCmdOnlyWithStClear : Port → Access → Type 0
+WritesCmdOnlyWithStClear port access = (v : ℕ) → access ≡ Writing (Px port Cmd) v → bit v 0 ≡ false
 
 -- or has ST 1
-abbrev pub ClearsNoStart : Port → Access → Type 0
-ClearsNoStart port access = (v : ℕ) → access ≡ Writing (Px port Cmd) v → bit v 0 ≡ true
+abbrev pub WritesCmdOnlyWithStSet : Port → Access → Type 0
+WritesCmdOnlyWithStSet port access = (v : ℕ) → access ≡ Writing (Px port Cmd) v → bit v 0 ≡ true

@@ -25,17 +25,19 @@ StaysOverReadings P = (port : ℕ) (r : Reg) (v : ℕ) (old new : Device) → Re
     → P (new.port port)
 
 -- over each write that may be made, if what is written to the port's PxCMD is such a value
-abbrev pub StaysOverWrites : (ℕ → Type 0) → (DevicePort → Type 0) → Type 0
-StaysOverWrites IsWritten P = (port : Port) (r : Reg) (v : ℕ) (old new : Device) → IsStable (MayWrite r v) old
+abbrev pub StaysOverPermittedWritesWithCmdValue : (ℕ → Type 0) → (DevicePort → Type 0) → Type 0
+StaysOverPermittedWritesWithCmdValue IsWritten P = (port : Port) (r : Reg) (v : ℕ) (old new : Device)
+    → IsStable (MayWrite r v) old
     → (r ≡ Px port Cmd → IsWritten v) → Writes r v old new → P (old.port port.0) → P (new.port port.0)
 
 -- whatever the device does, where a reachable machine agrees with it
-abbrev pub StaysInAgreement : (DevicePort → Type 0) → Type 0
-StaysInAgreement P = (uses : SlotStates) (m : Machine) (port : ℕ) (old new : Device) → IsReachable m
+abbrev pub StaysOverStepsIfMachineAgrees : (DevicePort → Type 0) → Type 0
+StaysOverStepsIfMachineAgrees P = (uses : SlotStates) (m : Machine) (port : ℕ) (old new : Device) → IsReachable m
     → StateRelation uses m old → Steps old new → P (old.port port) → P (new.port port)
 
 -- over each access that doesn't write this register of the port, where a reachable machine agrees with the device
-abbrev pub StaysUnlessWritten : PortReg → (DevicePort → Type 0) → Type 0
-StaysUnlessWritten r P = (uses : SlotStates) (m : Machine) (port : Port) (access : Access) (old new : Device)
+abbrev pub StaysUnlessWrittenIfMachineAgrees : PortReg → (DevicePort → Type 0) → Type 0
+StaysUnlessWrittenIfMachineAgrees r P = (uses : SlotStates) (m : Machine) (port : Port) (access : Access)
+    (old new : Device)
     → IsReachable m → StateRelation uses m old → DoesNotWrite (Px port r) access → Does access old new
     → P (old.port port.0) → P (new.port port.0)

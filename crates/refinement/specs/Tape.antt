@@ -9,8 +9,8 @@ use Rattle.adapter.specs.declared.tape.Clear as tape_clear
 use Rattle.adapter.specs.declared.tape.Done as tape_done
 use Rattle.adapter.specs.declared.tape.Entry.{Entry}
 use Rattle.adapter.specs.declared.tape.Entry.TheVariants as entry
-use Rattle.block_machine.specs.State.{DiskBytes, Pending, Machine, frame_at, sector_of}
-use Rattle.block_machine.specs.Steps.{Step, Touch, End, Unplug, Replace, MayStillMove, touch}
+use Rattle.block_machine.specs.State.{DiskBytes, Pending, Machine, nth_frame, sector_of}
+use Rattle.block_machine.specs.Steps.{Step, Touch, End, Unplug, PlugDisk, MayStillMove, touch}
 use Rattle.block_machine.specs.Expected.{after}
 use Rattle.block_machine.specs.Events.{IsByDevice}
 use Rattle.refinement.specs.MemoryLayout.{scratch_frame_address, sector_address}
@@ -28,7 +28,8 @@ pub record MovesSector (m : Machine) (op : Op) (move : tape_move.Move) (steps : 
   pub sector_is : move.sector ≡ sector_of pending.request sector_number
   pub place_is : move.address ≡ sector_address pending.request.asked.frames.items sector_number
   pub direction_is : move.direction ≡ direction_of move.operation
-  pub frame_is_lent : m.lent (frame_at pending.request.asked.frames.items (sector_number / 8)) ≡ Some pending.request.id
+  pub frame_is_lent : m.lent (nth_frame pending.request.asked.frames.items (sector_number / 8))
+      ≡ Some pending.request.id
   pub step_is : steps ≡ Touch pending sector_number (slice_index move.bytes.value) ∷ []
 
 -- A move, by the client's operation that its command does. A page, or a trim's block, goes between disk and scratch
@@ -83,7 +84,7 @@ TellsEntry m (entry.Fault fault) steps = steps ≡ []
 TellsEntry m (entry.Fatal port) steps = steps ≡ []
 TellsEntry m (entry.Unplug port) steps = steps ≡ Unplug port ∷ []
 TellsEntry m (entry.Plug port name) steps =
-    (size : ℕ) × (content : DiskBytes) × (steps ≡ Replace port name size content ∷ [])
+    (size : ℕ) × (content : DiskBytes) × (steps ≡ PlugDisk port name size content ∷ [])
 
 -- the entries, the oldest first, tell of these steps, the newest first: nothing else, and in their order
 abbrev pub TapeTells : Machine → List Entry → List Step → Type 0
@@ -109,7 +110,7 @@ pub record IsPutIn (disk : device.Disk) (name size : ℕ) (content : DiskBytes) 
 -- the disks that these steps, the newest first, put into the port, the oldest first
 abbrev pub PutsInDisks : ℕ → List device.Disk → List Step → Type 0
 PutsInDisks port disks [] = disks ≡ []
-PutsInDisks port disks (Replace q name size content ∷ steps) =
+PutsInDisks port disks (PlugDisk q name size content ∷ steps) =
     ((q.0 ≢ port) × PutsInDisks port disks steps)
     ⊎ ((q.0 ≡ port) × ((earlier : List device.Disk) × (disk : device.Disk) × (disks ≡ earlier ++ disk ∷ [])
     × IsPutIn disk name size content × PutsInDisks port earlier steps))

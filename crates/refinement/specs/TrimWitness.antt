@@ -21,8 +21,8 @@ use Rattle.refinement.specs.MemoryLayout.{scratch_frame_address}
 use Rattle.refinement.specs.ReadWitness.{first_id, first_slot_states, encoded_page_prd, ready_device, DoneRequestAgrees}
 
 -- DATA SET MANAGEMENT with TRIM, and its FIS: one block
-abbrev pub example_trim : Meaning
-example_trim = record { operation = Trim; first = 0; count = 0 }
+abbrev pub trim_meaning_without_range : Meaning
+trim_meaning_without_range = record { operation = Trim; first = 0; count = 0 }
 
 abbrev pub trim_fis : List ℕ
 trim_fis = 0x27 ∷ 0x80 ∷ 6 ∷ 1 ∷ 0 ∷ 0 ∷ 0 ∷ 0 ∷ 0 ∷ 0 ∷ 0 ∷ 0 ∷ 1 ∷ replicate 7 0
@@ -45,7 +45,7 @@ abbrev pub issued_trim : Device
 issued_trim = device_after_write (Px (port_at 0) Ci) 1 prepared_trim
 
 abbrev pub taken_trim : Device
-taken_trim = device_after (Fetch 0 0 example_trim (scratch_frame_address 0 ∷ [])) issued_trim
+taken_trim = device_after (Fetch 0 0 trim_meaning_without_range (scratch_frame_address 0 ∷ [])) issued_trim
 
 -- slot 0 of port 0 serves request 1
 abbrev pub trim_driver_state : DriverState
@@ -63,6 +63,7 @@ pub record TrimAgrees : Type 0 where
   pub permitted : IsStable (MayWrite (Px (port_at 0) Ci) 1) prepared_trim
   pub issued : DriverRelation machine trim_driver_state
   pub takes : Steps issued_trim taken_trim
-  pub taken : (taken_trim.port 0).taken 0 ≡ Some (newly_fetched example_trim (scratch_frame_address 0 ∷ []))
+  pub taken : (taken_trim.port 0).taken 0
+      ≡ Some (newly_fetched trim_meaning_without_range (scratch_frame_address 0 ∷ []))
   pub driver_relation : DriverRelation machine (record trim_driver_state { device = taken_trim })
   pub done : DoneRequestAgrees trim_driver_state first_id

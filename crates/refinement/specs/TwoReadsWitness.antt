@@ -69,14 +69,14 @@ abbrev pub one_taken : Device
 one_taken = device_after (Fetch 0 0 (queued_read 100) (piece_addresses 0x64000 8)) two_issued
 
 -- slots 0 and 1 of port 0 are armed
-abbrev pub armed_uses : SlotStates
-armed_uses = set_slot_state (set_slot_state (λ port slot. Free) 0 0 Armed) 0 1 Armed
+abbrev pub armed_slot_states : SlotStates
+armed_slot_states = set_slot_state (set_slot_state (λ port slot. Free) 0 0 Armed) 0 1 Armed
 
 -- slot 0 of port 0 serves request 1, and slot 1 request 2
 abbrev pub two_reads_driver_state : Device → DriverState
 two_reads_driver_state d =
     record {
-      slot_states = set_slot_state (set_slot_state armed_uses 0 0 (Serves first_id)) 0 1 (Serves second_id);
+      slot_states = set_slot_state (set_slot_state armed_slot_states 0 0 (Serves first_id)) 0 1 (Serves second_id);
       awaiting_disposition = λ port. [];
       device = d;
     }
@@ -88,7 +88,7 @@ pub record TwoReadsWitness : Type 0 where
   pub machine_before_issue : Machine
   pub reached_before : IsReachable machine_before_issue
   pub armed : DriverRelation machine_before_issue
-      (record { slot_states = armed_uses; awaiting_disposition = λ port. []; device = two_armed })
+      (record { slot_states = armed_slot_states; awaiting_disposition = λ port. []; device = two_armed })
   pub machine : Machine
   pub reached : IsReachable machine
   pub first_request : Pending

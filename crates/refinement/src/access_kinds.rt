@@ -6,7 +6,7 @@ ghost use Rattle.std.specs.Prelude.{ℕ, ⊤, None, false, ◌≡◌, ◌⊎◌,
 ghost use Rattle.ata_types.specs.declared.Port.{Port};
 ghost use Rattle.hba_regs.specs.{declared.reg.PortReg.{PortReg}, declared.reg.PortReg.TheVariants.{Sact, Ci}, declared.reg.Reg.{Reg}, declared.reg.Reg.TheVariants.{Px}};
 ghost use Rattle.adapter.specs.{Access.{Access, Reads, Writes, Loads, Stores}, Access.Access.{Reading, Writing, Loading, Storing}, Device.{Device}, Rules.{MayWrite, IsStable}, declared.command.Operation.{Operation}};
-ghost use Rattle.refinement.specs.{Acts.{ActsByDeviceAlone, AccessesAreSimulatedByActs}, Fragments.{SomeMachineAgrees, ReadsPortOrWrites, IsSimulated, IsSimulatedChangingUses, SparesOtherPorts, IsSimulatedAlong, IsSimulatedAlongChangingUses, NoneWrites, GainsNoMove}, Driver.{AllFree, KeepsSlotStates, IsOwnPrepared, MayStore}, PortFacts.{IsEngineStopped}, GivingUp.{slots_with_all_parked}, Laws.{FragmentLaws}, PreservedParts.{DoesNotWrite}};
+ghost use Rattle.refinement.specs.{Acts.{ActsByDeviceAlone, AccessesAreSimulatedByActs}, Fragments.{SomeMachineAgrees, ReadsPortOrWrites, IsSimulated, IsSimulatedChangingUses, SparesOtherPorts, IsSimulatedAlong, IsSimulatedAlongChangingUses, NoneWrites, GainsNoMove}, Driver.{AllFree, KeepsSlotStates, IsOwnCommandPreparedInSlot0, IsInMemoryOfFreeSlot}, PortFacts.{IsEngineStopped}, GivingUp.{slots_with_all_parked}, Laws.{FragmentLaws}, PreservedParts.{DoesNotWrite}};
 ghost use Rattle.refinement.specs.{HaltRecovery.{WorksOnUnqueuedCommandsOnly}, Slots.{SlotStates, Free, Own, IsOver, client_operation_of, set_slot_state}};
 
 use super::prerequisites::law_prerequisites;
@@ -29,7 +29,7 @@ impl RegisterSets for Brand {
 }
 
 /// Kinds of accesses, and the uses of slots with which those of a kind may be made.
-pub trait AccessKinds {
+pub trait AccessKindsWithSlotUses {
     /// What names a kind.
     ghost Kind: { Type 0 };
     /// The accesses of a kind.
@@ -39,7 +39,7 @@ pub trait AccessKinds {
 }
 
 /// What stands where a caller names no kinds: one, of all accesses, which all uses fit.
-impl AccessKinds for Brand {
+impl AccessKindsWithSlotUses for Brand {
     ghost Kind = { ⊤ };
 
     ghost may = { λ kind access. ⊤ };
@@ -64,7 +64,7 @@ pub fn law_port_register_accesses_are_of_port<R: RegisterSets>()
 
 /// What is a fragment that is followed: no access is; and one of its kind is, where it is a reading, a load, a write
 /// that is permitted and leaves each slot to its use, or the issue of a command of the driver's own.
-pub fn law_accesses_are_followed<K: AccessKinds>()
+pub fn law_accesses_are_followed<K: AccessKindsWithSlotUses>()
     ensures no_access { (kind : K.Kind) (d : Device)
         → IsSimulatedAlong (λ made. made ≡ []) (K.may kind) (K.fits kind) d d }
     ensures reads { (kind : K.Kind) (r : Reg) (v : ℕ) (old new : Device) → K.may kind (Reading r v) → Reads r v old new
@@ -78,21 +78,23 @@ pub fn law_accesses_are_followed<K: AccessKinds>()
         → IsSimulatedAlong (λ made. made ≡ Writing r v ∷ []) (K.may kind) (K.fits kind) old new }
     ensures own_command_is_issued { (kind : K.Kind) (port : Port) (o : Operation) (v : ℕ) (old new : Device)
         → K.may kind (Writing (Px port Ci) v) → old.hr ≡ false
-        → ((uses : SlotStates) → K.fits kind uses → IsOwnPrepared uses old port.0 o v) → Writes (Px port Ci) v old new
+        → ((uses : SlotStates) → K.fits kind uses → IsOwnCommandPreparedInSlot0 uses old port.0 o v)
+        → Writes (Px port Ci) v old new
         → IsSimulatedChangingUses (K.may kind) (K.fits kind) (λ uses. set_slot_state uses port.0 0 (Own o)) old new }
 {}
 
 /// So is a store of bytes that the driver may store.
-pub fn law_stores_are_followed<K: AccessKinds>()
+pub fn law_stores_are_followed<K: AccessKindsWithSlotUses>()
     ensures { (kind : K.Kind) (at : ℕ) (bytes : List ℕ) (old new : Device) → K.may kind (Storing at bytes)
-        → ((uses : SlotStates) → K.fits kind uses → MayStore uses at (length bytes)) → Stores at bytes old new
+        → ((uses : SlotStates) → K.fits kind uses → IsInMemoryOfFreeSlot uses at (length bytes))
+        → Stores at bytes old new
         → IsSimulated (K.may kind) (K.fits kind) old new }
 {}
 
 /// Fragments that are followed compose: by one after another, where the second is of the first's kind or a narrower
 /// one, and the uses that the first leads to fit it. One is so with each wider kind whose uses fit it. And a command of
 /// the driver's own that was issued meanwhile and is over leaves its slot.
-pub fn law_fragments_compose<K: AccessKinds>()
+pub fn law_fragments_compose<K: AccessKindsWithSlotUses>()
     ensures fragments_join { (kind then : K.Kind) (first second : SlotStates → SlotStates)
         → ((access : Access) → K.may then access → K.may kind access)
         → ((uses : SlotStates) → K.fits kind uses → K.fits then (first uses)) → (old mid new : Device)
@@ -117,7 +119,7 @@ pub fn law_fragments_compose<K: AccessKinds>()
 /// What a fragment that is followed gives: some machine goes on agreeing, with the uses that it leads to. And a port of
 /// which it writes neither PxCI nor PxSACT is sent no page by a command that isn't in its slot 0. One that works on
 /// plain commands alone goes on so.
-pub fn law_followed_fragments_agree<K: AccessKinds>()
+pub fn law_followed_fragments_agree<K: AccessKindsWithSlotUses>()
     ensures agreed { (kind : K.Kind) (next : SlotStates → SlotStates) (uses : SlotStates) (old new : Device)
         → K.fits kind uses
         → IsSimulatedChangingUses (K.may kind) (K.fits kind) next old new → SomeMachineAgrees uses old
@@ -142,7 +144,7 @@ pub fn law_followed_fragments_agree<K: AccessKinds>()
 /// A fragment that is followed is a part of a call, in which the device alone makes steps. And where a port has halted
 /// after it, the driver may give up all slots of the port, and go on with another fragment, of any kind that a port
 /// without a used slot allows: the two are one part, too.
-pub fn law_fragments_are_parts<K: AccessKinds>()
+pub fn law_fragments_are_parts<K: AccessKindsWithSlotUses>()
     ensures is_a_part { (kind : K.Kind) (next : SlotStates → SlotStates) (old new : Device)
         → (a : IsSimulatedChangingUses (K.may kind) (K.fits kind) next old new)
         → AccessesAreSimulatedByActs a.is_driven.accesses (λ s m. K.fits kind s.slot_states)
@@ -163,7 +165,7 @@ pub fn law_fragments_are_parts<K: AccessKinds>()
 }
 
 /// What these laws say of a crate's kinds, for its proofs.
-pub fn law_fragment_prerequisites<K: AccessKinds>()
+pub fn law_fragment_prerequisites<K: AccessKindsWithSlotUses>()
     ensures { FragmentLaws K.Kind K.may K.fits }
 {
     law_accesses_are_followed::<K>();

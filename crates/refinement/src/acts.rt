@@ -4,7 +4,7 @@ ghost use Rattle.ata_types.specs.declared.Port.{Port};
 ghost use Rattle.hba_regs.specs.{declared.reg.Reg.TheVariants.{Px}, declared.reg.PortReg.TheVariants.{Sact}};
 ghost use Rattle.adapter.specs.{Access.{Access, Does, DoesAll}, declared.command.Operation.{Operation}};
 ghost use Rattle.block_machine.specs.{Events.{AllByDevice, IsByDevice}, Histories.{IsReachable, IsSimulatedBySteps}, Expected.{after}, State.{Machine}, Steps.{Step, IsEnabled, after_step}};
-ghost use Rattle.refinement.specs.{Acts.{Act, IsActDone, AreActsDone, IsAtMostOneStepOrIssuesOfPort, accesses_of, act_steps}, Fragments.{GainsNoMove}, Driver.{DriverState, DriverRelation, IsBackedByDeviceAlone, DriverAdvances, EndsInSteps}, PreservedParts.{DoesNotWrite}, HaltRecovery.{WorksOnUnqueuedCommandsOnly}, Slots.{Own, client_operation_of}};
+ghost use Rattle.refinement.specs.{Acts.{Act, IsActDone, AreActsDone, IsAtMostOneStepOrIssuesOfPort, accesses_of, newest_first_steps_of_acts}, Fragments.{GainsNoMove}, Driver.{DriverState, DriverRelation, IsBackedByDeviceAlone, DriverAdvances, EndsInSteps}, PreservedParts.{DoesNotWrite}, HaltRecovery.{WorksOnUnqueuedCommandsOnly}, Slots.{Own, client_operation_of}};
 
 use super::prerequisites::law_prerequisites;
 
@@ -33,9 +33,10 @@ pub fn law_accesses_and_decisions_are_acts()
 pub fn law_acts_compose()
     ensures no_act { (k : DriverState) (m : Machine) → AreActsDone [] k m k }
     ensures acts_join { (early late : List Act) (a b c : DriverState) (m : Machine) → AreActsDone early a m b
-        → AreActsDone late b (after m (act_steps early)) c → AreActsDone (early ++ late) a m c }
+        → AreActsDone late b (after m (newest_first_steps_of_acts early)) c → AreActsDone (early ++ late) a m c }
     ensures accesses { (early late : List Act) → accesses_of (early ++ late) ≡ accesses_of early ++ accesses_of late }
-    ensures steps { (early late : List Act) → act_steps (early ++ late) ≡ act_steps late ++ act_steps early }
+    ensures steps { (early late : List Act) → newest_first_steps_of_acts (early ++ late)
+        ≡ newest_first_steps_of_acts late ++ newest_first_steps_of_acts early }
 {}
 
 /// What acts give: the driver goes by all their steps, and their accesses are made. A port for which slot 0 has no
@@ -44,7 +45,7 @@ pub fn law_acts_compose()
 pub fn law_acts_advance_driver()
     ensures driver_advances { (acts : List Act) (k later : DriverState) (m : Machine) → DriverRelation m k
         → AreActsDone acts k m later
-        → DriverAdvances k m (act_steps acts) later }
+        → DriverAdvances k m (newest_first_steps_of_acts acts) later }
     ensures does { (acts : List Act) (k later : DriverState) (m : Machine) → AreActsDone acts k m later
         → DoesAll (accesses_of acts) k.device later.device }
     ensures gains_no_move { (acts : List Act) (k later : DriverState) (m : Machine) (port : ℕ) (o : Operation)

@@ -4,7 +4,7 @@ ghost use Rattle.std.specs.Prelude.{ℕ, true, false, ◌≡◌, ◌≢◌, ◌�
 ghost use Rattle.ata_types.specs.declared.Port.{Port};
 ghost use Rattle.hba_regs.specs.{Bits.{bit}, declared.reg.Reg.TheVariants.{Ghc, Px}, declared.reg.PortReg.TheVariants.{Is, Sctl, Ssts}};
 ghost use Rattle.adapter.specs.{Access.{Reads, Writes, Access, Does}, Device.{DevicePort, Device}, Idle.{IsIdle}, Steps.{Steps}};
-ghost use Rattle.refinement.specs.{Errors.{NoDiskComes, NoFaults}, PreservedParts.{NoPlugEvents, ShowsDiskIfIn}, Vacant.{IsVacant, HasFirstFisIfShown}};
+ghost use Rattle.refinement.specs.{Errors.{NoDiskComes, NoFaults}, PreservedParts.{NoPlugEvents, HasDet3IfDiskPresent}, Vacant.{IsVacant, HasFirstFisIfShown}};
 
 use super::prerequisites::law_prerequisites;
 
@@ -33,13 +33,13 @@ pub fn law_vacancy_stays_where_no_disk_comes()
         → HasFirstFisIfShown (new.port port.0) }
     ensures det_3_shows_disk_if_in { (port : Port) (v : ℕ) (old new : Device) → Reads (Px port Ssts) v old new
         → v % 16 ≡ 3
-        → ShowsDiskIfIn (new.port port.0) }
+        → HasDet3IfDiskPresent (new.port port.0) }
 {
     law_prerequisites();
 }
 
 /// Once HR is read 0 after a reset, the adapter is idle.
-pub fn law_reset_is_idle()
+pub fn law_hr_read_clear_leaves_adapter_idle()
     ensures { (v : ℕ) (old new : Device) → old.hr ≡ true → Reads Ghc v old new → bit v 0 ≡ false → IsIdle new }
 {
     law_prerequisites();

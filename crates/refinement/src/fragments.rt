@@ -4,7 +4,7 @@ ghost use Rattle.std.specs.Prelude.{ℕ, false, ◌≡◌, ◌≢◌, ◌++◌, 
 ghost use Rattle.ata_types.specs.declared.Port.{Port};
 ghost use Rattle.hba_regs.specs.{Bits.{bit}, declared.reg.PortReg.{PortReg}, declared.reg.PortReg.TheVariants.{Cmd, Is, Sctl, Sact, Ci}, declared.reg.Reg.TheVariants.{Ghc, Px}};
 ghost use Rattle.adapter.specs.{Access.{Access, Does, Reads, Writes, Loads, Stores}, Device.{DevicePort, Device}, Idle.{IsIdle, DisksAreKnownIfTelling}, Rules.{IsOn, MayWrite, IsStable}, Steps.{Steps}, declared.command.Operation.{Operation}, declared.tape.Entry.{Entry}};
-ghost use Rattle.refinement.specs.{Fragments.{AnyAccess, TapeGrows, AnySlotStates, SameSlotStates, SomeMachineAgrees, IsDrivenBy, ReadsPortOrWrites, IsSimulated, IsSimulatedChangingUses, SparesOtherPorts, OnlyDeviceChangesPort, HasNoCommand, GainsNoMove}, Driver.{KeepsSlotStates, MayStore}, PortFacts.{RecordsFaultsIfSt}, Laws.{TapeLaws}, PreservedParts.{SameAdapter, DoesNotWrite}};
+ghost use Rattle.refinement.specs.{Fragments.{AnyAccess, TapeGrows, AnySlotStates, SameSlotStates, SomeMachineAgrees, IsDrivenBy, ReadsPortOrWrites, IsSimulated, IsSimulatedChangingUses, SparesOtherPorts, OnlyDeviceChangesPort, NoCommandIsIssuedOrTaken, GainsNoMove}, Driver.{KeepsSlotStates, IsInMemoryOfFreeSlot}, PortFacts.{RecordsFaultsIfSt}, Laws.{TapeLaws}, PreservedParts.{SameAdapter, DoesNotWrite}};
 ghost use Rattle.refinement.specs.Slots.{SlotStates, Free, IsOver, Own, client_operation_of, set_slot_state};
 
 use super::port_facts::{
@@ -100,14 +100,16 @@ pub fn law_stopped_engine_keeps_pxis_bits_clear()
 /// A port none of whose slots has a command moves nothing: whatever the device does, over each access, and over
 /// accesses of the port's registers that write no PxCI, after which none has one still. Where none of two parts brings
 /// a page, the whole brings none.
-pub fn law_unused_slots_are_silent()
-    ensures steps { (port : ℕ) (o : Operation) (old new : Device) → HasNoCommand (old.port port) → Steps old new
+pub fn law_port_without_command_gains_no_move()
+    ensures steps { (port : ℕ) (o : Operation) (old new : Device) → NoCommandIsIssuedOrTaken (old.port port)
+        → Steps old new
         → GainsNoMove port o old new }
-    ensures access { (port : ℕ) (o : Operation) (access : Access) (old new : Device) → HasNoCommand (old.port port)
+    ensures access { (port : ℕ) (o : Operation) (access : Access) (old new : Device)
+        → NoCommandIsIssuedOrTaken (old.port port)
         → Does access old new → GainsNoMove port o old new }
     ensures port_accesses_gain_no_move { (port : Port) (o : Operation) (old new : Device)
-        → IsDrivenBy (ReadsPortOrWrites (λ r. r ≢ Ci) port) old new → HasNoCommand (old.port port.0)
-        → GainsNoMove port.0 o old new × HasNoCommand (new.port port.0) }
+        → IsDrivenBy (ReadsPortOrWrites (λ r. r ≢ Ci) port) old new → NoCommandIsIssuedOrTaken (old.port port.0)
+        → GainsNoMove port.0 o old new × NoCommandIsIssuedOrTaken (new.port port.0) }
     ensures transitive { (port : ℕ) (o : Operation) (old mid new : Device) → GainsNoMove port o old mid
         → GainsNoMove port o mid new → GainsNoMove port o old new }
 {

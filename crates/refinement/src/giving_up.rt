@@ -4,7 +4,7 @@ ghost use Rattle.std.specs.Prelude.{ℕ, true, false, ◌⊎◌, ◌≡◌, ◌�
 ghost use Rattle.ata_types.specs.declared.request.RequestId.{RequestId};
 ghost use Rattle.adapter.specs.{Device.{Device}, Rules.{InUse}, declared.tape.Entry.{Entry}};
 ghost use Rattle.block_machine.specs.{State.{Pending, Machine}, Steps.{MayStillMove}};
-ghost use Rattle.refinement.specs.{Relation.{StateRelation, ServeDistinctRequests}, Driver.{DriverState, DriverRelation, AllFree, HasNoSlot}, PortFacts.{IsEngineStopped, ShowsFault}, Slots.{SlotStates, Free, Serves, IsOver}, GivingUp.{AreSlotsOverAndUnarmedIfSt, ids_in_slots, with_all_parked, IsOutstanding}};
+ghost use Rattle.refinement.specs.{Relation.{StateRelation, ServeDistinctRequests}, Driver.{DriverState, DriverRelation, AllFree, HasNoSlot}, PortFacts.{IsEngineStopped, ShowsFault}, Slots.{SlotStates, Free, Serves, IsOver}, GivingUp.{AllOverAndNoArmedStateIfSt, ids_in_slots, with_all_parked, IsOutstanding}};
 
 /// Where all slots of a port are over, and none is armed on a running one, as on a port that has halted, the driver
 /// gives them all up at once: what it knows stays known. None of them is used then, other ports' are as they were, and
@@ -12,7 +12,7 @@ ghost use Rattle.refinement.specs.{Relation.{StateRelation, ServeDistinctRequest
 /// that none served before.
 pub fn law_slots_are_given_up()
     ensures over { (k : DriverState) (m : Machine) (port : ℕ) → DriverRelation m k
-        → AreSlotsOverAndUnarmedIfSt k.slot_states (k.device.port port) port
+        → AllOverAndNoArmedStateIfSt k.slot_states (k.device.port port) port
         → DriverRelation m (with_all_parked k port) }
     ensures engine_stopped { (k : DriverState) (m : Machine) (port : ℕ) → DriverRelation m k
         → IsEngineStopped (k.device.port port)

@@ -2,13 +2,13 @@
 ghost use Rattle.std.specs.{List.{list_any}, Prelude.{◌≡◌, ◌+◌, ◌*◌, ◌/◌, ◌%◌, ◌<◌, ◌≤◌, ◌∷◌, ◌++◌, ℕ, Bool, true, false, [], List, length, map, Contains, ◌≢◌, ◌⊎◌, None, Some, All}};
 ghost use Rattle.ata_types.specs.{declared.Port.{Port}, declared.memory.TheConstants.{FRAME_BYTES, LIST_BYTES, RECEIVED_FIS_BYTES}, declared.request.ClientId.{ClientId}, declared.request.Frame.{Frame}, declared.request.Outcome.{Outcome}, declared.request.RequestId.{RequestId}};
 ghost use Rattle.hba_regs.specs.{Bits.{bit}, declared.reg.PortReg.TheVariants.{Clb, Clbu, Fb, Fbu, Is, Cmd, Ci, Sact}, declared.reg.Reg.TheVariants.{Px}, declared.reg.Reg.{Reg}};
-ghost use Rattle.adapter.specs.{Access.{Reads, Writes, Loads, Stores, device_after_write, Access, Does}, Commands.{Meaning}, Device.{DevicePort, Device}, FirstRead.{first_read_device}, Idle.{IsIdle}, Memory.{patched}, Rules.{IsUnowned, IsOn, HasPort, MayStart, MaySetFre, MayStopReceiving, MayWrite, IsStable}, Steps.{Steps}, declared.command.Operation.{Operation}, declared.tape.Entry.{Entry}};
+ghost use Rattle.adapter.specs.{Access.{Reads, Writes, Loads, Stores, device_after_write, Access, Does}, Commands.{Meaning}, Device.{DevicePort, Device}, FirstRead.{first_read_device}, Idle.{IsIdle}, Memory.{patched}, Rules.{IsInMemoryNotOwnedByDevice, IsOn, HasPort, MayStart, MaySetFre, MayStopReceiving, MayWrite, IsStable}, Steps.{Steps}, declared.command.Operation.{Operation}, declared.tape.Entry.{Entry}};
 ghost use Rattle.block_machine.specs.{DueRequests.{is_plain, issued_count}, Events.{IsByDevice, AllByDevice, AllEnabled, changes_disk}, Histories.{IsReachable, IsSimulatedBySteps}, Expected.{IsInitial, after, AllStepsFaithful}, Refusals.{MayAccessFrame}, State.{Accepted, Pending, Machine, unanswered}};
 ghost use Rattle.block_machine.specs.{Steps.{Step, Accept, Issue, Age, WaitAgain, Answer, Release, Store, Load, IsEnabled, NoneKept, aged_pending, after_step, is_kept_at_answer, MayStillMove, Revoke}, declared.due.QueueMode.{QueueMode}};
 ghost use Rattle.refinement.specs.{Relation.{StateRelation, IsDiskOf, SameClientFrames, SameSectors, HaveSlotsUnlessParked, ServeDistinctRequests, port_at}, Replug.{replug_candidates}, Acts.{IsIssueStep}};
-ghost use Rattle.refinement.specs.{Driver.{MayStore, KeepsSlotStates, KeepsTablesAndScratchUnlessOwn, DriverState, DriverRelation, TapeBacksSteps, IsBackedByDeviceAlone, DriverAdvances, IsOwnPrepared, EndsInOneStep, HasNoSlot, ForgetsAtMost, ForgetsAtMostKept, with_slot_freed_and_request_parked, with_slot_freed, idle_driver_state, KeepsOtherCmdBits, MissesTableAndHeaderButPrdbc, MissesScratch}, Simulation.{SimulatesSteps}, PreservedParts.{IsPlugEvent}};
-ghost use Rattle.refinement.specs.{MemoryLayout.{command_list_address, scratch_frame_address, received_fis_address}, TrimWitness.{TrimAgrees}, ReadWitness.{PreparedReadWitness, FirstReadWitness, KeptReadAgrees, ParkedReadWitness, EndedReadAgrees, OwnCommandAgrees}, TwoReadsWitness.{TwoReadsWitness, TwoStoredReads}};
-ghost use Rattle.refinement.specs.{Slots.{SlotState, Free, Armed, Own, Serves, SlotStates, set_slot_state, serving_count, SlotDecodesTo, HasBlockIfTrim, IsOver, client_operation_of, IsMove}, SparedBook.{IsAsFarOrFurther, AllAsFarOrFurther, KeepsLoansAndBookOnlyAdvances, IsNotStepOfPendingRequest}, Tape.{OneAtMost, TellsDeviceSteps}};
+ghost use Rattle.refinement.specs.{Driver.{IsInMemoryOfFreeSlot, KeepsSlotStates, KeepsTablesAndScratchUnlessOwn, DriverState, DriverRelation, TapeBacksSteps, IsBackedByDeviceAlone, DriverAdvances, IsOwnCommandPreparedInSlot0, EndsInOneStep, HasNoSlot, OthersStayParked, ParkedStayUnlessKept, with_slot_freed_and_request_parked, with_slot_freed, idle_driver_state, KeepsOtherCmdBits, MissesTableAndHeaderButPrdbc, MissesScratch}, Simulation.{SimulatesSteps}, PreservedParts.{IsPlugEvent}};
+ghost use Rattle.refinement.specs.{MemoryLayout.{command_list_address, scratch_frame_address, received_fis_address}, TrimWitness.{TrimAgrees}, ReadWitness.{PreparedReadWitness, FirstReadWitness, PortDeadReadAgreesServedAndParked, ParkedReadWitness, EndedReadAgrees, OwnCommandAgrees}, TwoReadsWitness.{TwoReadsWitness, TwoStoredReads}};
+ghost use Rattle.refinement.specs.{Slots.{SlotState, Free, Armed, Own, Serves, SlotStates, set_slot_state, serving_count, SlotDecodesTo, HasBlockIfTrim, IsOver, client_operation_of, IsMove}, SparedBook.{IsAsFarOrFurther, AllAsFarOrFurther, KeepsLoansAndPendingsOnlyAdvance, IsNotStepOfPendingRequest}, Tape.{OneAtMost, TellsDeviceSteps}};
 ghost use Rattle.hba_regs.specs.declared.reg.Reg.TheVariants as registers;
 
 use super::prerequisites::law_prerequisites;
@@ -23,7 +23,7 @@ pub fn law_device_is_followed()
 {}
 
 /// What the device does by itself is a part of a call, in which it alone makes steps.
-pub fn law_device_steps_are_parts()
+pub fn law_device_steps_are_a_call_part()
     ensures { (k : DriverState) (new : Device) → Steps k.device new
         → IsSimulatedBySteps DriverRelation k (record k { device = new }) (IsBackedByDeviceAlone k.device new) }
 {}
@@ -170,37 +170,37 @@ pub fn law_parking_frees()
 {}
 
 /// A request that no slot serves may be answered: its frames are given back.
-pub fn law_answering_agrees()
+pub fn law_answering_slotless_request_agrees()
     ensures { (k : DriverState) (m : Machine) (e : Pending) (outcome : Outcome) (later : ℕ → List RequestId)
         → IsReachable m
         → DriverRelation m k → Contains m.book e → is_kept_at_answer e outcome ≡ false
         → HasNoSlot k.slot_states e.request.id
-        → ForgetsAtMost e.request.id k.awaiting_disposition later
+        → OthersStayParked e.request.id k.awaiting_disposition later
         → DriverRelation (after_step m (Answer e outcome)) (record k { awaiting_disposition = later }) }
 {}
 
 /// A request may be answered with its frames kept, in its slot or without one.
-pub fn law_keeping_agrees()
+pub fn law_answering_with_frames_kept_agrees()
     ensures { (k : DriverState) (m : Machine) (e : Pending) (outcome : Outcome) → IsReachable m → DriverRelation m k
         → Contains m.book e
         → is_kept_at_answer e outcome ≡ true → DriverRelation (after_step m (Answer e outcome)) k }
 {}
 
 /// A request that no slot serves may wait again.
-pub fn law_going_again_agrees()
+pub fn law_wait_again_agrees()
     ensures { (k : DriverState) (m : Machine) (e : Pending) (later : ℕ → List RequestId) → IsReachable m
         → DriverRelation m k
         → Contains m.book e → HasNoSlot k.slot_states e.request.id
-        → ForgetsAtMost e.request.id k.awaiting_disposition later
+        → OthersStayParked e.request.id k.awaiting_disposition later
         → DriverRelation (after_step m (WaitAgain e)) (record k { awaiting_disposition = later }) }
 {}
 
 /// The frames of kept requests may be given back where no slot serves one of them. Those that were parked needn't be so
 /// any more.
-pub fn law_releasing_agrees()
+pub fn law_releasing_kept_frames_agrees()
     ensures { (k : DriverState) (m : Machine) (later : ℕ → List RequestId) → IsReachable m → DriverRelation m k
         → ((e : Pending) → Contains m.kept e → HasNoSlot k.slot_states e.request.id)
-        → ForgetsAtMostKept m k.awaiting_disposition later
+        → ParkedStayUnlessKept m k.awaiting_disposition later
         → DriverRelation (after_step m Release) (record k { awaiting_disposition = later }) }
 {}
 
@@ -266,7 +266,7 @@ pub fn law_tables_and_idle_scratch_are_kept()
 
 /// A page comes only where slot 0 of its port has that command of the driver's own, which isn't over; and one at most
 /// comes for it, whatever the device does, also while a reset is pending. So it is over each access.
-pub fn law_pages_come_when_asked()
+pub fn law_pages_come_only_for_own_commands()
     ensures steps { (uses : SlotStates) (m : Machine) (old new : Device) (port : ℕ) (o : Operation)
         (gained : List Entry)
         → IsReachable m → StateRelation uses m old → Steps old new → new.tape ≡ old.tape ++ gained
@@ -312,13 +312,14 @@ pub fn law_stored_commands_stay()
         → SlotDecodesTo old.memory (command_list_address port) port slot c places
         → SlotDecodesTo new.memory (command_list_address port) port slot c places }
     ensures misses { (uses : SlotStates) (port slot at n : ℕ) → uses port slot ≢ Free → port < 4 → slot < 32
-        → MayStore uses at n → MissesTableAndHeaderButPrdbc port slot at n }
+        → IsInMemoryOfFreeSlot uses at n → MissesTableAndHeaderButPrdbc port slot at n }
     ensures block_beside { (uses : SlotStates) (at : ℕ) (bytes : List ℕ) (old new : Device)
         → KeepsTablesAndScratchUnlessOwn uses (record old { memory = patched old.memory at bytes }) new
         → (port : ℕ) (r : Accepted)
         → port < 4 → ((o : Operation) → uses port 0 ≡ Own o → ⊥) → MissesScratch port at (length bytes)
         → HasBlockIfTrim r.asked.op old.memory port r → HasBlockIfTrim r.asked.op new.memory port r }
-    ensures misses_scratch { (uses : SlotStates) (port at n : ℕ) → uses port 0 ≢ Free → port < 4 → MayStore uses at n
+    ensures misses_scratch { (uses : SlotStates) (port at n : ℕ) → uses port 0 ≢ Free → port < 4
+        → IsInMemoryOfFreeSlot uses at n
         → MissesScratch port at n }
 {}
 
@@ -334,10 +335,10 @@ pub fn law_enabled_issues_stay()
 /// kept after them.
 pub fn law_book_only_advances_over_device_steps()
     ensures spares { (m : Machine) (steps : List Step) → AllByDevice steps
-        → KeepsLoansAndBookOnlyAdvances m (after m steps) }
-    ensures reflexive { (m : Machine) → KeepsLoansAndBookOnlyAdvances m m }
-    ensures transitive { (a b c : Machine) → KeepsLoansAndBookOnlyAdvances a b → KeepsLoansAndBookOnlyAdvances b c
-        → KeepsLoansAndBookOnlyAdvances a c }
+        → KeepsLoansAndPendingsOnlyAdvance m (after m steps) }
+    ensures reflexive { (m : Machine) → KeepsLoansAndPendingsOnlyAdvance m m }
+    ensures transitive { (a b c : Machine) → KeepsLoansAndPendingsOnlyAdvance a b → KeepsLoansAndPendingsOnlyAdvance b c
+        → KeepsLoansAndPendingsOnlyAdvance a c }
     ensures due_is_the_same { (old new : List Pending) → AllAsFarOrFurther old new
         → map unanswered new ≡ map unanswered old }
     ensures is_found_later { (old new : List Pending) (e : Pending) → AllAsFarOrFurther old new → Contains old e
@@ -356,7 +357,7 @@ pub fn law_book_only_advances_over_device_steps()
 
 /// Where entries of the tape tell of the device's steps among these, one of the entries is of a disk of the port that
 /// goes or comes exactly if one of the steps takes the port's disk out or puts one in.
-pub fn law_disks_are_told()
+pub fn law_plug_events_match_disk_changes()
     ensures steps { (port : Port) (m : Machine) (gained : List Entry) (steps : List Step)
         → TellsDeviceSteps m gained steps
         → (e : Entry) → Contains gained e → IsPlugEvent port.0 e → list_any (changes_disk port) steps ≡ true }
@@ -368,9 +369,9 @@ pub fn law_disks_are_told()
         → list_any (changes_disk port) steps ≡ false → All (λ e. IsPlugEvent port.0 e → ⊥) gained }
 {}
 
-/// A history goes on by steps that may come, and so do fragments of them. Two fragments of the device's steps are one,
-/// too; and so are two whose reads moved what the disks hold.
-pub fn law_histories_compose()
+/// A machine that is reached leads to others by steps that may come, and lists of such steps join; so do lists of the
+/// device's steps, and of faithful ones.
+pub fn law_device_and_faithful_step_lists_compose()
     ensures reached { (m : Machine) (steps : List Step) → IsReachable m → AllEnabled m steps
         → IsReachable (after m steps) }
     ensures enabled_steps_join { (m : Machine) (late early : List Step) → AllEnabled m early
@@ -401,24 +402,24 @@ pub fn law_clear_sact_bits_stay()
     law_prerequisites();
 }
 
-/// The page that a command of the driver's own brought may be loaded, whatever the device does first, once the command
-/// is over.
-pub fn law_pages_may_be_loaded()
+/// Once slot 0 is over the device owns no byte of the page in its port's scratch frame, whatever it does: it may be
+/// loaded.
+pub fn law_device_owns_no_scratch_page_once_slot_0_over()
     ensures { (uses : SlotStates) (m : Machine) (d : Device) → IsReachable m → StateRelation uses m d → (port : ℕ)
         → port < 4
         → scratch_frame_address port + 512 ≤ d.memory_size → IsOver (d.port port) 0
-        → IsStable (IsUnowned (scratch_frame_address port) 512) d }
+        → IsStable (IsInMemoryNotOwnedByDevice (scratch_frame_address port) 512) d }
 {
     law_prerequisites();
 }
 
-/// So may bytes of a client's frame that isn't lent, for its owner.
-pub fn law_client_bytes_are_accessible()
+/// The device owns no byte of a client's frame that isn't lent, whatever it does: its owner may load and store it.
+pub fn law_device_owns_no_unlent_client_bytes()
     ensures { (uses : SlotStates) (m : Machine) (d : Device) → IsReachable m → StateRelation uses m d
         → (client : ClientId)
         (frame : Frame) (offset n : ℕ) → FRAME_BYTES * frame.0 + FRAME_BYTES ≤ d.memory_size
         → MayAccessFrame m.owner m.lent client frame offset n
-        → IsStable (IsUnowned (FRAME_BYTES * frame.0 + offset) n) d }
+        → IsStable (IsInMemoryNotOwnedByDevice (FRAME_BYTES * frame.0 + offset) n) d }
 {
     law_prerequisites();
 }
@@ -426,7 +427,7 @@ pub fn law_client_bytes_are_accessible()
 /// Bytes that the driver may store are free for it, whatever the device does first.
 pub fn law_driver_stores_are_permitted()
     ensures { (uses : SlotStates) (m : Machine) (d : Device) → IsReachable m → StateRelation uses m d → (at n : ℕ)
-        → at + n ≤ d.memory_size → MayStore uses at n → IsStable (IsUnowned at n) d }
+        → at + n ≤ d.memory_size → IsInMemoryOfFreeSlot uses at n → IsStable (IsInMemoryNotOwnedByDevice at n) d }
 {
     law_prerequisites();
 }
@@ -475,7 +476,7 @@ pub fn law_writing_cmd_is_permitted()
 
 /// PxIS is written, and then the port's bit of IS may be, with those of ports whose PxIS was written since it was last
 /// read, and since their own bits were.
-pub fn law_acknowledging_is_permitted()
+pub fn law_hba_is_write_after_pxis_is_permitted()
     ensures { (port : Port) (v : ℕ) (old new : Device) → IsOn old → Writes (Px port Is) v old new
         → (ports : ℕ) → ((q : ℕ) → q < 32 → bit ports q ≡ true → (q ≡ port.0)
         ⊎ ((old.port q).notes.acknowledged ≡ true))
@@ -486,7 +487,8 @@ pub fn law_acknowledging_is_permitted()
 pub fn law_own_issuing_is_permitted()
     ensures { (uses : SlotStates) (m : Machine) (d : Device) → IsReachable m → StateRelation uses m d
         → (port : Port) (o : Operation)
-        (v : ℕ) → IsOn d → HasPort d port.0 → IsOwnPrepared uses d port.0 o v → IsStable (MayWrite (Px port Ci) v) d }
+        (v : ℕ) → IsOn d → HasPort d port.0 → IsOwnCommandPreparedInSlot0 uses d port.0 o v
+        → IsStable (MayWrite (Px port Ci) v) d }
 {
     law_prerequisites();
 }
@@ -528,8 +530,8 @@ pub fn law_a_parked_read_agrees()
 
 /// There is one that keeps the read: it was answered PortDead, with its frames lent, while the slot serves it still;
 /// and once the driver has taken it from there, the frames may be given back.
-pub fn law_a_kept_read_agrees()
-    ensures { KeptReadAgrees }
+pub fn law_a_port_dead_read_agrees()
+    ensures { PortDeadReadAgreesServedAndParked }
 {
     law_prerequisites();
 }

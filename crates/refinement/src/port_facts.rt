@@ -3,12 +3,12 @@
 ghost use Rattle.std.specs.Prelude.{ℕ, true, false, ◌≡◌, ◌≢◌, ◌≤◌, ◌+◌, ◌*◌, ◌/◌, ◌%◌, ◌++◌, List, length, drop, Some, None, Contains, All};
 ghost use Rattle.ata_types.specs.{declared.Port.{Port}, declared.memory.TheConstants.{DRIVER_FRAMES, FRAME_BYTES}, declared.request.Frame.{Frame}, declared.request.RequestId.{RequestId}};
 ghost use Rattle.hba_regs.specs.{Bits.{bit}, declared.reg.Reg.{Reg}, declared.reg.Reg.TheVariants.{Ghc, Px}, declared.reg.PortReg.TheVariants.{Is, Ie, Cmd, Tfd, Sig, Ssts, Sctl, Serr, Ci, Sact, Clb, Clbu, Fb, Fbu}, declared.reg.PortReg.{PortReg}};
-ghost use Rattle.adapter.specs.{Access.{Reads, Writes, Loads, Stores, Access, Does, DoesAll, PortShows, notes_after_reading}, Access.Access.{Writing}, Device.{Device, DevicePort}, Device.Halt.{HaltedPlain}, FirstRead.{first_read_device}, Idle.{IsIdle, IsIdlePort}, Rules.{IsUnowned, IsOn, MayWrite, IsStable}, Steps.{Steps}, declared.command.Operation.{Operation}, declared.tape.Entry.{Entry}};
+ghost use Rattle.adapter.specs.{Access.{Reads, Writes, Loads, Stores, Access, Does, DoesAll, PortShows, notes_after_reading}, Access.Access.{Writing}, Device.{Device, DevicePort}, Device.Halt.{HaltedPlain}, FirstRead.{first_read_device}, Idle.{IsIdle, IsIdlePort}, Rules.{IsInMemoryNotOwnedByDevice, IsOn, MayWrite, IsStable}, Steps.{Steps}, declared.command.Operation.{Operation}, declared.tape.Entry.{Entry}};
 ghost use Rattle.block_machine.specs.{Events.{AllByDevice}, Histories.{IsReachable, IsSimulatedBySteps}, Expected.{after}, State.{Pending, Machine}, Steps.{Step, Release, MayStillMove, NoneKept, after_step}};
-ghost use Rattle.refinement.specs.{Relation.{StateRelation}, AwaitedPage.{AwaitsOrHasPage}, BootWitness.{BootWitness}, Fragments.{TapeGrows}, Driver.{DriverState, DriverRelation, IsOwnPrepared}, Errors.{KeepsSetBitsOfPxisAndSerrNX, NoDiskComes, LinkErrorsRiseByDisks, ErrorBitsStayClear, NoFatalErrors, NoFaults, ErrorBitsRiseByErrors, IsLeftByReset, ShowsResetStateUntilSerrX, IsCompositional, IsEngineWork}};
-ghost use Rattle.refinement.specs.PortFacts.{IsEngineStopped, IsQuiescentPort, FollowsAndHasPageSinceStart, DeviceSparesFrame, CommandsAreOver, RunsWell, Undisturbed, ShowsNoTrouble, PxisValueTellsNoTrouble, ClearsNoTrouble, IsFaulted, ShowsFault, RecordsFaults, RecordsFaultsIfSt, IsStoppedWithDrqWhileLinkAwaited, CrAndTfesAreClear, IsCleanToStart, StartsCleanAndWritesSctlStopped, EndedIn, IsSlotClear};
-ghost use Rattle.refinement.specs.{PreservedParts.{DoesNotWrite, SameAdapter, ControlsChangeOnlyByTheirWrites, NoPlugEvents, KeepsDisk, LinkIsSameOrComesUp, ShowsDiskIfIn}, PortNotes.{ReadingNotesChangeByReadOrSctlWriteOnly, NotesLast}, MemoryLayout.{scratch_frame_address}, Slots.{SlotStates, Free, Own, Serves, IsOver, PageStandsInScratch, set_slot_state}, SparedBook.{IsNotStepOfPendingRequest}, Staying.{StaysOverReadings, StaysOverSteps, StaysOverWrites}};
-ghost use Rattle.refinement.specs.StartedPort.{IsUpForStart, IsStoppedAndUpForStartIfShown, IsStarted, SetsNoStart, ClearsNoStart};
+ghost use Rattle.refinement.specs.{Relation.{StateRelation}, AwaitedPage.{AwaitsOrHasPage}, BootWitness.{BootWitness}, Fragments.{TapeGrows}, Driver.{DriverState, DriverRelation, IsOwnCommandPreparedInSlot0}, Errors.{KeepsSetBitsOfPxisAndSerrNX, NoDiskComes, LinkErrorsRiseByDisks, ErrorBitsStayClear, NoFatalErrors, NoFaults, ErrorBitsRiseByErrors, IsLeftByReset, ShowsResetStateUntilSerrX, IsCompositional, IsEngineWorkOrErrorOf}};
+ghost use Rattle.refinement.specs.PortFacts.{IsEngineStopped, IsQuiescentPort, FollowsAndHasPageSinceStSet, DeviceOwnsNoByteOfFrame, CommandsAreOver, RunsWell, Undisturbed, ShowsNoTrouble, PxisValueTellsNoTrouble, ClearsNoTrouble, IsHaltedPlainOrQueued, ShowsFault, RecordsFaults, RecordsFaultsIfSt, WhileLinkAwaitedCrIsClearAndDrqSet, CrAndTfesAreClear, IsCleanToStart, StartsCleanAndWritesSctlStopped, EndedOnPort, IsSlotClear};
+ghost use Rattle.refinement.specs.{PreservedParts.{DoesNotWrite, SameAdapter, ControlsChangeOnlyByTheirWrites, NoPlugEvents, KeepsDisk, LinkIsSameOrComesUp, HasDet3IfDiskPresent}, PortNotes.{ReadingNotesChangeByReadOrSctlWriteOnly, NotesLast}, MemoryLayout.{scratch_frame_address}, Slots.{SlotStates, Free, Own, Serves, IsOver, PageCameSinceAndStandsInScratch, set_slot_state}, SparedBook.{IsNotStepOfPendingRequest}, Staying.{StaysOverReadings, StaysOverSteps, StaysOverPermittedWritesWithCmdValue}};
+ghost use Rattle.refinement.specs.StartedPort.{IsUpForStart, IsStoppedAndUpForStartIfShown, IsStarted, WritesCmdOnlyWithStClear, WritesCmdOnlyWithStSet};
 
 use super::prerequisites::law_prerequisites;
 use adapter::laws::law_step_lists_keep_what_steps_keep;
@@ -18,7 +18,7 @@ use adapter::laws::law_step_lists_keep_what_steps_keep;
 pub fn law_stopped_engine_stays()
     ensures steps { StaysOverSteps IsEngineStopped }
     ensures reads { StaysOverReadings IsEngineStopped }
-    ensures writes { StaysOverWrites (λ v. bit v 0 ≡ false) IsEngineStopped }
+    ensures writes { StaysOverPermittedWritesWithCmdValue (λ v. bit v 0 ≡ false) IsEngineStopped }
     ensures idle { (p : DevicePort) → IsIdlePort p → IsEngineStopped p }
 {
     law_prerequisites();
@@ -52,7 +52,7 @@ pub fn law_reset_is_found()
         → (port : ℕ) → ShowsResetStateUntilSerrX (new.port port) }
     ensures stays { StaysOverSteps IsQuiescentPort }
     ensures reads { StaysOverReadings IsQuiescentPort }
-    ensures writes { StaysOverWrites (λ v. (bit v 0 ≡ false) × (bit v 4 ≡ false)) IsQuiescentPort }
+    ensures writes { StaysOverPermittedWritesWithCmdValue (λ v. (bit v 0 ≡ false) × (bit v 4 ≡ false)) IsQuiescentPort }
     ensures idle { (p : DevicePort) → IsIdlePort p → IsQuiescentPort p }
     ensures is_idle { (p : DevicePort) → IsQuiescentPort p → IsIdlePort p }
 {
@@ -67,11 +67,11 @@ pub fn law_ended_is_clear()
     ensures clears { (uses : SlotStates) (m : Machine) (d : Device) (port : Port) (slot : ℕ) (e : Pending)
         → IsReachable m
         → StateRelation uses m d → MayStillMove m e → e.ended ≡ true → uses port.0 slot ≡ Serves e.request.id
-        → IsSlotClear (d.port port.0) slot × EndedIn m port e.request.id }
+        → IsSlotClear (d.port port.0) slot × EndedOnPort m port e.request.id }
     ensures ends { (uses : SlotStates) (m : Machine) (d : Device) (port : Port) (slot : ℕ) (id : RequestId)
         → StateRelation uses m d
         → uses port.0 slot ≡ Serves id → (d.port port.0).st ≡ true → (d.port port.0).ci slot ≡ false
-        → (d.port port.0).sact slot ≡ false → IsSlotClear (d.port port.0) slot × EndedIn m port id }
+        → (d.port port.0).sact slot ≡ false → IsSlotClear (d.port port.0) slot × EndedOnPort m port id }
 {}
 
 /// A slot's command that is over stays so, and so do its clear bits, whatever the device does, and over each access
@@ -91,12 +91,12 @@ pub fn law_over_stays()
         → ((v : ℕ) → access ≡ Writing (Px port Sact) v → bit v slot ≡ false) → Does access old new
         → IsSlotClear (old.port port.0) slot → IsSlotClear (new.port port.0) slot }
     ensures ended { (m : Machine) (steps : List Step) (port : Port) (id : RequestId) → AllByDevice steps
-        → EndedIn m port id → EndedIn (after m steps) port id }
+        → EndedOnPort m port id → EndedOnPort (after m steps) port id }
     ensures ended_beside { (m : Machine) (step : Step) (port : Port) (id : RequestId)
         → IsNotStepOfPendingRequest id step
-        → step ≢ Release → EndedIn m port id → EndedIn (after_step m step) port id }
-    ensures ended_released { (m : Machine) (port : Port) (id : RequestId) → NoneKept m port → EndedIn m port id
-        → EndedIn (after_step m Release) port id }
+        → step ≢ Release → EndedOnPort m port id → EndedOnPort (after_step m step) port id }
+    ensures ended_released { (m : Machine) (port : Port) (id : RequestId) → NoneKept m port → EndedOnPort m port id
+        → EndedOnPort (after_step m Release) port id }
 {
     law_prerequisites();
 }
@@ -108,7 +108,8 @@ pub fn law_over_stays()
 pub fn law_page_is_awaited()
     ensures issued { (uses : SlotStates) (m : Machine) (port : Port) (o : Operation) (v : ℕ) (old new : Device)
         → IsReachable m
-        → StateRelation uses m old → old.hr ≡ false → IsOwnPrepared uses old port.0 o v → Writes (Px port Ci) v old new
+        → StateRelation uses m old → old.hr ≡ false → IsOwnCommandPreparedInSlot0 uses old port.0 o v
+        → Writes (Px port Ci) v old new
         → AwaitsOrHasPage (set_slot_state uses port.0 0 (Own o)) port.0 o (length new.tape) new }
     ensures steps { (uses : SlotStates) (m : Machine) (port : ℕ) (o : Operation) (since : ℕ) (old new : Device)
         → IsReachable m
@@ -116,18 +117,19 @@ pub fn law_page_is_awaited()
         → AwaitsOrHasPage uses port o since new }
     ensures access { (uses : SlotStates) (m : Machine) (port : Port) (o : Operation) (since : ℕ) (access : Access)
         (old new : Device)
-        → IsReachable m → StateRelation uses m old → ClearsNoStart port access → new.hr ≡ false → Does access old new
+        → IsReachable m → StateRelation uses m old → WritesCmdOnlyWithStSet port access → new.hr ≡ false
+        → Does access old new
         → AwaitsOrHasPage uses port.0 o since old → AwaitsOrHasPage uses port.0 o since new }
     ensures found { (uses : SlotStates) (m : Machine) (port : Port) (o : Operation) (since v : ℕ) (old new : Device)
         → IsReachable m → StateRelation uses m old → AwaitsOrHasPage uses port.0 o since old
         → Reads (Px port Ci) v old new
-        → bit v 0 ≡ false → FollowsAndHasPageSinceStart uses m port.0 o old new
-        × PageStandsInScratch new.memory new.tape port.0 o since }
+        → bit v 0 ≡ false → FollowsAndHasPageSinceStSet uses m port.0 o old new
+        × PageCameSinceAndStandsInScratch new.memory new.tape port.0 o since }
     ensures loaded { (uses : SlotStates) (m : Machine) (port : ℕ) (o : Operation) (since : ℕ) (bytes : List ℕ)
         (old new : Device)
         → IsReachable m → StateRelation uses m old → AwaitsOrHasPage uses port o since old → IsOver (old.port port) 0
         → Loads (scratch_frame_address port) bytes old new → length bytes ≡ 512
-        → (b : PageStandsInScratch new.memory new.tape port o since) × (bytes ≡ b.move.bytes.value) }
+        → (b : PageCameSinceAndStandsInScratch new.memory new.tape port o since) × (bytes ≡ b.move.bytes.value) }
 {
     law_prerequisites();
 }
@@ -135,20 +137,20 @@ pub fn law_page_is_awaited()
 /// Where the commands of a request are over, the device uses none of the frames that are lent to it any more, whatever
 /// it does; so they may leave the loan. (One slot alone serves a request.) Nor does it use a client's frame that is
 /// lent to nobody, nor any frame where it is idle. The bytes of such a frame may be loaded and stored.
-pub fn law_device_spares_frames()
+pub fn law_device_never_owns_frames_out_of_use()
     ensures lent { (uses : SlotStates) (m : Machine) (d : Device) (frame : Frame) (id : RequestId) → IsReachable m
         → StateRelation uses m d → m.lent frame ≡ Some id → CommandsAreOver uses d id
-        → IsStable (DeviceSparesFrame frame) d }
+        → IsStable (DeviceOwnsNoByteOfFrame frame) d }
     ensures unlent { (uses : SlotStates) (m : Machine) (d : Device) (frame : Frame) → IsReachable m
         → StateRelation uses m d
-        → m.lent frame ≡ None → DRIVER_FRAMES ≤ frame.0 → IsStable (DeviceSparesFrame frame) d }
+        → m.lent frame ≡ None → DRIVER_FRAMES ≤ frame.0 → IsStable (DeviceOwnsNoByteOfFrame frame) d }
     ensures over { (uses : SlotStates) (m : Machine) (d : Device) (port slot : ℕ) (id : RequestId)
         → StateRelation uses m d
         → uses port slot ≡ Serves id → IsOver (d.port port) slot → CommandsAreOver uses d id }
-    ensures idle { (d : Device) (frame : Frame) → IsIdle d → IsStable (DeviceSparesFrame frame) d }
-    ensures free { (d : Device) (frame : Frame) (offset n : ℕ) → IsStable (DeviceSparesFrame frame) d
+    ensures idle { (d : Device) (frame : Frame) → IsIdle d → IsStable (DeviceOwnsNoByteOfFrame frame) d }
+    ensures free { (d : Device) (frame : Frame) (offset n : ℕ) → IsStable (DeviceOwnsNoByteOfFrame frame) d
         → FRAME_BYTES * frame.0 + FRAME_BYTES ≤ d.memory_size → offset + n ≤ FRAME_BYTES
-        → IsStable (IsUnowned (FRAME_BYTES * frame.0 + offset) n) d }
+        → IsStable (IsInMemoryNotOwnedByDevice (FRAME_BYTES * frame.0 + offset) n) d }
 {}
 
 /// While no reset is pending, a healthy port on which nothing goes wrong stays healthy, whatever else the device does,
@@ -235,7 +237,8 @@ pub fn law_shown_link_is_up_for_start()
     ensures steps { (port : ℕ) (old new : Device) → NoDiskComes port old new → Steps old new
         → IsStoppedAndUpForStartIfShown (old.port port)
         → IsStoppedAndUpForStartIfShown (new.port port) }
-    ensures access { (port : Port) (access : Access) (old new : Device) → SetsNoStart port access → Does access old new
+    ensures access { (port : Port) (access : Access) (old new : Device) → WritesCmdOnlyWithStClear port access
+        → Does access old new
         → NoDiskComes port.0 old new → IsStoppedAndUpForStartIfShown (old.port port.0)
         → IsStoppedAndUpForStartIfShown (new.port port.0) }
     ensures found { (port : Port) (v : ℕ) (old new : Device) → NoDiskComes port.0 old new
@@ -245,7 +248,7 @@ pub fn law_shown_link_is_up_for_start()
         → NoPlugEvents port old new
         → Steps old new → IsUpForStart (old.port port) → IsUpForStart (new.port port) }
     ensures stays_access { (port : Port) (access : Access) (old new : Device) → old.hr ≡ false
-        → (old.port port.0).cr ≡ false → SetsNoStart port access → DoesNotWrite (Px port Sctl) access
+        → (old.port port.0).cr ≡ false → WritesCmdOnlyWithStClear port access → DoesNotWrite (Px port Sctl) access
         → NoPlugEvents port.0 old new → Does access old new → IsUpForStart (old.port port.0)
         → IsUpForStart (new.port port.0) }
     ensures undisturbed { (port : ℕ) (old new : Device) → old.hr ≡ false → Undisturbed port old new → Steps old new
@@ -270,7 +273,8 @@ pub fn law_running_well_is_found()
         → NoPlugEvents port.0 old new → IsStarted (new.port port.0) }
     ensures steps { (port : ℕ) (old new : Device) → old.hr ≡ false → Undisturbed port old new → Steps old new
         → IsStarted (old.port port) → IsStarted (new.port port) }
-    ensures access { (port : Port) (access : Access) (old new : Device) → old.hr ≡ false → ClearsNoStart port access
+    ensures access { (port : Port) (access : Access) (old new : Device) → old.hr ≡ false
+        → WritesCmdOnlyWithStSet port access
         → DoesNotWrite (Px port Sctl) access → Undisturbed port.0 old new → Does access old new
         → IsStarted (old.port port.0) → IsStarted (new.port port.0) }
     ensures started_runs_well { (p : DevicePort) → IsStarted p → ShowsNoTrouble p → RunsWell p }
@@ -402,7 +406,7 @@ pub fn law_controls_are_set()
 /// after the device's steps or an access, or is read 0, no disk of the port went or came, and it was 0 before. A disk
 /// that goes and comes between the link's coming up and the clearing of PxSERR sets N alone, which the link may have
 /// set, too: that is found only where N is read 0 before it is cleared.
-pub fn law_plug_events_are_found()
+pub fn law_serr_n_shows_plug_events()
     ensures steps { (port : ℕ) (old new : Device) → old.hr ≡ false → Steps old new → (new.port port).serr_n ≡ false
         → ((old.port port).serr_n ≡ false) × NoPlugEvents port old new }
     ensures access { (port : Port) (access : Access) (old new : Device) → old.hr ≡ false
@@ -440,12 +444,13 @@ pub fn law_link_is_same_or_comes_up_without_plugs()
 
 /// While no reset is pending, a port whose PxSSTS.DET is 3 or that has no disk in goes on so: a disk that comes shows
 /// at once, and so does a link that comes up. Whatever the device does, and over each access but a write of PxSCTL.
-pub fn law_disk_in_stays_shown()
-    ensures steps { (port : ℕ) (old new : Device) → old.hr ≡ false → Steps old new → ShowsDiskIfIn (old.port port)
-        → ShowsDiskIfIn (new.port port) }
+pub fn law_det_3_if_disk_present_stays()
+    ensures steps { (port : ℕ) (old new : Device) → old.hr ≡ false → Steps old new
+        → HasDet3IfDiskPresent (old.port port)
+        → HasDet3IfDiskPresent (new.port port) }
     ensures access { (port : Port) (access : Access) (old new : Device) → old.hr ≡ false
-        → DoesNotWrite (Px port Sctl) access → Does access old new → ShowsDiskIfIn (old.port port.0)
-        → ShowsDiskIfIn (new.port port.0) }
+        → DoesNotWrite (Px port Sctl) access → Does access old new → HasDet3IfDiskPresent (old.port port.0)
+        → HasDet3IfDiskPresent (new.port port.0) }
 {
     law_prerequisites();
 }
@@ -481,22 +486,23 @@ pub fn law_faults_are_recorded()
 /// does a reset of the adapter; and so it stays, whatever the device does, over readings, over each write that may be
 /// made and keeps the record of faults, and over each access that writes neither PxCMD nor PxSCTL of the port. So it is
 /// where no link is due and PxSCTL.DET isn't 1, as on a port that runs.
-pub fn law_link_is_awaited()
+pub fn law_drq_is_shown_while_link_awaited()
     ensures begins { (port : Port) (v : ℕ) (old new : Device) → (old.port port.0).cr ≡ false → v % 16 ≡ 1
-        → Writes (Px port Sctl) v old new → IsStoppedWithDrqWhileLinkAwaited (new.port port.0) }
-    ensures steps { StaysOverSteps IsStoppedWithDrqWhileLinkAwaited }
-    ensures reads { StaysOverReadings IsStoppedWithDrqWhileLinkAwaited }
+        → Writes (Px port Sctl) v old new → WhileLinkAwaitedCrIsClearAndDrqSet (new.port port.0) }
+    ensures steps { StaysOverSteps WhileLinkAwaitedCrIsClearAndDrqSet }
+    ensures reads { StaysOverReadings WhileLinkAwaitedCrIsClearAndDrqSet }
     ensures writes { (port : ℕ) (r : Reg) (v : ℕ) (old new : Device) → IsStable (MayWrite r v) old
         → IsStable (StartsCleanAndWritesSctlStopped r v) old → Writes r v old new
-        → IsStoppedWithDrqWhileLinkAwaited (old.port port)
-        → IsStoppedWithDrqWhileLinkAwaited (new.port port) }
+        → WhileLinkAwaitedCrIsClearAndDrqSet (old.port port)
+        → WhileLinkAwaitedCrIsClearAndDrqSet (new.port port) }
     ensures access { (port : Port) (access : Access) (old new : Device) → DoesNotWrite (Px port Cmd) access
-        → DoesNotWrite (Px port Sctl) access → Does access old new → IsStoppedWithDrqWhileLinkAwaited (old.port port.0)
-        → IsStoppedWithDrqWhileLinkAwaited (new.port port.0) }
+        → DoesNotWrite (Px port Sctl) access → Does access old new
+        → WhileLinkAwaitedCrIsClearAndDrqSet (old.port port.0)
+        → WhileLinkAwaitedCrIsClearAndDrqSet (new.port port.0) }
     ensures reset { (v : ℕ) (old new : Device) → old.hr ≡ true → Reads Ghc v old new → bit v 0 ≡ false
-        → (port : ℕ) → IsStoppedWithDrqWhileLinkAwaited (new.port port) }
-    ensures undue { (p : DevicePort) → p.link_due ≡ false → p.sctl_det ≢ 1 → IsStoppedWithDrqWhileLinkAwaited p }
-    ensures runs { IsStoppedWithDrqWhileLinkAwaited (first_read_device.port 0) }
+        → (port : ℕ) → WhileLinkAwaitedCrIsClearAndDrqSet (new.port port) }
+    ensures undue { (p : DevicePort) → p.link_due ≡ false → p.sctl_det ≢ 1 → WhileLinkAwaitedCrIsClearAndDrqSet p }
+    ensures runs { WhileLinkAwaitedCrIsClearAndDrqSet (first_read_device.port 0) }
 {
     law_prerequisites();
 }
@@ -511,7 +517,7 @@ pub fn law_clean_to_start_is_found()
     ensures reads { StaysOverReadings CrAndTfesAreClear }
     ensures writes { (port : Port) (r : Reg) (v : ℕ) (old new : Device) → (r ≡ Px port Cmd → bit v 0 ≡ false)
         → Writes r v old new → CrAndTfesAreClear (old.port port.0) → CrAndTfesAreClear (new.port port.0) }
-    ensures found { (port : Port) (v : ℕ) (old new : Device) → IsStoppedWithDrqWhileLinkAwaited (old.port port.0)
+    ensures found { (port : Port) (v : ℕ) (old new : Device) → WhileLinkAwaitedCrIsClearAndDrqSet (old.port port.0)
         → CrAndTfesAreClear (old.port port.0) → Reads (Px port Tfd) v old new → bit v 3 ≡ false
         → IsCleanToStart (new.port port.0) }
     ensures stays { StaysOverSteps IsCleanToStart }
@@ -531,18 +537,20 @@ pub fn law_clean_to_start_is_found()
 pub fn law_fault_is_found()
     ensures told { (port : Port) (v : ℕ) (old new : Device) → old.hr ≡ false → (old.port port.0).st ≡ true
         → RecordsFaultsIfSt old.tape (old.port port.0) port.0 → Reads (Px port Is) v old new → bit v 30 ≡ true
-        → IsFaulted (new.port port.0).halt }
+        → IsHaltedPlainOrQueued (new.port port.0).halt }
     ensures steps { (port : ℕ) (old new : Device) → old.hr ≡ false → (old.port port).st ≡ true
-        → RecordsFaultsIfSt old.tape (old.port port) port → IsFaulted (old.port port).halt → Steps old new
-        → IsFaulted (new.port port).halt }
+        → RecordsFaultsIfSt old.tape (old.port port) port → IsHaltedPlainOrQueued (old.port port).halt → Steps old new
+        → IsHaltedPlainOrQueued (new.port port).halt }
     ensures reads { (port : ℕ) (r : Reg) (v : ℕ) (old new : Device) → old.hr ≡ false → (old.port port).st ≡ true
-        → RecordsFaultsIfSt old.tape (old.port port) port → IsFaulted (old.port port).halt → Reads r v old new
-        → IsFaulted (new.port port).halt }
+        → RecordsFaultsIfSt old.tape (old.port port) port → IsHaltedPlainOrQueued (old.port port).halt
+        → Reads r v old new
+        → IsHaltedPlainOrQueued (new.port port).halt }
     ensures writes { (port : ℕ) (r : Reg) (v : ℕ) (old new : Device) → old.hr ≡ false → (old.port port).st ≡ true
-        → RecordsFaultsIfSt old.tape (old.port port) port → IsFaulted (old.port port).halt → Writes r v old new
-        → IsFaulted (new.port port).halt }
+        → RecordsFaultsIfSt old.tape (old.port port) port → IsHaltedPlainOrQueued (old.port port).halt
+        → Writes r v old new
+        → IsHaltedPlainOrQueued (new.port port).halt }
     ensures shown { (port : Port) (v : ℕ) (old new : Device) → old.hr ≡ false → (old.port port.0).st ≡ true
-        → RecordsFaultsIfSt old.tape (old.port port.0) port.0 → IsFaulted (old.port port.0).halt
+        → RecordsFaultsIfSt old.tape (old.port port.0) port.0 → IsHaltedPlainOrQueued (old.port port.0).halt
         → Reads (Px port Tfd) v old new
         → (s : ShowsFault (drop (new.port port.0).notes.st_set_at new.tape) (new.port port.0) port.0)
         × (v % 256 ≡ s.fault.status) × (v / 256 % 256 ≡ s.fault.error) }
@@ -594,11 +602,11 @@ pub fn law_link_errors_rise_by_disks()
 /// While a port's engine stands, no move, clearing, end, fault or fatal error of the port comes; and where no disk
 /// comes either, the disk holds what it did: whatever the device does, also over a reset of the adapter that ends, and
 /// over each access, also the write of ST itself.
-pub fn law_stopped_engine_is_silent()
+pub fn law_stopped_engine_records_no_work()
     ensures steps { (port : ℕ) (old new : Device) (gained : List Entry) → (old.port port).cr ≡ false → Steps old new
-        → new.tape ≡ old.tape ++ gained → All (λ e. IsEngineWork port e → ⊥) gained }
+        → new.tape ≡ old.tape ++ gained → All (λ e. IsEngineWorkOrErrorOf port e → ⊥) gained }
     ensures access { (port : ℕ) (access : Access) (old new : Device) (gained : List Entry) → (old.port port).cr ≡ false
-        → Does access old new → new.tape ≡ old.tape ++ gained → All (λ e. IsEngineWork port e → ⊥) gained }
+        → Does access old new → new.tape ≡ old.tape ++ gained → All (λ e. IsEngineWorkOrErrorOf port e → ⊥) gained }
     ensures disk { (port : ℕ) (old new : Device) → (old.port port).cr ≡ false → Steps old new → NoDiskComes port old new
         → (new.port port).disk ≡ (old.port port).disk }
     ensures disk_access { (port : ℕ) (access : Access) (old new : Device) → (old.port port).cr ≡ false

@@ -4,8 +4,8 @@ ghost use Rattle.ata_types.specs.declared.Port.{Port};
 ghost use Rattle.hba_regs.specs.{Bits.{bit}, declared.reg.Reg.TheVariants.{Px}, declared.reg.PortReg.TheVariants.{Clb, Sact, Ci}};
 ghost use Rattle.adapter.specs.{Access.{Writes, Access, Does, device_after_write}, Access.Access.{Storing, Writing}, Commands.{Meaning, is_queued}, Device.{Device}, Rules.{IsOn, HasPort, MayWrite, IsStable}, Steps.{Steps}};
 ghost use Rattle.block_machine.specs.{DueRequests.{is_plain}, Histories.{IsReachable}, State.{Pending, Machine}, Steps.{Issue, IsEnabled}, declared.due.QueueMode.{QueueMode}};
-ghost use Rattle.refinement.specs.{Acts.{Act, AreActsDone, accesses_of}, Relation.{StateRelation}, Fragments.{IsSoleBit}, Driver.{IsPrepared, DriverState, DriverAdvances, DriverRelation, MissesTableAndHeaderButPrdbc, with_slot_serving}, PreservedParts.{DoesNotWrite}, Slots.{Free, Armed, SlotStates, set_slot_state, MeansRequest, HasBlockIfTrim}, StartedPort.{ClearsNoStart}};
-ghost use Rattle.refinement.specs.ReadySlots.{IsStoredOnPortWithStSet, IsReadied, IsReadyToIssue, KeepsStoredCommand};
+ghost use Rattle.refinement.specs.{Acts.{Act, AreActsDone, accesses_of}, Relation.{StateRelation}, Fragments.{IsSoleBit}, Driver.{IsRequestPreparedToIssue, DriverState, DriverAdvances, DriverRelation, MissesTableAndHeaderButPrdbc, with_slot_serving}, PreservedParts.{DoesNotWrite}, Slots.{Free, Armed, SlotStates, set_slot_state, MeansRequest, HasBlockIfTrim}, StartedPort.{WritesCmdOnlyWithStSet}};
+ghost use Rattle.refinement.specs.ReadySlots.{IsStoredOnPortWithStSet, IsStoredAndArmedIffQueued, IsReadyToIssue, KeepsStoredCommand};
 
 use super::prerequisites::law_prerequisites;
 
@@ -19,7 +19,8 @@ pub fn law_stored_stays()
         → IsStoredOnPortWithStSet new port slot c places }
     ensures access { (uses : SlotStates) (m : Machine) (port : Port) (slot : ℕ) (c : Meaning) (places : List ℕ)
         (access : Access)
-        (old new : Device) → IsReachable m → StateRelation uses m old → old.hr ≡ false → ClearsNoStart port access
+        (old new : Device) → IsReachable m → StateRelation uses m old → old.hr ≡ false
+        → WritesCmdOnlyWithStSet port access
         → DoesNotWrite (Px port Clb) access
         → ((at : ℕ) (bytes : List ℕ) → access ≡ Storing at bytes
         → MissesTableAndHeaderButPrdbc port.0 slot at (length bytes))
@@ -37,24 +38,24 @@ pub fn law_readied_may_be_issued()
         → ((slot : ℕ) → bit v slot ≡ true → IsReadyToIssue uses d port.0 slot) → IsStable (MayWrite (Px port Ci) v) d }
     ensures prepared { (uses : SlotStates) (m : Machine) (d : Device) (port slot : ℕ) (c : Meaning) (places : List ℕ)
         (mode : QueueMode) (e : Pending)
-        (v : ℕ) → IsReadied uses d port slot c places → IsEnabled m (Issue mode e) → e.request.port.0 ≡ port
+        (v : ℕ) → IsStoredAndArmedIffQueued uses d port slot c places → IsEnabled m (Issue mode e) → e.request.port.0
+        ≡ port
         → slot < mode.usable_slots
         → (is_plain mode e.request.asked.op ≡ true → slot ≡ 0) → MeansRequest port slot e.request c places
         → is_queued c.operation ≡ not (is_plain mode e.request.asked.op)
         → HasBlockIfTrim e.request.asked.op d.memory port e.request → bit v slot ≡ true
-        → ((k : ℕ) → k ≢ slot → bit v k ≡ false) → IsPrepared uses m d port slot mode e v }
+        → ((k : ℕ) → k ≢ slot → bit v k ≡ false) → IsRequestPreparedToIssue uses m d port slot mode e v }
     ensures readied { (uses : SlotStates) (m : Machine) (d : Device) (port slot : ℕ) (mode : QueueMode) (e : Pending)
         (v : ℕ)
-        → (x : IsPrepared uses m d port slot mode e v) → IsReadied uses d port slot x.command x.places }
+        → (x : IsRequestPreparedToIssue uses m d port slot mode e v)
+        → IsStoredAndArmedIffQueued uses d port slot x.command x.places }
 {
     law_prerequisites();
 }
 
 /// What one bit of a write does, with no step of the device. A bit of PxSACT arms its free slot on a running port,
-/// which
-/// is no step of the machine; and one of PxCI is its request's issue, where the slot is prepared. A write of several
-/// bits is followed so, one bit after another.
-pub fn law_bits_are_followed_in_turn()
+/// which is no step of the machine; and one of PxCI is its request's issue, where the slot is prepared.
+pub fn law_one_bit_arms_or_issues_slot()
     ensures arms { (k : DriverState) (m : Machine) (port : Port) (slot v : ℕ) → DriverRelation m k
         → k.slot_states port.0 slot ≡ Free → (k.device.port port.0).st ≡ true → IsSoleBit slot v
         → DriverAdvances k m []
@@ -64,7 +65,7 @@ pub fn law_bits_are_followed_in_turn()
               (Px port Sact) v k.device;
         }) }
     ensures issues { (k : DriverState) (m : Machine) (port : Port) (slot : ℕ) (mode : QueueMode) (e : Pending) (v : ℕ)
-        → IsReachable m → DriverRelation m k → IsPrepared k.slot_states m k.device port.0 slot mode e v
+        → IsReachable m → DriverRelation m k → IsRequestPreparedToIssue k.slot_states m k.device port.0 slot mode e v
         → DriverAdvances k m (Issue mode e ∷ [])
         (with_slot_serving k port.0 slot e.request.id (device_after_write (Px port Ci) v k.device)) }
 {}

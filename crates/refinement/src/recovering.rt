@@ -5,8 +5,8 @@ ghost use Rattle.ata_types.specs.declared.Port.{Port};
 ghost use Rattle.hba_regs.specs.{Bits.{bit}, declared.reg.Reg.TheVariants.{Px}, declared.reg.PortReg.TheVariants.{Is, Cmd, Sctl, Sact, Ci}};
 ghost use Rattle.adapter.specs.{Access.{Reads, Writes, Access, Does}, Device.{DevicePort, Device}, Device.Halt.{NotHalted}, Steps.{Steps}, declared.command.Operation.{Operation}};
 ghost use Rattle.block_machine.specs.{Histories.{IsReachable}, State.{Machine}};
-ghost use Rattle.refinement.specs.{Relation.{StateRelation}, Acts.{Act, AreActsDone, accesses_of}, Driver.{IsOwnPrepared, DriverState, DriverRelation}, Errors.{NoFatalErrors}, PortFacts.{RunsWell, PxisValueTellsNoTrouble, IsCleanToStart}, PreservedParts.{DoesNotWrite, NoPlugEvents}, Slots.{SlotState, SlotStates, Free, Own, set_slot_state}, Staying.{StaysInAgreement, StaysUnlessWritten}};
-ghost use Rattle.refinement.specs.{StartedPort.{IsUpForStart, IsStarted, ClearsNoStart}, Halting.{HaltIsOfTaken, HaltOfTakenIfSt}, HaltRecovery.{IsLinked, WorksOnUnqueuedCommandsOnly, RunsLinked, PlainSlot0IsIssuedOrNotHalted, FaultLeavesIssued}};
+ghost use Rattle.refinement.specs.{Relation.{StateRelation}, Acts.{Act, AreActsDone, accesses_of}, Driver.{IsOwnCommandPreparedInSlot0, DriverState, DriverRelation}, Errors.{NoFatalErrors}, PortFacts.{RunsWell, PxisValueTellsNoTrouble, IsCleanToStart}, PreservedParts.{DoesNotWrite, NoPlugEvents}, Slots.{SlotState, SlotStates, Free, Own, set_slot_state}, Staying.{StaysOverStepsIfMachineAgrees, StaysUnlessWrittenIfMachineAgrees}};
+ghost use Rattle.refinement.specs.{StartedPort.{IsUpForStart, IsStarted, WritesCmdOnlyWithStSet}, Halting.{NotLogOnlyAndQueuedHaltHasTakenCommand, NotLogOnlyAndQueuedHaltHasTakenCommandIfSt}, HaltRecovery.{IsLinked, WorksOnUnqueuedCommandsOnly, RunsLinked, PlainSlot0IsIssuedOrNotHalted, FaultLeavesIssued}};
 
 use super::prerequisites::law_prerequisites;
 
@@ -30,8 +30,8 @@ pub fn law_link_stays_online()
 /// once ST is set. A port that runs without a halt does so exactly if no bit of PxSACT is set. And then the link is up
 /// for a start.
 pub fn law_plain_work_stays()
-    ensures steps { StaysInAgreement WorksOnUnqueuedCommandsOnly }
-    ensures access { StaysUnlessWritten Sact WorksOnUnqueuedCommandsOnly }
+    ensures steps { StaysOverStepsIfMachineAgrees WorksOnUnqueuedCommandsOnly }
+    ensures access { StaysUnlessWrittenIfMachineAgrees Sact WorksOnUnqueuedCommandsOnly }
     ensures runs { (uses : SlotStates) (m : Machine) (port : ℕ) (d : Device) → StateRelation uses m d
         → (d.port port).st ≡ true
         → (d.port port).halt ≡ NotHalted → ((slot : ℕ) → (d.port port).sact slot ≡ false)
@@ -46,18 +46,19 @@ pub fn law_plain_work_stays()
     law_prerequisites();
 }
 
-/// While ST is one, a queued command that has halted a port is taken still, and READ LOG EXT isn't awaited: so it stays
+/// While ST is one, READ LOG EXT isn't awaited, and a queued command is taken if one has halted the port: so it stays
 /// where the machine agrees with the device, whatever the device does, over each access but a write of PxCMD, and over
 /// acts without one. So it is without a halt, and of a port that works on plain commands alone.
-pub fn law_halts_are_of_taken_commands()
-    ensures steps { StaysInAgreement HaltOfTakenIfSt }
-    ensures access { StaysUnlessWritten Cmd HaltOfTakenIfSt }
+pub fn law_queued_halt_has_taken_command()
+    ensures steps { StaysOverStepsIfMachineAgrees NotLogOnlyAndQueuedHaltHasTakenCommandIfSt }
+    ensures access { StaysUnlessWrittenIfMachineAgrees Cmd NotLogOnlyAndQueuedHaltHasTakenCommandIfSt }
     ensures acts { (port : Port) (acts : List Act) (k later : DriverState) (m : Machine) → IsReachable m
         → DriverRelation m k
         → AreActsDone acts k m later → All (DoesNotWrite (Px port Cmd)) (accesses_of acts)
-        → HaltOfTakenIfSt (k.device.port port.0) → HaltOfTakenIfSt (later.device.port port.0) }
-    ensures without_halt { (p : DevicePort) → p.halt ≡ NotHalted → HaltIsOfTaken p }
-    ensures plain { (p : DevicePort) → WorksOnUnqueuedCommandsOnly p → HaltIsOfTaken p }
+        → NotLogOnlyAndQueuedHaltHasTakenCommandIfSt (k.device.port port.0)
+        → NotLogOnlyAndQueuedHaltHasTakenCommandIfSt (later.device.port port.0) }
+    ensures without_halt { (p : DevicePort) → p.halt ≡ NotHalted → NotLogOnlyAndQueuedHaltHasTakenCommand p }
+    ensures plain { (p : DevicePort) → WorksOnUnqueuedCommandsOnly p → NotLogOnlyAndQueuedHaltHasTakenCommand p }
 {
     law_prerequisites();
 }
@@ -72,7 +73,8 @@ pub fn law_running_goes_on()
     ensures steps { (port : ℕ) (old new : Device) → old.hr ≡ false → NoPlugEvents port old new
         → NoFatalErrors port old new
         → Steps old new → RunsLinked (old.port port) → RunsLinked (new.port port) }
-    ensures access { (port : Port) (access : Access) (old new : Device) → old.hr ≡ false → ClearsNoStart port access
+    ensures access { (port : Port) (access : Access) (old new : Device) → old.hr ≡ false
+        → WritesCmdOnlyWithStSet port access
         → DoesNotWrite (Px port Sctl) access → NoPlugEvents port.0 old new → NoFatalErrors port.0 old new
         → Does access old new → RunsLinked (old.port port.0) → RunsLinked (new.port port.0) }
     ensures started { (p : DevicePort) → RunsLinked p → p.halt ≡ NotHalted → IsStarted p }
@@ -84,18 +86,19 @@ pub fn law_running_goes_on()
 /// whatever the device does, and over each access that doesn't clear ST, doesn't write PxSACT and leaves no reset
 /// pending. Once PxCI is read with bit 0 clear, no fault halts the port; and where PxIS is read then with no trouble,
 /// it runs well.
-pub fn law_halt_is_ended()
+pub fn law_own_command_end_ends_halt()
     ensures issued { (uses : SlotStates) (m : Machine) (port : Port) (o : Operation) (v : ℕ) (old new : Device)
         → IsReachable m
         → StateRelation uses m old → old.hr ≡ false → ((slot : ℕ) → slot ≢ 0 → uses port.0 slot ≡ Free)
-        → IsOwnPrepared uses old port.0 o v → Writes (Px port Ci) v old new
+        → IsOwnCommandPreparedInSlot0 uses old port.0 o v → Writes (Px port Ci) v old new
         → PlainSlot0IsIssuedOrNotHalted (set_slot_state uses port.0 0 (Own o)) port.0 new }
     ensures steps { (uses : SlotStates) (m : Machine) (port : ℕ) (old new : Device) → IsReachable m
         → StateRelation uses m old
         → Steps old new → PlainSlot0IsIssuedOrNotHalted uses port old → PlainSlot0IsIssuedOrNotHalted uses port new }
     ensures access { (uses : SlotStates) (m : Machine) (port : Port) (access : Access) (old new : Device)
         → IsReachable m
-        → StateRelation uses m old → ClearsNoStart port access → DoesNotWrite (Px port Sact) access → new.hr ≡ false
+        → StateRelation uses m old → WritesCmdOnlyWithStSet port access → DoesNotWrite (Px port Sact) access → new.hr
+        ≡ false
         → Does access old new → PlainSlot0IsIssuedOrNotHalted uses port.0 old
         → PlainSlot0IsIssuedOrNotHalted uses port.0 new }
     ensures no_halt_once_over { (uses : SlotStates) (m : Machine) (port : Port) (v : ℕ) (old new : Device)
@@ -130,7 +133,7 @@ pub fn law_faults_show_before_the_end()
         → Steps old new → FaultLeavesIssued uses port old → FaultLeavesIssued uses port new }
     ensures access { (uses : SlotStates) (m : Machine) (port : Port) (access : Access) (old new : Device)
         → IsReachable m
-        → StateRelation uses m old → ClearsNoStart port access → DoesNotWrite (Px port Sact) access
+        → StateRelation uses m old → WritesCmdOnlyWithStSet port access → DoesNotWrite (Px port Sact) access
         → DoesNotWrite (Px port Sctl) access → new.hr ≡ false → Does access old new
         → FaultLeavesIssued uses port.0 old
         → FaultLeavesIssued uses port.0 new }

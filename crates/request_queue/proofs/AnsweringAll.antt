@@ -10,7 +10,7 @@ use Rattle.ata_types.specs.declared.request.Outcome.{Outcome}
 use Rattle.ata_types.specs.declared.request.Reply.{Reply}
 use Rattle.ata_types.specs.declared.request.RequestId.{RequestId}
 use Rattle.dma_frames.specs.FrameTables.{SetsLoanOnly, OwnersAndLoans, lent_to}
-use Rattle.request_queue.specs.BookEntries.{GivesBack, BookEntry, IsWellFormedEntry, IsEarlier, BookIsWellFormed, HasItsFrames, has_id, without_entry}
+use Rattle.request_queue.specs.BookEntries.{GivesBack, BookEntry, IsWellFormedEntry, IsEarlier, BookIsWellFormed, FramesAreLentToIt, has_id, without_entry}
 use Rattle.request_queue.specs.Dispositions.{CompletesAllWith, KeepsOrEndsLoan, BookAndLoans, AreResolved, keeps_loan, reply_to}
 use Rattle.request_queue.specs.declared.PendingRequest.{PendingRequest}
 use Rattle.request_queue.specs.declared.disposition.Disposition.TheVariants.{Complete}
@@ -84,7 +84,7 @@ module _ (o : Outcome) (back : (e : PendingRequest) → keeps_loan o e ≡ false
     given : GivesBack old.table new.table es
     kept : new.kept ≡ old.kept
 
-  all_met : (es : List BookEntry) (replies : List Reply) (old new : BookAndLoans) → AllPairs IsEarlier es → All (HasItsFrames old.table) es → AreResolved (λ e. Complete o) es replies old new → AllMet es replies old new
+  all_met : (es : List BookEntry) (replies : List Reply) (old new : BookAndLoans) → AllPairs IsEarlier es → All (FramesAreLentToIt old.table) es → AreResolved (λ e. Complete o) es replies old new → AllMet es replies old new
   all_met [] replies old new ordered stands (none, same) = record {
     told = none;
     left = ap (λ (h : BookAndLoans). h.book) same;
@@ -198,8 +198,8 @@ module _ (passes : PendingRequest → Bool) (o : Outcome) (back : (e : PendingRe
   ordered : AllPairs IsEarlier es
   ordered = AllPairs-filter IsEarlier (λ (e : BookEntry). passes e.request) old.book order.ids_rise
 
-  stand : All (HasItsFrames old.table) es
-  stand = All-filter (λ (e : BookEntry). passes e.request) (HasItsFrames old.table) old.book (λ i d small. (accepted i d small).frames_are_lent)
+  stand : All (FramesAreLentToIt old.table) es
+  stand = All-filter (λ (e : BookEntry). passes e.request) (FramesAreLentToIt old.table) old.book (λ i d small. (accepted i d small).frames_are_lent)
 
   pub one_by_one_is_at_once : (replies : List Reply) (new : BookAndLoans) → AreResolved (λ e. Complete o) es replies old new → CompletesAllWith passes o replies old new
   one_by_one_is_at_once replies new meets =

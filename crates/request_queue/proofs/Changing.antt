@@ -8,12 +8,13 @@ use Rattle.std.proofs.lemmas.List.Kept.{AllPairs-filter}
 use Rattle.std.proofs.lemmas.List.Quantifiers.{all_pairs_push}
 use Rattle.std.specs.Option.{IfSome}
 use Rattle.std.proofs.lemmas.Option.{slice_get-get_or, slice_get_within, get_or_from_slice_get, same_Some}
+use Rattle.ata_types.specs.declared.limits.TheConstants.{MOST_UNANSWERED_OF_A_CLIENT}
 use Rattle.ata_types.specs.declared.Port.{Port}
 use Rattle.ata_types.specs.declared.request.ClientId.{ClientId}
 use Rattle.ata_types.specs.declared.request.RequestId.{RequestId}
 use Rattle.block_machine.specs.declared.due.Unanswered.{Unanswered}
 use Rattle.block_machine.specs.DueRequests as machine
-use Rattle.request_queue.specs.BookEntries.{BookEntry, as_unanswered, unanswered_of, has_id, update_if_id, without_entry, issued_request, requeued_request, aged_request, with_revoked_mark_if_under_grant, entry_count_of_client, IsEarlier, BookIsWellFormed, IssuesAreWithinLimit, IsNewlyAccepted}
+use Rattle.request_queue.specs.BookEntries.{BookEntry, as_unanswered, unanswered_of, has_id, update_if_id, without_entry, issued_request, waiting_again_request, aged_request, with_revoked_mark_if_under_grant, entry_count_of_client, IsEarlier, BookIsWellFormed, IssuesAreWithinLimit, IsNewlyAccepted}
 use Rattle.request_queue.specs.declared.PendingRequest.{PendingRequest}
 use Rattle.request_queue.proofs.Members.{count_cons, count_append, count_map, contains_here, contains_there, contains_cases}
 use Rattle.block_machine.specs.Rules.{is_same_grant_name}
@@ -179,17 +180,17 @@ issued_in_order es id e s here named waits = one_in_order es id issued_request (
         let n = ap (λ (y : BookEntry). y.request.issue_count) is in
         (omega (arith, left, n), λ no. absurd (false≢true (sym no)))
 
-pub waiting_in_order : (es : List BookEntry) (id : RequestId) (e : BookEntry) → BookIsWellFormed es → Contains es e → e.request.id ≡ id → e.request.issue_count < 4 → BookIsWellFormed (map (update_if_id id requeued_request) es)
-waiting_in_order es id e s here named few = one_in_order es id requeued_request (λ r. refl) (λ r. refl) bears s
+pub waiting_in_order : (es : List BookEntry) (id : RequestId) (e : BookEntry) → BookIsWellFormed es → Contains es e → e.request.id ≡ id → e.request.issue_count < 4 → BookIsWellFormed (map (update_if_id id waiting_again_request) es)
+waiting_in_order es id e s here named few = one_in_order es id waiting_again_request (λ r. refl) (λ r. refl) bears s
   where
-    bears : (x : BookEntry) → Contains es x → x.request.id.0 ≡ id.0 → IssuesAreWithinLimit (requeued_request x.request)
+    bears : (x : BookEntry) → Contains es x → x.request.id.0 ≡ id.0 → IssuesAreWithinLimit (waiting_again_request x.request)
     bears x h same =
         let is : x ≡ e = one_by_id es x e s.ids_rise h here (same ∙ sym (ap (λ (i : RequestId). i.0) named)) in
         let n = ap (λ (y : BookEntry). y.request.issue_count) is in
         (omega (arith, few, n), λ no. omega (arith, few, n))
 
 pub longer_in_order : (es : List BookEntry) (e : BookEntry) → BookIsWellFormed es → All (λ x. x.request.id.0 < e.request.id.0) es → IsNewlyAccepted e.request → 1 ≤ e.request.client.0 → e.request.client.0 ≤ 8
-    → entry_count_of_client es e.request.client.0 < 16 → BookIsWellFormed (es ++ e ∷ [])
+    → entry_count_of_client es e.request.client.0 < MOST_UNANSWERED_OF_A_CLIENT → BookIsWellFormed (es ++ e ∷ [])
 longer_in_order es e s newest fresh low high has_room = record {
   ids_rise = all_pairs_push IsEarlier es e s.ids_rise newest;
   clients_are_valid = All-push (λ (x : BookEntry). (1 ≤ x.request.client.0) × (x.request.client.0 ≤ 8)) es e s.clients_are_valid (low, high);
@@ -208,9 +209,9 @@ longer_in_order es e s newest fresh low high has_room = record {
     small true = omega arith
     small false = omega arith
 
-    few : (client : ℕ) → (e.request.client.0 ≡ client) ⊎ (e.request.client.0 ≢ client) → entry_count_of_client (es ++ e ∷ []) client ≤ 16
+    few : (client : ℕ) → (e.request.client.0 ≡ client) ⊎ (e.request.client.0 ≢ client) → entry_count_of_client (es ++ e ∷ []) client ≤ MOST_UNANSWERED_OF_A_CLIENT
     few client (inl is) =
-        let P : ℕ → Type 0 = λ n. entry_count_of_client es n < 16 in
+        let P : ℕ → Type 0 = λ n. entry_count_of_client es n < MOST_UNANSWERED_OF_A_CLIENT in
         let here = subst P is has_room in
         omega (arith, counted client, small (e.request.client.0 == client), here)
     few client (inr other) =

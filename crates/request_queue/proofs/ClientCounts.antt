@@ -1,5 +1,5 @@
 -- How many requests there are, of a client and of all.
-use Rattle.ata_types.specs.declared.limits.TheConstants.{MOST_UNANSWERED}
+use Rattle.ata_types.specs.declared.limits.TheConstants.{MOST_UNANSWERED_OF_ALL_CLIENTS, MOST_UNANSWERED_OF_A_CLIENT}
 use Rattle.std.proofs.Common.{◌≢◌, ◌++◌, ◌∙◌, Some, drop, get_or, map, set, sym, take, ℕ, zero, suc, ◌≡◌, ◌<◌, ◌≤◌, ◌+◌, ◌*◌, ◌==◌, ◌⊎◌, Bool, true, false, cond, List, [], ◌∷◌, length, refl, ap, arith, ⊎_elim, inl, inr, ltb-true, lt-ltb, eq-eqb}
 use Rattle.std.specs.Prelude.{nat_lt}
 use Rattle.std.specs.List.{All, count_by, remove, slice_get}
@@ -59,12 +59,12 @@ all_below (e ∷ es) n to =
     let head : cond {A = ℕ} (nat_lt e.request.client.0 n) 1 0 ≡ 1 = ap (λ (b : Bool). cond {A = ℕ} b 1 0) (lt-ltb e.request.client.0 n (All-head (λ (x : BookEntry). x.request.client.0 < n) e es to)) in
     omega (arith, rest, head, count_cons (λ (x : BookEntry). nat_lt x.request.client.0 n) e es)
 
-module _ (book : List BookEntry) (from : All (λ e. 1 ≤ e.request.client.0) book) (few : (client : ℕ) → entry_count_of_client book client ≤ 16) where
+module _ (book : List BookEntry) (from : All (λ e. 1 ≤ e.request.client.0) book) (few : (client : ℕ) → entry_count_of_client book client ≤ MOST_UNANSWERED_OF_A_CLIENT) where
   at_most : (n : ℕ) → below book (suc n) ≤ 16 * n
   at_most zero = none_below book from
   at_most (suc n) = let rest = at_most n in let next = one_further book (suc n) in let f = few (suc n) in omega (arith, rest, next, f)
 
-  less : (n client : ℕ) → 1 ≤ client → client ≤ n → entry_count_of_client book client < 16 → below book (suc n) < 16 * n
+  less : (n client : ℕ) → 1 ≤ client → client ≤ n → entry_count_of_client book client < MOST_UNANSWERED_OF_A_CLIENT → below book (suc n) < 16 * n
   less zero client low high has_room = absurd (omega (arith, low, high))
   less (suc n) client low high has_room =
       let next = one_further book (suc n) in
@@ -79,14 +79,14 @@ module _ (book : List BookEntry) (from : All (λ e. 1 ≤ e.request.client.0) bo
       omega (arith, rest, next, f))
       (cases_eq client (suc n))
 
-  pub fits : (client : ℕ) → All (λ e. e.request.client.0 ≤ 8) book → 1 ≤ client → client ≤ 8 → entry_count_of_client book client < 16 → length book < MOST_UNANSWERED
+  pub fits : (client : ℕ) → All (λ e. e.request.client.0 ≤ 8) book → 1 ≤ client → client ≤ 8 → entry_count_of_client book client < MOST_UNANSWERED_OF_A_CLIENT → length book < MOST_UNANSWERED_OF_ALL_CLIENTS
   fits client to low high has_room =
       let all = all_below book 9 (λ k d small. let t = to k d small in omega (arith, t)) in
       let l = less 8 client low high has_room in
       omega (arith, all, l)
 
 -- so there are 128 at most
-pub all_fit : (book : List BookEntry) → All (λ e. 1 ≤ e.request.client.0) book → ((client : ℕ) → entry_count_of_client book client ≤ 16) → All (λ e. e.request.client.0 ≤ 8) book → length book ≤ MOST_UNANSWERED
+pub all_fit : (book : List BookEntry) → All (λ e. 1 ≤ e.request.client.0) book → ((client : ℕ) → entry_count_of_client book client ≤ MOST_UNANSWERED_OF_A_CLIENT) → All (λ e. e.request.client.0 ≤ 8) book → length book ≤ MOST_UNANSWERED_OF_ALL_CLIENTS
 all_fit book from few to =
     let all = all_below book 9 (λ k d small. let t = to k d small in omega (arith, t)) in
     let most = at_most book from few 8 in

@@ -7,8 +7,8 @@ use Rattle.std.proofs.lemmas.List.Edits.{length-insert, length-remove, get_or-in
 use Rattle.std.proofs.lemmas.List.Quantifiers.{all_pairs_remove}
 use Rattle.request_queue.specs.declared.ranges.RequestRange.{RequestRange}
 use Rattle.request_queue.specs.declared.ranges.IndexEntry.{IndexEntry}
-use Rattle.request_queue.specs.BookRanges.{AreSorted, StandsBefore, IsGreatestEnd, item_end, item_first}
-use Rattle.request_queue.specs.RangeIndex.{GreatestEndPropagates, IsIndex, items_of}
+use Rattle.request_queue.specs.BookRanges.{AreSorted, StandsBefore, EndIsGreatestUpTo, item_end, item_first}
+use Rattle.request_queue.specs.RangeIndex.{NextEndIsGreatestIfThis, IsSortedWithGreatestEndSoFar, items_of}
 use Rattle.request_queue.proofs.Ends.{next_end}
 use Rattle.request_queue.proofs.Sorting.{item_at, as_many, sorted_insert, itself}
 
@@ -22,12 +22,12 @@ items_set es i x greatest_end lt is =
     map-set (λ (k : IndexEntry). k.item) es i (record { item = x.item; greatest_end = greatest_end }) ∙ (ap (set (items_of es) i) same ∙ set-get_or (items_of es) i x.item)
 
 -- a greatest end is of the items up to it alone
-pub same_greatest : (old new : List RequestRange) (k greatest_end : ℕ) → ((j : ℕ) (d : RequestRange) → j ≤ k → get_or new j d ≡ get_or old j d) → IsGreatestEnd old k greatest_end → IsGreatestEnd new k greatest_end
+pub same_greatest : (old new : List RequestRange) (k greatest_end : ℕ) → ((j : ℕ) (d : RequestRange) → j ≤ k → get_or new j d ≡ get_or old j d) → EndIsGreatestUpTo old k greatest_end → EndIsGreatestUpTo new k greatest_end
 same_greatest old new k greatest_end same so = record {
   bounds_all_ends = λ j d le. let e = ap item_end (same j d le) in let h = so.bounds_all_ends j d le in omega (arith, e, h);
-  greatest_place = so.greatest_place;
+  place_of_end = so.place_of_end;
   place_is_in_range = so.place_is_in_range;
-  end_is_greatest = λ d. ap item_end (same so.greatest_place d so.place_is_in_range) ∙ so.end_is_greatest d;
+  end_is_greatest = λ d. ap item_end (same so.place_of_end d so.place_is_in_range) ∙ so.end_is_greatest d;
 }
 
 items_insert : (es : List IndexEntry) (place : ℕ) (x : IndexEntry) → items_of (insert es place x) ≡ insert (items_of es) place x.item
@@ -44,26 +44,26 @@ items_remove es place =
 
 -- an index again, where the items are in order and the greatest ends those of the items
 index_of : (grown new : List IndexEntry) → AreSorted (items_of grown) → items_of new ≡ items_of grown
-    → ((k : ℕ) (d : IndexEntry) → k < length grown → IsGreatestEnd (items_of grown) k (get_or new k d).greatest_end) → IsIndex new
+    → ((k : ℕ) (d : IndexEntry) → k < length grown → EndIsGreatestUpTo (items_of grown) k (get_or new k d).greatest_end) → IsSortedWithGreatestEndSoFar new
 index_of grown new sorted items ends = record {
   sorted = subst AreSorted (sym items) sorted;
   ends_are_greatest = λ k d lt.
       let a = as_many new in let b = as_many grown in let e = ap length items in
-      subst (λ (xs : List RequestRange). IsGreatestEnd xs k (get_or new k d).greatest_end) (sym items) (ends k d (omega (arith, a, b, e, lt)));
+      subst (λ (xs : List RequestRange). EndIsGreatestUpTo xs k (get_or new k d).greatest_end) (sym items) (ends k d (omega (arith, a, b, e, lt)));
 }
 
-module _ (old grown new : List IndexEntry) (place : ℕ) (x : IndexEntry) (is : IsIndex old) (grew : grown ≡ insert old place x) (within : place ≤ length old) where
-  pub inserted_below : (k : ℕ) (d : IndexEntry) → k < place → IsGreatestEnd (items_of grown) k (get_or grown k d).greatest_end
+module _ (old grown new : List IndexEntry) (place : ℕ) (x : IndexEntry) (is : IsSortedWithGreatestEndSoFar old) (grew : grown ≡ insert old place x) (within : place ≤ length old) where
+  pub inserted_below : (k : ℕ) (d : IndexEntry) → k < place → EndIsGreatestUpTo (items_of grown) k (get_or grown k d).greatest_end
   inserted_below k d lt =
       let n = as_many old in
       let here : get_or grown k d ≡ get_or old k d = ap (λ (es : List IndexEntry). get_or es k d) grew ∙ get_or-insert_below old place x d k lt within in
       let items : items_of grown ≡ insert (items_of old) place x.item = ap items_of grew ∙ items_insert old place x in
-      subst (λ (r : ℕ). IsGreatestEnd (items_of grown) k r) (sym (ap (λ (e : IndexEntry). e.greatest_end) here))
+      subst (λ (r : ℕ). EndIsGreatestUpTo (items_of grown) k r) (sym (ap (λ (e : IndexEntry). e.greatest_end) here))
       (same_greatest (items_of old) (items_of grown) k (get_or old k d).greatest_end
       (λ j e le. ap (λ (xs : List RequestRange). get_or xs j e) items ∙ get_or-insert_below (items_of old) place x.item e j (omega (arith, le, lt)) (omega (arith, n, within)))
       (is.ends_are_greatest k d (omega (arith, lt, within))))
 
-  pub inserted_follow : (k : ℕ) (d : IndexEntry) → place < k → GreatestEndPropagates grown k d
+  pub inserted_follow : (k : ℕ) (d : IndexEntry) → place < k → NextEndIsGreatestIfThis grown k d
   inserted_follow k d more short here =
       let n = as_many old in
       let m = length-insert old place x within in
@@ -77,20 +77,20 @@ module _ (old grown new : List IndexEntry) (place : ℕ) (x : IndexEntry) (is : 
       let its : RequestRange = (get_or old k d).item in
       let a = (get_or old (k - 1) d).greatest_end in
       let b = (get_or old k d).greatest_end in
-      subst (IsGreatestEnd (items_of grown) (k + 1)) (sym (ap (λ (y : IndexEntry). y.greatest_end) second))
+      subst (EndIsGreatestUpTo (items_of grown) (k + 1)) (sym (ap (λ (y : IndexEntry). y.greatest_end) second))
       (next_end (items_of old) (items_of grown) (k - 1) k a b its (is.ends_are_greatest (k - 1) d (omega (arith, lt)))
-      (subst (λ (i : ℕ). IsGreatestEnd (items_of old) i b) (sym e) (is.ends_are_greatest k d lt))
+      (subst (λ (i : ℕ). EndIsGreatestUpTo (items_of old) i b) (sym e) (is.ends_are_greatest k d lt))
       (λ y. ap (λ (i : ℕ). get_or (items_of old) i y) e ∙ item_at old k d y lt)
       (λ y. item_at grown (k + 1) d y short ∙ ap (λ (z : IndexEntry). z.item) second)
-      (subst (IsGreatestEnd (items_of grown) k) (ap (λ (y : IndexEntry). y.greatest_end) first) here))
+      (subst (EndIsGreatestUpTo (items_of grown) k) (ap (λ (y : IndexEntry). y.greatest_end) first) here))
 
-  module _ (items : items_of new ≡ items_of grown) (ends : (k : ℕ) (d : IndexEntry) → k < length grown → IsGreatestEnd (items_of grown) k (get_or new k d).greatest_end) where
+  module _ (items : items_of new ≡ items_of grown) (ends : (k : ℕ) (d : IndexEntry) → k < length grown → EndIsGreatestUpTo (items_of grown) k (get_or new k d).greatest_end) where
     pub inserted_view : items_of new ≡ insert (items_of old) place x.item
     inserted_view = items ∙ (ap items_of grew ∙ items_insert old place x)
 
     pub inserted_index : ((k : ℕ) (d : RequestRange) → k < place → StandsBefore (get_or (items_of old) k d) (item_first x.item) x.item.id.0)
         → ((k : ℕ) (d : RequestRange) → place ≤ k → k < length old → StandsBefore (get_or (items_of old) k d) (item_first x.item) x.item.id.0 → ⊥)
-        → All (λ (y : RequestRange). y.id ≢ x.item.id) (items_of old) → IsIndex new
+        → All (λ (y : RequestRange). y.id ≢ x.item.id) (items_of old) → IsSortedWithGreatestEndSoFar new
     inserted_index before behind fresh =
         let n = as_many old in
         index_of grown new
@@ -98,18 +98,18 @@ module _ (old grown new : List IndexEntry) (place : ℕ) (x : IndexEntry) (is : 
         (sorted_insert (items_of old) place x.item is.sorted (omega (arith, n, within)) before (λ k d ge lt. behind k d ge (omega (arith, n, lt))) fresh))
         items ends
 
-module _ (old shrunk new : List IndexEntry) (place : ℕ) (is : IsIndex old) (shrank : shrunk ≡ remove old place) (within : place < length old) where
-  pub removed_below : (k : ℕ) (d : IndexEntry) → k < place → IsGreatestEnd (items_of shrunk) k (get_or shrunk k d).greatest_end
+module _ (old shrunk new : List IndexEntry) (place : ℕ) (is : IsSortedWithGreatestEndSoFar old) (shrank : shrunk ≡ remove old place) (within : place < length old) where
+  pub removed_below : (k : ℕ) (d : IndexEntry) → k < place → EndIsGreatestUpTo (items_of shrunk) k (get_or shrunk k d).greatest_end
   removed_below k d lt =
       let n = as_many old in
       let here : get_or shrunk k d ≡ get_or old k d = ap (λ (es : List IndexEntry). get_or es k d) shrank ∙ get_or-remove_below old place d k lt within in
       let items : items_of shrunk ≡ remove (items_of old) place = ap items_of shrank ∙ items_remove old place in
-      subst (λ (r : ℕ). IsGreatestEnd (items_of shrunk) k r) (sym (ap (λ (e : IndexEntry). e.greatest_end) here))
+      subst (λ (r : ℕ). EndIsGreatestUpTo (items_of shrunk) k r) (sym (ap (λ (e : IndexEntry). e.greatest_end) here))
       (same_greatest (items_of old) (items_of shrunk) k (get_or old k d).greatest_end
       (λ j e le. ap (λ (xs : List RequestRange). get_or xs j e) items ∙ get_or-remove_below (items_of old) place e j (omega (arith, le, lt)) (omega (arith, n, within)))
       (is.ends_are_greatest k d (omega (arith, lt, within))))
 
-  pub removed_follow : (k : ℕ) (d : IndexEntry) → place < k → GreatestEndPropagates shrunk k d
+  pub removed_follow : (k : ℕ) (d : IndexEntry) → place < k → NextEndIsGreatestIfThis shrunk k d
   removed_follow k d more short here =
       let m = length-remove old place within in
       let long = ap length shrank in
@@ -119,17 +119,17 @@ module _ (old shrunk new : List IndexEntry) (place : ℕ) (is : IsIndex old) (sh
       let its : RequestRange = (get_or old (k + 1 + 1) d).item in
       let a = (get_or old (k + 1) d).greatest_end in
       let b = (get_or old (k + 1 + 1) d).greatest_end in
-      subst (IsGreatestEnd (items_of shrunk) (k + 1)) (sym (ap (λ (y : IndexEntry). y.greatest_end) second))
+      subst (EndIsGreatestUpTo (items_of shrunk) (k + 1)) (sym (ap (λ (y : IndexEntry). y.greatest_end) second))
       (next_end (items_of old) (items_of shrunk) (k + 1) k a b its (is.ends_are_greatest (k + 1) d (omega (arith, lt))) (is.ends_are_greatest (k + 1 + 1) d lt)
       (λ y. item_at old (k + 1 + 1) d y lt)
       (λ y. item_at shrunk (k + 1) d y short ∙ ap (λ (z : IndexEntry). z.item) second)
-      (subst (IsGreatestEnd (items_of shrunk) k) (ap (λ (y : IndexEntry). y.greatest_end) first) here))
+      (subst (EndIsGreatestUpTo (items_of shrunk) k) (ap (λ (y : IndexEntry). y.greatest_end) first) here))
 
-  module _ (items : items_of new ≡ items_of shrunk) (ends : (k : ℕ) (d : IndexEntry) → k < length shrunk → IsGreatestEnd (items_of shrunk) k (get_or new k d).greatest_end) where
+  module _ (items : items_of new ≡ items_of shrunk) (ends : (k : ℕ) (d : IndexEntry) → k < length shrunk → EndIsGreatestUpTo (items_of shrunk) k (get_or new k d).greatest_end) where
     pub removed_view : items_of new ≡ remove (items_of old) place
     removed_view = items ∙ (ap items_of shrank ∙ items_remove old place)
 
-    pub removed_index : IsIndex new
+    pub removed_index : IsSortedWithGreatestEndSoFar new
     removed_index =
         let n = as_many old in
         index_of shrunk new

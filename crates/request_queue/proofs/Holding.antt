@@ -10,13 +10,13 @@ use Rattle.std.proofs.lemmas.List.Elements.{Contains-append_left, Contains-appen
 use Rattle.std.proofs.lemmas.Option.{slice_get_within, slice_get-map, get_or_from_slice_get}
 use Rattle.ata_types.specs.declared.request.RequestId.{RequestId}
 use Rattle.block_machine.specs.declared.due.Unanswered.{Unanswered}
-use Rattle.block_machine.specs.DueRequests.{IsInOrder, are_conflicting, is_earlier_on_port, is_flush, changes_sectors, are_overlapping}
+use Rattle.block_machine.specs.DueRequests.{IsInOrder, conflict_by_flush_or_overlap, is_earlier_on_port, is_flush, changes_sectors, are_overlapping}
 use Rattle.request_queue.specs.declared.ranges.RequestRange.{RequestRange}
 use Rattle.request_queue.specs.BookRanges.{is_earlier_conflict}
-use Rattle.request_queue.specs.BookEntries.{BookEntry, as_unanswered, unanswered_of, issued_request, requeued_request}
+use Rattle.request_queue.specs.BookEntries.{BookEntry, as_unanswered, unanswered_of, issued_request, waiting_again_request}
 use Rattle.request_queue.specs.Flushes.{listed_flush, flushes_among, comes_after_flush}
 use Rattle.request_queue.specs.declared.flushes.Flush.{Flush}
-use Rattle.request_queue.specs.Blockers.{AreBlockers, AreBlockersExceptOf, IsBlockerOf, has_blocker, is_blocked_by, may_be_blocked, may_block}
+use Rattle.request_queue.specs.Blockers.{AreBlockers, AreBlockersExceptOf, IsBlockerOf, has_blocker, is_blocked_by, is_waiting_read_or_write, may_block}
 use Rattle.request_queue.specs.Sectors.{AreIndexed, AreItemsOfList, item_of, list_number_of_port}
 use Rattle.request_queue.proofs.Flushing.{in_flushes, of_flushes}
 use Rattle.request_queue.proofs.Indexing.{asks_more, asks_newest, ids_apart, in_four, in_remove}
@@ -26,7 +26,7 @@ use Rattle.request_queue.proofs.Unheld.{found, one_found, no_flush}
 -- ---- found by its sectors, or among the flushes
 
 module _ (book : List Unanswered) (lists : List (List RequestRange)) (is : AreIndexed book lists) (flushes : List Flush) (are_flushes : flushes ≡ flushes_among book) (r : Unanswered)
-    (may : may_be_blocked r ≡ true) where
+    (may : is_waiting_read_or_write r ≡ true) where
   abbrev items : List RequestRange
   items = get_or lists (list_number_of_port r.port) []
 
@@ -38,7 +38,7 @@ module _ (book : List Unanswered) (lists : List (List RequestRange)) (is : AreIn
 
   none_found : list_any (is_earlier_conflict (item_of r)) items ≡ false → list_any (comes_after_flush r) flushes ≡ false → has_blocker book r ≡ false
   none_found none empty_flushes = false_from_ne_true _ (λ held.
-      let o = one_found (may_block r) book (and_parts (may_be_blocked r) _ held).1 in
+      let o = one_found (may_block r) book (and_parts (is_waiting_read_or_write r) _ held).1 in
       let parts = and_parts (is_earlier_on_port o.0 r) _ o.2 in
       by o.0 o.1 parts.0 parts.1 (is_flush o.0.op) refl)
     where
@@ -52,7 +52,7 @@ module _ (book : List Unanswered) (lists : List (List RequestRange)) (is : AreIn
           (λ both. both)
           (or_cases (is_flush o.op || is_flush r.op) _ meets)
 
-      by : (o : Unanswered) → Contains book o → is_earlier_on_port o r ≡ true → are_conflicting o r ≡ true → (b : Bool) → is_flush o.op ≡ b → ⊥
+      by : (o : Unanswered) → Contains book o → is_earlier_on_port o r ≡ true → conflict_by_flush_or_overlap o r ≡ true → (b : Bool) → is_flush o.op ≡ b → ⊥
       by o there earlier meets true flush = both_ways _ empty_flushes (found (comes_after_flush r) flushes (listed_flush o)
           (subst (λ (fs : List Flush). Contains fs (listed_flush o)) (sym are_flushes) (in_flushes book o there flush)) earlier)
       by o there earlier meets false other =
@@ -91,12 +91,12 @@ module _ (book : List Unanswered) (lists : List (List RequestRange)) (is : AreIn
 -- ---- kept by a change
 
 -- a blocker stays where those that may hold do
-carried : (old new : List Unanswered) (r s : Unanswered) (h : Option RequestId) → may_be_blocked s ≡ may_be_blocked r
+carried : (old new : List Unanswered) (r s : Unanswered) (h : Option RequestId) → is_waiting_read_or_write s ≡ is_waiting_read_or_write r
     → ((o : Unanswered) → Contains new o → may_block s o ≡ true → (u : Unanswered) × Contains old u × (may_block r u ≡ true))
     → ((o : Unanswered) → Contains old o → h ≡ Some o.id → may_block r o ≡ true → (u : Unanswered) × Contains new u × (u.id ≡ o.id) × (may_block s u ≡ true))
     → IsBlockerOf old r h → IsBlockerOf new s h
 carried old new r s None same back forth none = false_from_ne_true _ (λ held.
-    let two = and_parts (may_be_blocked s) _ held in
+    let two = and_parts (is_waiting_read_or_write s) _ held in
     let o = one_found (may_block s) new two.1 in
     let u = back o.0 o.1 o.2 in
     both_ways _ none (and_from _ _ (sym same ∙ two.0) (found (may_block r) old u.0 u.1 u.2)))
@@ -326,18 +326,18 @@ issued_holders es blockers i e are at =
     (marked_holders (unanswered_of es) blockers i (as_unanswered e.request) true None are (asks_there es i e at) refl)
 
 pub requeued_holders : (es : List BookEntry) (blockers : List (Option RequestId)) (i : ℕ) (e : BookEntry) (r : Unanswered) (h : Option RequestId) → AreBlockers (unanswered_of es) blockers → slice_get es i ≡ Some e
-    → slice_get (unanswered_of (set es i (record e { request = requeued_request e.request }))) i ≡ Some r → IsBlockerOf (unanswered_of (set es i (record e { request = requeued_request e.request }))) r h
-    → AreBlockers (unanswered_of (set es i (record e { request = requeued_request e.request }))) (set blockers i h)
+    → slice_get (unanswered_of (set es i (record e { request = waiting_again_request e.request }))) i ≡ Some r → IsBlockerOf (unanswered_of (set es i (record e { request = waiting_again_request e.request }))) r h
+    → AreBlockers (unanswered_of (set es i (record e { request = waiting_again_request e.request }))) (set blockers i h)
 requeued_holders es blockers i e r h are at its is =
     let there = asks_there es i e at in
-    let new = asks_set es i (record e { request = requeued_request e.request }) in
-    let waiting : Unanswered = as_unanswered (requeued_request e.request) in
+    let new = asks_set es i (record e { request = waiting_again_request e.request }) in
+    let waiting : Unanswered = as_unanswered (waiting_again_request e.request) in
     let same : r ≡ waiting =
     sym (get_or_from_slice_get (set (unanswered_of es) i waiting) i r waiting (subst (λ (book : List Unanswered). slice_get book i ≡ Some r) new its))
     ∙ get_or-set_same (unanswered_of es) i waiting waiting (slice_get_within (unanswered_of es) i (as_unanswered e.request) there) in
     subst (λ (book : List Unanswered). AreBlockers book (set blockers i h)) (sym new)
     (marked_holders (unanswered_of es) blockers i (as_unanswered e.request) false h are there
-    (subst (λ (book : List Unanswered). IsBlockerOf book waiting h) new (subst (λ (x : Unanswered). IsBlockerOf (unanswered_of (set es i (record e { request = requeued_request e.request }))) x h) same is)))
+    (subst (λ (book : List Unanswered). IsBlockerOf book waiting h) new (subst (λ (x : Unanswered). IsBlockerOf (unanswered_of (set es i (record e { request = waiting_again_request e.request }))) x h) same is)))
 
 pub fewer_holders : (es : List BookEntry) (blockers : List (Option RequestId)) (i : ℕ) (e : BookEntry) (id : RequestId) → AreBlockers (unanswered_of es) blockers → IsInOrder (unanswered_of es)
     → slice_get es i ≡ Some e → e.request.id ≡ id → AreBlockersExceptOf id i (remove (unanswered_of es) i) (remove blockers i)

@@ -9,8 +9,8 @@ use Rattle.std.proofs.lemmas.Option.{slice_get_within, get_or_from_slice_get}
 use Rattle.ata_types.specs.declared.Port.{Port}
 use Rattle.block_machine.specs.declared.due.QueueMode.{QueueMode}
 use Rattle.block_machine.specs.declared.due.Unanswered.{Unanswered}
-use Rattle.block_machine.specs.DueRequests.{are_conflicting, waits_for, is_unblocked, is_plain}
-use Rattle.request_queue.specs.Blockers.{may_be_blocked, may_block}
+use Rattle.block_machine.specs.DueRequests.{conflict_by_flush_or_overlap, waits_for, is_waiting_and_unblocked, is_plain}
+use Rattle.request_queue.specs.Blockers.{is_waiting_read_or_write, may_block}
 use Rattle.request_queue.specs.DueWalk.{TalliesIssued, IsReachedInWalk, is_issued_plain}
 use Rattle.request_queue.specs.declared.due.IssuedTally.{IssuedTally}
 use Rattle.request_queue.proofs.Members.{count_cons, contains_none, contains_here, contains_there, contains_cases}
@@ -71,7 +71,7 @@ module _ (mode : QueueMode) (requests : List Unanswered) (i : ℕ) (r : Unanswer
   plain_held plain = same_bool (list_any (waits_for mode r) requests) (list_any (λ (u : Unanswered). u.issued) requests || nat_lt 0 i) back ahead
     where
       way : (o : Unanswered) → waits_for mode r o ≡ ((o.port.0 == r.port.0) && (o.issued || nat_lt o.id.0 r.id.0))
-      way o = ap (λ (b : Bool). (o.port.0 == r.port.0) && b) (cond-true (is_plain mode r.op) (o.issued || nat_lt o.id.0 r.id.0) ((is_plain mode o.op && o.issued) || (nat_lt o.id.0 r.id.0 && (is_plain mode o.op || are_conflicting o r))) plain)
+      way o = ap (λ (b : Bool). (o.port.0 == r.port.0) && b) (cond-true (is_plain mode r.op) (o.issued || nat_lt o.id.0 r.id.0) ((is_plain mode o.op && o.issued) || (nat_lt o.id.0 r.id.0 && (is_plain mode o.op || conflict_by_flush_or_overlap o r))) plain)
 
       ahead : (list_any (λ (u : Unanswered). u.issued) requests || nat_lt 0 i) ≡ true → list_any (waits_for mode r) requests ≡ true
       ahead is = ⊎_elim
@@ -103,18 +103,18 @@ module _ (mode : QueueMode) (requests : List Unanswered) (i : ℕ) (r : Unanswer
   queued_held : r.issued ≡ false → is_plain mode r.op ≡ false → list_any (waits_for mode r) requests ≡ list_any (is_issued_plain mode) requests
   queued_held waits queued = same_bool (list_any (waits_for mode r) requests) (list_any (is_issued_plain mode) requests) back ahead
     where
-      way : (o : Unanswered) → waits_for mode r o ≡ ((o.port.0 == r.port.0) && ((is_plain mode o.op && o.issued) || (nat_lt o.id.0 r.id.0 && (is_plain mode o.op || are_conflicting o r))))
+      way : (o : Unanswered) → waits_for mode r o ≡ ((o.port.0 == r.port.0) && ((is_plain mode o.op && o.issued) || (nat_lt o.id.0 r.id.0 && (is_plain mode o.op || conflict_by_flush_or_overlap o r))))
       way o = ap (λ (b : Bool). (o.port.0 == r.port.0) && b)
-          (cond-false (is_plain mode r.op) (o.issued || nat_lt o.id.0 r.id.0) ((is_plain mode o.op && o.issued) || (nat_lt o.id.0 r.id.0 && (is_plain mode o.op || are_conflicting o r))) queued)
+          (cond-false (is_plain mode r.op) (o.issued || nat_lt o.id.0 r.id.0) ((is_plain mode o.op && o.issued) || (nat_lt o.id.0 r.id.0 && (is_plain mode o.op || conflict_by_flush_or_overlap o r))) queued)
 
       ahead : list_any (is_issued_plain mode) requests ≡ true → list_any (waits_for mode r) requests ≡ true
       ahead is =
           let any = one_found (is_issued_plain mode) requests is in
           found (waits_for mode r) requests any.0 any.1 (way any.0 ∙ and_from _ _ (of_one_port any.0 any.1) (or_left (is_plain mode any.0.op && any.0.issued) _ any.2))
 
-      none_meets : (o : Unanswered) → Contains requests o → nat_lt o.id.0 r.id.0 ≡ true → is_plain mode o.op ≡ false → are_conflicting o r ≡ true → ⊥
+      none_meets : (o : Unanswered) → Contains requests o → nat_lt o.id.0 r.id.0 ≡ true → is_plain mode o.op ≡ false → conflict_by_flush_or_overlap o r ≡ true → ⊥
       none_meets o there less alone meets = both_ways _ reached.without_blocker
-          (and_from (may_be_blocked r) _ (and_from (not r.issued) _ (ap not waits) (queued_is_read_or_write mode r.op queued))
+          (and_from (is_waiting_read_or_write r) _ (and_from (not r.issued) _ (ap not waits) (queued_is_read_or_write mode r.op queued))
           (found (may_block r) requests o there (and_from _ _ (and_from _ _ (of_one_port o there) less) meets)))
 
       back : list_any (waits_for mode r) requests ≡ true → list_any (is_issued_plain mode) requests ≡ true
@@ -124,28 +124,28 @@ module _ (mode : QueueMode) (requests : List Unanswered) (i : ℕ) (r : Unanswer
           let parts = and_parts (o.port.0 == r.port.0) _ (sym (way o) ∙ any.2) in
           ⊎_elim
           (λ (b : (is_plain mode o.op && o.issued) ≡ true). found (is_issued_plain mode) requests o any.1 b)
-          (λ (b : (nat_lt o.id.0 r.id.0 && (is_plain mode o.op || are_conflicting o r)) ≡ true).
+          (λ (b : (nat_lt o.id.0 r.id.0 && (is_plain mode o.op || conflict_by_flush_or_overlap o r)) ≡ true).
           let less = and_parts (nat_lt o.id.0 r.id.0) _ b in
           let low = earlier o any.1 (ltb-true o.id.0 r.id.0 less.0) in
           let alone : is_plain mode o.op ≡ false = ap (λ (u : Unanswered). is_plain mode u.op) (sym any.1.2) ∙ reached.earlier_are_queued any.1.0 o low in
           absurd (⊎_elim
           (λ (p : is_plain mode o.op ≡ true). both_ways _ alone p)
-          (λ (m : are_conflicting o r ≡ true). none_meets o any.1 less.0 alone m)
+          (λ (m : conflict_by_flush_or_overlap o r ≡ true). none_meets o any.1 less.0 alone m)
           (or_cases (is_plain mode o.op) _ less.1)))
           (or_cases (is_plain mode o.op && o.issued) _ parts.1)
 
   module _ (issued : IssuedTally) (are : TalliesIssued mode requests issued) where
-    pub issued_isnt_clear : r.issued ≡ true → false ≡ is_unblocked mode requests r
+    pub issued_isnt_clear : r.issued ≡ true → false ≡ is_waiting_and_unblocked mode requests r
     issued_isnt_clear is = sym (ap (λ (b : Bool). not b && not (list_any (waits_for mode r) requests)) is)
 
     pub plain_is_clear : r.issued ≡ false → is_plain mode r.op ≡ true → (none first : Bool) → (none ≡ true) ↔ (issued.count ≡ 0) → (first ≡ true) ↔ (i ≡ 0)
-        → (none && first) ≡ is_unblocked mode requests r
-    plain_is_clear waits plain none first counted numbered = same_bool (none && first) (is_unblocked mode requests r) ahead back
+        → (none && first) ≡ is_waiting_and_unblocked mode requests r
+    plain_is_clear waits plain none first counted numbered = same_bool (none && first) (is_waiting_and_unblocked mode requests r) ahead back
       where
         held : list_any (waits_for mode r) requests ≡ (nat_lt 0 issued.count || nat_lt 0 i)
         held = plain_held plain ∙ ap (λ (b : Bool). b || nat_lt 0 i) (sym (ap (nat_lt 0) are.0 ∙ counted_any (λ (u : Unanswered). u.issued) requests))
 
-        ahead : (none && first) ≡ true → is_unblocked mode requests r ≡ true
+        ahead : (none && first) ≡ true → is_waiting_and_unblocked mode requests r ≡ true
         ahead both =
             let two = and_parts none first both in
             let none_issued = counted.0 two.0 in
@@ -155,7 +155,7 @@ module _ (mode : QueueMode) (requests : List Unanswered) (i : ℕ) (r : Unanswer
             (λ (b : nat_lt 0 i ≡ true). let some = ltb-true 0 i b in omega (arith, some, is_first))
             (or_cases (nat_lt 0 issued.count) _ is))))
 
-        back : is_unblocked mode requests r ≡ true → (none && first) ≡ true
+        back : is_waiting_and_unblocked mode requests r ≡ true → (none && first) ≡ true
         back clear =
             let free = sym (held) ∙ none_of _ (and_parts (not r.issued) _ clear).1 in
             and_from none first (counted.1 (zero_of issued.count (λ some. both_ways _ free (or_left _ (nat_lt 0 i) some))))
@@ -168,6 +168,6 @@ module _ (mode : QueueMode) (requests : List Unanswered) (i : ℕ) (r : Unanswer
             zero_of : (n : ℕ) → (nat_lt 0 n ≡ true → ⊥) → n ≡ 0
             zero_of n none = elim (cases_lt 0 n) [ inl some ↦ absurd (none (lt-ltb 0 n some)) | inr low ↦ omega (arith, low) ]
 
-    pub queued_is_clear : r.issued ≡ false → is_plain mode r.op ≡ false → not issued.has_plain ≡ is_unblocked mode requests r
+    pub queued_is_clear : r.issued ≡ false → is_plain mode r.op ≡ false → not issued.has_plain ≡ is_waiting_and_unblocked mode requests r
     queued_is_clear waits queued =
         ap not (are.1 ∙ sym (queued_held waits queued)) ∙ sym (ap (λ (b : Bool). not b && not (list_any (waits_for mode r) requests)) waits)

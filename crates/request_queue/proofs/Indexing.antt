@@ -13,12 +13,12 @@ use Rattle.std.proofs.lemmas.List.Sorted.{IsPermutation-sym, IsPermutation-inser
 use Rattle.std.proofs.lemmas.Option.{slice_get_within, get_or_from_slice_get}
 use Rattle.ata_types.specs.declared.Port.{Port}
 use Rattle.ata_types.specs.declared.request.RequestId.{RequestId}
-use Rattle.ata_types.specs.declared.limits.TheConstants.{MOST_UNANSWERED}
+use Rattle.ata_types.specs.declared.limits.TheConstants.{MOST_UNANSWERED_OF_ALL_CLIENTS}
 use Rattle.block_machine.specs.declared.due.Unanswered.{Unanswered}
 use Rattle.block_machine.specs.DueRequests.{IsInOrder, is_flush}
 use Rattle.request_queue.specs.declared.ranges.RequestRange.{RequestRange}
 use Rattle.block_machine.specs.DueRequests.{mark_issued, mark_waiting}
-use Rattle.request_queue.specs.BookEntries.{BookEntry, as_unanswered, unanswered_of, update_if_id, issued_request, requeued_request}
+use Rattle.request_queue.specs.BookEntries.{BookEntry, as_unanswered, unanswered_of, update_if_id, issued_request, waiting_again_request}
 use Rattle.request_queue.proofs.Working.{after_issue, after_requeue}
 use Rattle.request_queue.proofs.PermutedPairs.{permuted_pairs}
 use Rattle.request_queue.specs.Sectors.{AreIndexed, IsSectorListOf, is_in_list, item_of, list_number_of_port}
@@ -227,7 +227,7 @@ module _ (book : List Unanswered) (lists : List (List RequestRange)) (is : AreIn
       (own_accepted (list_number_of_port r.port) book (get_or lists (list_number_of_port r.port) []) own_list r refl has newest place within)
       (λ list lt other. other_accepted list book (get_or lists list []) (is.each_is_list_of list lt) r (out_of_list list r other))
 
-  pub room_left : length book < MOST_UNANSWERED → length (get_or lists (list_number_of_port r.port) []) < MOST_UNANSWERED
+  pub room_left : length book < MOST_UNANSWERED_OF_ALL_CLIENTS → length (get_or lists (list_number_of_port r.port) []) < MOST_UNANSWERED_OF_ALL_CLIENTS
   room_left few = let n = own_list.length_is_request_count in let c = count_below (is_in_list (list_number_of_port r.port)) book in omega (arith, n, c, few)
     where
       count_below : (p : Unanswered → Bool) (xs : List Unanswered) → count_by p xs ≤ length xs
@@ -289,7 +289,7 @@ pub issued_indexed : (es : List BookEntry) (id : RequestId) (lists : List (List 
 issued_indexed es id lists is = subst (λ (book : List Unanswered). AreIndexed book lists) (sym (after_issue es id))
     (changed_indexed (unanswered_of es) lists (mark_issued id) (λ r. (same_marked (r.id.0 == id.0) r true).0) (λ r. (same_marked (r.id.0 == id.0) r true).1) (λ r. (same_marked (r.id.0 == id.0) r true).2) is)
 
-pub requeued_indexed : (es : List BookEntry) (id : RequestId) (lists : List (List RequestRange)) → AreIndexed (unanswered_of es) lists → AreIndexed (unanswered_of (map (update_if_id id requeued_request) es)) lists
+pub requeued_indexed : (es : List BookEntry) (id : RequestId) (lists : List (List RequestRange)) → AreIndexed (unanswered_of es) lists → AreIndexed (unanswered_of (map (update_if_id id waiting_again_request) es)) lists
 requeued_indexed es id lists is = subst (λ (book : List Unanswered). AreIndexed book lists) (sym (after_requeue es id))
     (changed_indexed (unanswered_of es) lists (mark_waiting id) (λ r. (same_marked (r.id.0 == id.0) r false).0) (λ r. (same_marked (r.id.0 == id.0) r false).1) (λ r. (same_marked (r.id.0 == id.0) r false).2) is)
 

@@ -10,7 +10,7 @@ use Rattle.ata_types.specs.declared.request.ClientId.{ClientId}
 use Rattle.ata_types.specs.declared.request.Frame.{Frame}
 use Rattle.ata_types.specs.declared.request.RequestId.{RequestId}
 use Rattle.dma_frames.specs.FrameTables.{OwnersAndLoans, lent_to, SetsLoanOnly}
-use Rattle.request_queue.specs.BookEntries.{BookEntry, IsWellFormedEntry, HasItsFrames, has_id, update_if_id, without_entry, issued_request, requeued_request, aged_request, aged_entries, with_revoked_mark_if_under_grant, with_requests_under_grant_revoked}
+use Rattle.request_queue.specs.BookEntries.{BookEntry, IsWellFormedEntry, FramesAreLentToIt, has_id, update_if_id, without_entry, issued_request, waiting_again_request, aged_request, aged_entries, with_revoked_mark_if_under_grant, with_requests_under_grant_revoked}
 use Rattle.request_queue.specs.declared.PendingRequest.{PendingRequest}
 use Rattle.request_queue.proofs.Members.{map_in}
 use Rattle.request_queue.proofs.Changing.{either_way, without_in}
@@ -92,8 +92,8 @@ at_one table id f keeps e a = go (has_id id e) refl
 pub all_issued : (table : OwnersAndLoans) (es : List BookEntry) (id : RequestId) → All (IsWellFormedEntry table) es → All (IsWellFormedEntry table) (map (update_if_id id issued_request) es)
 all_issued table es id all = all_changed table es (update_if_id id issued_request) (at_one table id issued_request (λ e a. further table e true (suc e.request.issue_count) 0 e.request.revoked a)) all
 
-pub all_requeued : (table : OwnersAndLoans) (es : List BookEntry) (id : RequestId) → All (IsWellFormedEntry table) es → All (IsWellFormedEntry table) (map (update_if_id id requeued_request) es)
-all_requeued table es id all = all_changed table es (update_if_id id requeued_request) (at_one table id requeued_request (λ e a. further table e false e.request.issue_count e.request.age e.request.revoked a)) all
+pub all_requeued : (table : OwnersAndLoans) (es : List BookEntry) (id : RequestId) → All (IsWellFormedEntry table) es → All (IsWellFormedEntry table) (map (update_if_id id waiting_again_request) es)
+all_requeued table es id all = all_changed table es (update_if_id id waiting_again_request) (at_one table id waiting_again_request (λ e a. further table e false e.request.issue_count e.request.age e.request.revoked a)) all
 
 pub all_aged : (table : OwnersAndLoans) (es : List BookEntry) (ports : Port → Bool) → All (IsWellFormedEntry table) es → All (IsWellFormedEntry table) (aged_entries ports es)
 all_aged table es ports all = all_changed table es (λ (e : BookEntry). record e { request = aged_request ports e.request })
@@ -105,5 +105,5 @@ all_revoked table es client grant all = all_changed table es (λ (e : BookEntry)
     (λ e a. either_way (λ (r : PendingRequest). IsWellFormedEntry table (record e { request = r })) (is_same_grant_name client grant e.request.client e.request.grant) (record (e.request) { revoked = true }) e.request
     (further table e e.request.issued e.request.issue_count e.request.age true a) a) all
 
-pub all_stand : (table : OwnersAndLoans) (es : List BookEntry) → All (IsWellFormedEntry table) es → All (HasItsFrames table) es
-all_stand table es all = each (HasItsFrames table) es (λ e h. (All-contains (IsWellFormedEntry table) es e all h).frames_are_lent)
+pub all_stand : (table : OwnersAndLoans) (es : List BookEntry) → All (IsWellFormedEntry table) es → All (FramesAreLentToIt table) es
+all_stand table es all = each (FramesAreLentToIt table) es (λ e h. (All-contains (IsWellFormedEntry table) es e all h).frames_are_lent)

@@ -14,7 +14,7 @@ use Rattle.block_machine.specs.declared.due.QueueMode.{QueueMode}
 use Rattle.block_machine.specs.declared.due.Unanswered.{Unanswered}
 use Rattle.block_machine.specs.DueRequests.{IsInOrder, is_plain, issued_count, free_slots, due_of}
 use Rattle.request_queue.specs.BookEntries.{BookEntry, as_unanswered, unanswered_of, due_ids}
-use Rattle.request_queue.specs.Blockers.{has_blocker, may_be_blocked, may_block, without_blocker}
+use Rattle.request_queue.specs.Blockers.{has_blocker, is_waiting_read_or_write, may_block, without_blocker}
 use Rattle.request_queue.specs.DueWalk.{IsReachedInWalk}
 use Rattle.request_queue.specs.RequestSlab.{unanswered_at, blank_request}
 use Rattle.request_queue.proofs.Members.{count_append, count_cons, taken_more}
@@ -65,7 +65,7 @@ module _ (port : Port) (all book : List Unanswered) (is : book ≡ without_block
   -- none of them has a blocker among them
   unheld_at : (i : ℕ) (r : Unanswered) → slice_get book i ≡ Some r → has_blocker book r ≡ false
   unheld_at i r at = false_from_ne_true _ (λ held.
-      let two = and_parts (may_be_blocked r) _ held in
+      let two = and_parts (is_waiting_read_or_write r) _ held in
       let o = one_found (may_block r) book two.1 in
       let in_all = (of_filter p all o.0 (subst (λ (xs : List Unanswered). Contains xs o.0) is o.1)).0 in
       let its = subst (λ (x : Unanswered). p x ≡ true) (get_or_from_slice_get book i r r at) (each_passes i r (slice_get_within book i r at)) in

@@ -7,7 +7,7 @@ use Rattle.slab.specs.Slab.{Slab, get, slab_len, Updates}
 use Rattle.ata_types.specs.declared.request.RequestId.{RequestId}
 use Rattle.dma_frames.specs.Loan.{Lending}
 use Rattle.dma_frames.specs.FrameTables.{OwnersAndLoans, lent_to}
-use Rattle.request_queue.specs.BookEntries.{BookEntry, HasItsFrames}
+use Rattle.request_queue.specs.BookEntries.{BookEntry, FramesAreLentToIt}
 use Rattle.request_queue.specs.RequestSlab.{slab_entries, entry_at_key, KeyHasRequestAndLoan, SlabIsSound}
 use Rattle.request_queue.specs.declared.PendingRequest.{PendingRequest}
 use Rattle.request_queue.proofs.Changing.{there}
@@ -47,8 +47,8 @@ module _ (s s' : Slab PendingRequest) (loans : List (Option Lending)) (order : L
     its_loan = loan_of_request s s' loans order key sound place within is_key updates request loan has_request has_loan
 
     -- what was lent to it may be given back
-    pub may_go_back : (table : OwnersAndLoans) → All (HasItsFrames table) es → All (λ f. lent_to table f ≡ Some loan.request) loan.frames
+    pub may_go_back : (table : OwnersAndLoans) → All (FramesAreLentToIt table) es → All (λ f. lent_to table f ≡ Some loan.request) loan.frames
     may_go_back table stands =
         let e : BookEntry = record { request = request; frames = loan.frames } in
         subst (λ (id : RequestId). All (λ f. lent_to table f ≡ Some id) loan.frames) (sym its_loan)
-        (All-contains (HasItsFrames table) es e stands (there es place e taken_is))
+        (All-contains (FramesAreLentToIt table) es e stands (there es place e taken_is))

@@ -10,8 +10,8 @@ use Rattle.ata_types.specs.declared.request.Op.{Op}
 use Rattle.ata_types.specs.declared.request.Op.TheVariants.{Read, Write, Trim, Flush}
 use Rattle.block_machine.specs.declared.due.QueueMode.{QueueMode}
 use Rattle.block_machine.specs.declared.due.Unanswered.{Unanswered}
-use Rattle.block_machine.specs.DueRequests.{unblocked_ahead_count, are_conflicting, due_of, free_slots, waits_for, is_unblocked, is_due, is_earlier_on_port, is_flush, is_plain, issued_count}
-use Rattle.request_queue.specs.Blockers.{has_blocker, is_read_or_write, may_be_blocked, may_block, without_blocker}
+use Rattle.block_machine.specs.DueRequests.{unblocked_ahead_count, conflict_by_flush_or_overlap, due_of, free_slots, waits_for, is_waiting_and_unblocked, is_due, is_earlier_on_port, is_flush, is_plain, issued_count}
+use Rattle.request_queue.specs.Blockers.{has_blocker, is_read_or_write, is_waiting_read_or_write, may_block, without_blocker}
 use Rattle.request_queue.proofs.Members.{count_cons, contains_none, contains_here, contains_there, contains_cases}
 
 -- ---- tests and lists
@@ -103,24 +103,24 @@ module _ (mode : QueueMode) (port : Port) (book : List Unanswered) where
   p r = r.port.0 == port.0 && not (has_blocker book r)
 
   waits : (r : Unanswered) → has_blocker book r ≡ true → r.issued ≡ false
-  waits r held = not-true r.issued (and_parts (not r.issued) _ (and_parts (may_be_blocked r) _ held).0).0
+  waits r held = not-true r.issued (and_parts (not r.issued) _ (and_parts (is_waiting_read_or_write r) _ held).0).0
 
   -- its blocker was accepted before it, on its port
   its_holder : (r : Unanswered) → has_blocker book r ≡ true → (o : Unanswered) × Contains book o × ((o.port.0 == r.port.0) ≡ true) × (o.id.0 < r.id.0)
-      × (are_conflicting o r ≡ true)
+      × (conflict_by_flush_or_overlap o r ≡ true)
   its_holder r held =
-      let any = one_found (may_block r) book (and_parts (may_be_blocked r) _ held).1 in
+      let any = one_found (may_block r) book (and_parts (is_waiting_read_or_write r) _ held).1 in
       let parts = and_parts (is_earlier_on_port any.0 r) _ any.2 in
       let early = and_parts (any.0.port.0 == r.port.0) _ parts.0 in
       (any.0, any.1, early.0, ltb-true any.0.id.0 r.id.0 early.1, parts.1)
 
   -- one with a blocker isn't clear
-  held_back : (r : Unanswered) → has_blocker book r ≡ true → is_unblocked mode book r ≡ false
+  held_back : (r : Unanswered) → has_blocker book r ≡ true → is_waiting_and_unblocked mode book r ≡ false
   held_back r held = false_from_ne_true _ (λ clear.
       let o = its_holder r held in
       both_ways _ (not-true _ (and_parts (not r.issued) _ clear).1) (found (waits_for mode r) book o.0 o.1 (by o.0 o.2 (lt-ltb o.0.id.0 r.id.0 o.3) o.4 (is_plain mode r.op) refl)))
     where
-      by : (o : Unanswered) → (o.port.0 == r.port.0) ≡ true → nat_lt o.id.0 r.id.0 ≡ true → are_conflicting o r ≡ true → (b : Bool) → is_plain mode r.op ≡ b → waits_for mode r o ≡ true
+      by : (o : Unanswered) → (o.port.0 == r.port.0) ≡ true → nat_lt o.id.0 r.id.0 ≡ true → conflict_by_flush_or_overlap o r ≡ true → (b : Bool) → is_plain mode r.op ≡ b → waits_for mode r o ≡ true
       by o same lt meets true plain = and_from _ _ same (cond-true (is_plain mode r.op) _ _ plain ∙ or_right o.issued _ lt)
       by o same lt meets false queued = and_from _ _ same
           (cond-false (is_plain mode r.op) _ _ queued ∙ or_right (is_plain mode o.op && o.issued) _ (and_from _ _ lt (or_right (is_plain mode o.op) _ meets)))
@@ -153,7 +153,7 @@ module _ (mode : QueueMode) (port : Port) (book : List Unanswered) where
       o = any.0
 
       parts : ((o.port.0 == x.port.0) ≡ true) × (cond (is_plain mode x.op) (o.issued || nat_lt o.id.0 x.id.0)
-          ((is_plain mode o.op && o.issued) || (nat_lt o.id.0 x.id.0 && (is_plain mode o.op || are_conflicting o x))) ≡ true)
+          ((is_plain mode o.op && o.issued) || (nat_lt o.id.0 x.id.0 && (is_plain mode o.op || conflict_by_flush_or_overlap o x))) ≡ true)
       parts = and_parts (o.port.0 == x.port.0) _ any.2
 
       mine : ((x.port.0 == port.0) ≡ true) × (not (has_blocker book x) ≡ true)
@@ -180,10 +180,10 @@ module _ (mode : QueueMode) (port : Port) (book : List Unanswered) where
           (and_from _ _ same (cond-true (is_plain mode x.op) _ _ plain ∙ or_right f.0.issued _ (lt-ltb f.0.id.0 x.id.0 (omega (arith, low, lt)))))
 
       -- a queued one would have a blocker
-      none : has_blocker book o ≡ true → nat_lt o.id.0 x.id.0 ≡ true → is_plain mode x.op ≡ false → are_conflicting o x ≡ true → ⊥
+      none : has_blocker book o ≡ true → nat_lt o.id.0 x.id.0 ≡ true → is_plain mode x.op ≡ false → conflict_by_flush_or_overlap o x ≡ true → ⊥
       none held less queued meets =
           both_ways _ (not-true _ mine.1)
-          (and_from (may_be_blocked x) _ (and_from (not x.issued) _ (ap not free) (queued_is_read_or_write mode x.op queued))
+          (and_from (is_waiting_read_or_write x) _ (and_from (not x.issued) _ (ap not free) (queued_is_read_or_write mode x.op queued))
           (found (may_block x) book o any.1 (and_from _ _ (and_from _ _ parts.0 less) meets)))
 
       out_of : has_blocker book o ≡ true → (b : Bool) → is_plain mode x.op ≡ b → list_any (waits_for mode x) (without_blocker port book) ≡ true
@@ -193,12 +193,12 @@ module _ (mode : QueueMode) (port : Port) (book : List Unanswered) where
           (or_cases o.issued _ (sym (cond-true (is_plain mode x.op) _ _ plain) ∙ parts.1))
       out_of held false queued = ⊎_elim
           (λ (alone : (is_plain mode o.op && o.issued) ≡ true). absurd (both_ways _ (waits o held) (and_parts (is_plain mode o.op) _ alone).1))
-          (λ (early : (nat_lt o.id.0 x.id.0 && (is_plain mode o.op || are_conflicting o x)) ≡ true).
+          (λ (early : (nat_lt o.id.0 x.id.0 && (is_plain mode o.op || conflict_by_flush_or_overlap o x)) ≡ true).
           let two = and_parts (nat_lt o.id.0 x.id.0) _ early in
-          let read_or_write = (and_parts (not o.issued) _ (and_parts (may_be_blocked o) _ held).0).1 in
+          let read_or_write = (and_parts (not o.issued) _ (and_parts (is_waiting_read_or_write o) _ held).0).1 in
           absurd (⊎_elim
           (λ (plain : is_plain mode o.op ≡ true). both_ways _ (queued_with mode x.op o.op queued read_or_write) plain)
-          (λ (meets : are_conflicting o x ≡ true). none held two.0 queued meets)
+          (λ (meets : conflict_by_flush_or_overlap o x ≡ true). none held two.0 queued meets)
           (or_cases (is_plain mode o.op) _ two.1)))
           (or_cases (is_plain mode o.op && o.issued) _ (sym (cond-false (is_plain mode x.op) _ _ queued) ∙ parts.1))
 
@@ -207,34 +207,34 @@ module _ (mode : QueueMode) (port : Port) (book : List Unanswered) where
       go false out = out_of (entry_with_id out) (is_plain mode x.op) refl
 
   -- so it is clear among them where it is clear
-  same_clear : (x : Unanswered) → p x ≡ true → is_unblocked mode (without_blocker port book) x ≡ is_unblocked mode book x
+  same_clear : (x : Unanswered) → p x ≡ true → is_waiting_and_unblocked mode (without_blocker port book) x ≡ is_waiting_and_unblocked mode book x
   same_clear x passes = go x.issued refl
     where
       fewer : list_any (waits_for mode x) (without_blocker port book) ≡ true → list_any (waits_for mode x) book ≡ true
       fewer is = let any = one_found (waits_for mode x) (without_blocker port book) is in found (waits_for mode x) book any.0 (of_filter p book any.0 any.1).0 any.2
 
-      go : (b : Bool) → x.issued ≡ b → is_unblocked mode (without_blocker port book) x ≡ is_unblocked mode book x
+      go : (b : Bool) → x.issued ≡ b → is_waiting_and_unblocked mode (without_blocker port book) x ≡ is_waiting_and_unblocked mode book x
       go true issued = ap (λ (b : Bool). not b && not (list_any (waits_for mode x) (without_blocker port book))) issued
           ∙ sym (ap (λ (b : Bool). not b && not (list_any (waits_for mode x) book)) issued)
       go false free = ap (λ (b : Bool). not x.issued && not b) (same_bool (list_any (waits_for mode x) (without_blocker port book)) (list_any (waits_for mode x) book) fewer (still_back x passes free))
 
-  out_of_way : (x : Unanswered) → p x ≡ false → (x.port.0 == port.0) ≡ true → is_unblocked mode book x ≡ false
+  out_of_way : (x : Unanswered) → p x ≡ false → (x.port.0 == port.0) ≡ true → is_waiting_and_unblocked mode book x ≡ false
   out_of_way x out own = by (has_blocker book x) refl
     where
-      by : (b : Bool) → has_blocker book x ≡ b → is_unblocked mode book x ≡ false
+      by : (b : Bool) → has_blocker book x ≡ b → is_waiting_and_unblocked mode book x ≡ false
       by true held = held_back x held
       by false free = absurd (both_ways _ out (and_from _ _ own (ap not free)))
 
   same_ahead : (r : Unanswered) → (r.port.0 == port.0) ≡ true → unblocked_ahead_count mode (without_blocker port book) r ≡ unblocked_ahead_count mode book r
-  same_ahead r own = sym (counted_within p (λ (o : Unanswered). is_earlier_on_port o r && is_unblocked mode (without_blocker port book) o) (λ (o : Unanswered). is_earlier_on_port o r && is_unblocked mode book o) book (λ o there. go o (p o) refl))
+  same_ahead r own = sym (counted_within p (λ (o : Unanswered). is_earlier_on_port o r && is_waiting_and_unblocked mode (without_blocker port book) o) (λ (o : Unanswered). is_earlier_on_port o r && is_waiting_and_unblocked mode book o) book (λ o there. go o (p o) refl))
     where
-      go : (o : Unanswered) (b : Bool) → p o ≡ b → (is_earlier_on_port o r && is_unblocked mode book o) ≡ (p o && (is_earlier_on_port o r && is_unblocked mode (without_blocker port book) o))
-      go o true passes = ap (λ (c : Bool). is_earlier_on_port o r && c) (sym (same_clear o passes)) ∙ sym (ap (λ (c : Bool). c && (is_earlier_on_port o r && is_unblocked mode (without_blocker port book) o)) passes)
+      go : (o : Unanswered) (b : Bool) → p o ≡ b → (is_earlier_on_port o r && is_waiting_and_unblocked mode book o) ≡ (p o && (is_earlier_on_port o r && is_waiting_and_unblocked mode (without_blocker port book) o))
+      go o true passes = ap (λ (c : Bool). is_earlier_on_port o r && c) (sym (same_clear o passes)) ∙ sym (ap (λ (c : Bool). c && (is_earlier_on_port o r && is_waiting_and_unblocked mode (without_blocker port book) o)) passes)
       go o false out = false_from_ne_true _ (λ both.
           let two = and_parts (is_earlier_on_port o r) _ both in
           let same = (and_parts (o.port.0 == r.port.0) _ two.0).0 in
           both_ways _ (out_of_way o out (ap (λ (n : ℕ). o.port.0 == n) (sym (eqb-true r.port.0 port.0 own)) ∙ same)) two.1)
-          ∙ sym (ap (λ (c : Bool). c && (is_earlier_on_port o r && is_unblocked mode (without_blocker port book) o)) out)
+          ∙ sym (ap (λ (c : Bool). c && (is_earlier_on_port o r && is_waiting_and_unblocked mode (without_blocker port book) o)) out)
 
   same_issued : issued_count (without_blocker port book) port ≡ issued_count book port
   same_issued = sym (counted_within p (λ (o : Unanswered). o.port.0 == port.0 && o.issued) (λ (o : Unanswered). o.port.0 == port.0 && o.issued) book (λ o there. go o (p o) refl))
@@ -257,8 +257,8 @@ module _ (mode : QueueMode) (port : Port) (book : List Unanswered) where
       let slots : free_slots mode (without_blocker port book) r.port ≡ free_slots mode book r.port =
       subst (λ (x : Port). free_slots mode (without_blocker port book) x ≡ free_slots mode book x) (sym its) (ap (λ (n : ℕ). mode.usable_slots - n) same_issued) in
       ap (λ (b : Bool). b && (is_plain mode r.op || nat_lt (unblocked_ahead_count mode (without_blocker port book) r) (free_slots mode (without_blocker port book) r.port))) (same_clear r passes)
-      ∙ (ap (λ (n : ℕ). is_unblocked mode book r && (is_plain mode r.op || nat_lt n (free_slots mode (without_blocker port book) r.port))) (same_ahead r own)
-      ∙ ap (λ (n : ℕ). is_unblocked mode book r && (is_plain mode r.op || nat_lt (unblocked_ahead_count mode book r) n)) slots)
+      ∙ (ap (λ (n : ℕ). is_waiting_and_unblocked mode book r && (is_plain mode r.op || nat_lt n (free_slots mode (without_blocker port book) r.port))) (same_ahead r own)
+      ∙ ap (λ (n : ℕ). is_waiting_and_unblocked mode book r && (is_plain mode r.op || nat_lt (unblocked_ahead_count mode book r) n)) slots)
 
   pub due_without : due_of mode port (without_blocker port book) ≡ due_of mode port book
   due_without = sym (filtered_twice p (λ (r : Unanswered). r.port.0 == port.0 && is_due mode (without_blocker port book) r) (λ (r : Unanswered). r.port.0 == port.0 && is_due mode book r) book (λ r there. go r (p r) refl))
@@ -267,5 +267,5 @@ module _ (mode : QueueMode) (port : Port) (book : List Unanswered) where
       go r true passes = ap (λ (c : Bool). r.port.0 == port.0 && c) (sym (same_due r passes)) ∙ sym (ap (λ (c : Bool). c && (r.port.0 == port.0 && is_due mode (without_blocker port book) r)) passes)
       go r false out = false_from_ne_true _ (λ both.
           let two = and_parts (r.port.0 == port.0) _ both in
-          both_ways _ (out_of_way r out two.0) (and_parts (is_unblocked mode book r) _ two.1).0)
+          both_ways _ (out_of_way r out two.0) (and_parts (is_waiting_and_unblocked mode book r) _ two.1).0)
           ∙ sym (ap (λ (c : Bool). c && (r.port.0 == port.0 && is_due mode (without_blocker port book) r)) out)

@@ -12,7 +12,7 @@ use Rattle.ata_types.specs.declared.Port.{Port}
 use Rattle.ata_types.specs.declared.request.RequestId.{RequestId}
 use Rattle.block_machine.specs.declared.due.QueueMode.{QueueMode}
 use Rattle.block_machine.specs.declared.due.Unanswered.{Unanswered}
-use Rattle.block_machine.specs.DueRequests.{IsInOrder, are_conflicting, waits_for, is_plain, is_unblocked, unblocked_ahead_count, free_slots, is_due, due_ahead_count}
+use Rattle.block_machine.specs.DueRequests.{IsInOrder, conflict_by_flush_or_overlap, waits_for, is_plain, is_waiting_and_unblocked, unblocked_ahead_count, free_slots, is_due, due_ahead_count}
 use Rattle.request_queue.proofs.Members.{taken_more, count_least, none_pass}
 
 turn : (a b c : Bool) → ((a && b) && c) ≡ (b && (a && c))
@@ -40,7 +40,7 @@ ids_so_far mode port book i = map (λ (x : Unanswered). x.id) (filter (due_test 
 -- the walk's tests of a request of the port, where so many slots are free and so many of them are given away: whether it goes, and whether no
 -- later one does
 abbrev pub walk_test : QueueMode → List Unanswered → Unanswered → ℕ → ℕ → Bool
-walk_test mode book r given free = is_unblocked mode book r && (is_plain mode r.op || nat_lt given free)
+walk_test mode book r given free = is_waiting_and_unblocked mode book r && (is_plain mode r.op || nat_lt given free)
 
 abbrev pub end_test : QueueMode → Unanswered → ℕ → ℕ → Bool
 end_test mode r given free = is_plain mode r.op || not (nat_lt given free)
@@ -87,10 +87,10 @@ module _ (before : StandBefore) (by_due : SlotsByDue) (mode : QueueMode) (port :
       ap (λ (n : ℕ). nat_lt n (free_slots mode book port)) (counted ∙ sym (taken i r at own))
       ∙ (ap (λ (x : Port). nat_lt (due_ahead_count mode book r) (free_slots mode book x)) (sym own)
       ∙ sym (same_lt (unblocked_ahead_count mode book r) (due_ahead_count mode book r) (free_slots mode book r.port) (by_due mode book r ordered (here i r at)))) in
-      ap (λ (x : Bool). is_unblocked mode book r && (is_plain mode r.op || x)) slots ∙ sym (ap (λ (b : Bool). b && is_due mode book r) mine)
+      ap (λ (x : Bool). is_waiting_and_unblocked mode book r && (is_plain mode r.op || x)) slots ∙ sym (ap (λ (b : Bool). b && is_due mode book r) mine)
 
   -- what stands in the way of a request isn't there where the request is clear
-  without_blocker : (r o : Unanswered) → is_unblocked mode book o ≡ true → Contains book r → waits_for mode o r ≡ true → ⊥
+  without_blocker : (r o : Unanswered) → is_waiting_and_unblocked mode book o ≡ true → Contains book r → waits_for mode o r ≡ true → ⊥
   without_blocker r o clear h held =
       both_ways _ (not-true _ (and_parts _ _ clear).1)
       (list_any_at (waits_for mode o) book h.0 r h.1 (ap (waits_for mode o) h.2 ∙ held))
@@ -100,7 +100,7 @@ module _ (before : StandBefore) (by_due : SlotsByDue) (mode : QueueMode) (port :
       → end_test mode r given (free_slots mode book port) ≡ true → (j : ℕ) (o : Unanswered) → i + 1 ≤ j → slice_get book j ≡ Some o → due_test mode port book o ≡ false
   none_later i r given at its counted ends j o later at_j = false_from_ne_true _ (λ due.
       let mine = and_parts (o.port.0 == port.0) _ due in
-      let clear = and_parts (is_unblocked mode book o) _ mine.1 in
+      let clear = and_parts (is_waiting_and_unblocked mode book o) _ mine.1 in
       let own = own_port o mine.0 in
       let of_one_port : (r.port.0 == o.port.0) ≡ true = ap (λ (x : Port). r.port.0 == x.0) own ∙ its in
       let first : r.id.0 < o.id.0 = earlier in
@@ -122,7 +122,7 @@ module _ (before : StandBefore) (by_due : SlotsByDue) (mode : QueueMode) (port :
           held (and_from _ _ same (cond-true (is_plain mode o.op) _ _ plain ∙ or_right r.issued _ lt))
       by same lt held own slot false queued last = ⊎_elim
           (λ (alone : is_plain mode r.op ≡ true).
-          held (and_from _ _ same (cond-false (is_plain mode o.op) _ _ queued ∙ or_right (is_plain mode r.op && r.issued) _ (and_from _ _ lt (or_left (is_plain mode r.op) (are_conflicting r o) alone)))))
+          held (and_from _ _ same (cond-false (is_plain mode o.op) _ _ queued ∙ or_right (is_plain mode r.op && r.issued) _ (and_from _ _ lt (or_left (is_plain mode r.op) (conflict_by_flush_or_overlap r o) alone)))))
           (λ (spent : not (nat_lt given (free_slots mode book port)) ≡ true).
           let few = ⊎_elim
           (λ (plain : is_plain mode o.op ≡ true). absurd (both_ways _ queued plain))

@@ -6,7 +6,7 @@ use Rattle.ata_types.specs.declared.Port.{Port}
 use Rattle.ata_types.specs.declared.request.Op.{Op}
 use Rattle.ata_types.specs.declared.request.Op.TheVariants.{Read, Write, Trim, Flush}
 use Rattle.ata_types.specs.declared.request.RequestId.{RequestId}
-use Rattle.block_machine.specs.DueRequests.{are_conflicting, is_earlier_on_port}
+use Rattle.block_machine.specs.DueRequests.{conflict_by_flush_or_overlap, is_earlier_on_port}
 use Rattle.block_machine.specs.declared.due.Unanswered.{Unanswered}
 use Rattle.request_queue.specs.declared.blocker.TheConstants.{NOBODY}
 
@@ -19,21 +19,21 @@ is_read_or_write Flush = false
 
 -- The request is a read or a write that waits. No other has a blocker: an issued one has a slot, and at a trim or a
 -- flush the walk for what is due ends, so that it has to come to them.
-abbrev pub may_be_blocked : Unanswered → Bool
-may_be_blocked r = not r.issued && is_read_or_write r.op
+abbrev pub is_waiting_read_or_write : Unanswered → Bool
+is_waiting_read_or_write r = not r.issued && is_read_or_write r.op
 
 -- the other was accepted before the request, and conflicts with it
 abbrev pub may_block : Unanswered → Unanswered → Bool
-may_block r other = is_earlier_on_port other r && are_conflicting other r
+may_block r other = is_earlier_on_port other r && conflict_by_flush_or_overlap other r
 
 -- the request is a waiting read or write, and one of the book may hold it
 abbrev pub has_blocker : List Unanswered → Unanswered → Bool
-has_blocker book r = may_be_blocked r && list_any (may_block r) book
+has_blocker book r = is_waiting_read_or_write r && list_any (may_block r) book
 
 -- The request's blocker is the one of the book with this id. None says that it has no blocker.
 abbrev pub IsBlockerOf : List Unanswered → Unanswered → Option RequestId → Type 0
 IsBlockerOf book r None = has_blocker book r ≡ false
-IsBlockerOf book r (Some id) = (may_be_blocked r ≡ true)
+IsBlockerOf book r (Some id) = (is_waiting_read_or_write r ≡ true)
     × ((other : Unanswered) × Contains book other × (other.id ≡ id) × (may_block r other ≡ true))
 
 -- each request's blocker, in order of acceptance
@@ -43,8 +43,8 @@ pub record AreBlockers (book : List Unanswered) (blockers : List (Option Request
       → IsBlockerOf book (slice_index_or book k d) (slice_index_or blockers k None)
 
 -- A blocker in one word: its id. The greatest id stands for none, since no blocker has it.
-abbrev pub blocker_in : ℕ → Option RequestId
-blocker_in word = if word == NOBODY then None else Some (record { 0 = word })
+abbrev pub blocker_unless_greatest_id : ℕ → Option RequestId
+blocker_unless_greatest_id word = if word == NOBODY then None else Some (record { 0 = word })
 
 -- the blocker is the request with this id
 abbrev pub is_blocked_by : RequestId → Option RequestId → Bool

@@ -1,6 +1,7 @@
 -- Unanswered requests of all ports, in order of acceptance (this project's own).
 use Rattle.std.specs.Prelude.{ℕ, suc, min, [], ◌∷◌, ◌≡◌, ◌≢◌, ◌+◌, ◌^◌, ◌<◌, ◌≤◌, ◌==◌, Bool, true, false, not, ◌&&◌, if◌then◌else◌, List, map, filter, count_by, Option, Some, None, All, AllPairs, Contains, slice_index_or, length}
 use Rattle.std.specs.List.{find}
+use Rattle.ata_types.specs.declared.limits.TheConstants.{MOST_UNANSWERED_OF_A_CLIENT}
 use Rattle.ata_types.specs.declared.Port.{Port}
 use Rattle.ata_types.specs.declared.memory.TheConstants.{DRIVER_FRAMES}
 use Rattle.ata_types.specs.declared.request.ClientId.{ClientId}
@@ -32,10 +33,10 @@ abbrev pub due_ids : QueueMode → Port → List Unanswered → List RequestId
 due_ids mode port book = map (λ r. r.id) (due_of mode port book)
 
 -- the id of the only request of the book, where it is due on the port
-abbrev pub lone_due_id : QueueMode → Port → List Unanswered → Option RequestId
-lone_due_id mode port [] = None
-lone_due_id mode port (r ∷ []) = if r.port.0 == port.0 && is_due mode (r ∷ []) r then Some r.id else None
-lone_due_id mode port (r ∷ _ ∷ _) = None
+abbrev pub due_id_of_sole_request : QueueMode → Port → List Unanswered → Option RequestId
+due_id_of_sole_request mode port [] = None
+due_id_of_sole_request mode port (r ∷ []) = if r.port.0 == port.0 && is_due mode (r ∷ []) r then Some r.id else None
+due_id_of_sole_request mode port (r ∷ _ ∷ _) = None
 
 -- the request has this id
 abbrev pub has_id : RequestId → BookEntry → Bool
@@ -58,8 +59,8 @@ abbrev pub issued_request : PendingRequest → PendingRequest
 issued_request r = record r { issued = true; issue_count = suc r.issue_count; age = 0 }
 
 -- the request waiting again
-abbrev pub requeued_request : PendingRequest → PendingRequest
-requeued_request r = record r { issued = false }
+abbrev pub waiting_again_request : PendingRequest → PendingRequest
+waiting_again_request r = record r { issued = false }
 
 -- The request a tick older, if it is issued on one of these ports. An age counts to three: what it would be beyond
 -- nobody asks.
@@ -143,7 +144,7 @@ IssuesAreWithinLimit r = (r.issue_count ≤ 4) × (r.issued ≡ false → r.issu
 pub record BookIsWellFormed (entries : List BookEntry) : Type 0 where
   pub ids_rise : AllPairs IsEarlier entries
   pub clients_are_valid : All (λ e. (1 ≤ e.request.client.0) × (e.request.client.0 ≤ 8)) entries
-  pub clients_are_within_limit : (client : ℕ) → entry_count_of_client entries client ≤ 16
+  pub clients_are_within_limit : (client : ℕ) → entry_count_of_client entries client ≤ MOST_UNANSWERED_OF_A_CLIENT
   pub issues_are_within_limit : All (λ e. IssuesAreWithinLimit e.request) entries
 
 -- An accepted request: of a client 1 to 8, of as many sectors as its operation may have, all of them below 2^48 (a
@@ -161,8 +162,8 @@ pub record IsWellFormedEntry (table : OwnersAndLoans) (book_entry : BookEntry) :
   pub frames_are_lent : All (λ frame. lent_to table frame ≡ Some book_entry.request.id) book_entry.frames
 
 -- each of the entry's frames is lent to its request
-abbrev pub HasItsFrames : OwnersAndLoans → BookEntry → Type 0
-HasItsFrames table e = All (λ f. lent_to table f ≡ Some e.request.id) e.frames
+abbrev pub FramesAreLentToIt : OwnersAndLoans → BookEntry → Type 0
+FramesAreLentToIt table e = All (λ f. lent_to table f ≡ Some e.request.id) e.frames
 
 -- what is lent to these requests is given back: their frames are lent to none, and nothing else changed
 pub record GivesBack (old new : OwnersAndLoans) (entries : List BookEntry) : Type 0 where

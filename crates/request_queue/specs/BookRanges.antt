@@ -28,8 +28,8 @@ abbrev pub AreSorted : List RequestRange → Type 0
 AreSorted items = AllPairs (λ a b. StandsBefore a (item_first b) b.id.0) items
 
 -- It is the greatest end of the items up to a place of the list: at least each of their ends, and one of them.
-pub record IsGreatestEnd (items : List RequestRange) (place greatest : ℕ) : Type 0 where
+pub record EndIsGreatestUpTo (items : List RequestRange) (place greatest : ℕ) : Type 0 where
   pub bounds_all_ends : (j : ℕ) (d : RequestRange) → j ≤ place → item_end (slice_index_or items j d) ≤ greatest
-  pub greatest_place : ℕ
-  pub place_is_in_range : greatest_place ≤ place
-  pub end_is_greatest : (d : RequestRange) → item_end (slice_index_or items greatest_place d) ≡ greatest
+  pub place_of_end : ℕ
+  pub place_is_in_range : place_of_end ≤ place
+  pub end_is_greatest : (d : RequestRange) → item_end (slice_index_or items place_of_end d) ≡ greatest

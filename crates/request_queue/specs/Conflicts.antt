@@ -10,14 +10,14 @@ use Rattle.request_queue.specs.Sectors.{AreIndexed}
 pub record ConflictLists : Type 0 where
   pub sectors : List (List RequestRange)
   pub flushes : List Flush
-  pub has_unlisted_request : Bool
+  pub lone_request_is_unlisted : Bool
 
 -- the requests that are listed: all, but one that came into an empty book, and is alone since
 abbrev pub listed_requests : ConflictLists → List Unanswered → List Unanswered
-listed_requests lists book = if lists.has_unlisted_request then [] else book
+listed_requests lists book = if lists.lone_request_is_unlisted then [] else book
 
 -- the lists are those of the book
 pub record AreConflictLists (book : List Unanswered) (lists : ConflictLists) : Type 0 where
   pub sectors_are_indexed : AreIndexed (listed_requests lists book) lists.sectors
   pub flushes_are_listed : lists.flushes ≡ flushes_among (listed_requests lists book)
-  pub unlisted_is_alone : lists.has_unlisted_request ≡ true → length book ≡ 1
+  pub unlisted_is_alone : lists.lone_request_is_unlisted ≡ true → length book ≡ 1

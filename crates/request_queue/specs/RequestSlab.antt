@@ -3,7 +3,7 @@ use Rattle.std.specs.Prelude.{◌≡◌, ◌≢◌, ℕ, ◌<◌, ◌≤◌, Lis
 use Rattle.slab.specs.Slab.{Slab, get, slab_len}
 use Rattle.ata_types.specs.declared.request.Frame.{Frame}
 use Rattle.ata_types.specs.declared.request.Op.TheVariants.{Read}
-use Rattle.ata_types.specs.declared.limits.TheConstants.{MOST_UNANSWERED}
+use Rattle.ata_types.specs.declared.limits.TheConstants.{MOST_UNANSWERED_OF_ALL_CLIENTS}
 use Rattle.dma_frames.specs.Loan.{Lending}
 use Rattle.block_machine.specs.declared.due.Unanswered.{Unanswered}
 use Rattle.request_queue.specs.BookEntries.{BookEntry, as_unanswered, unanswered_of}
@@ -52,7 +52,7 @@ pub record KeyHasRequestAndLoan (requests : Slab PendingRequest) (loans : List (
 
 -- each key in the order has its request and loan, and no other key has one
 pub record SlabIsSound (requests : Slab PendingRequest) (loans : List (Option Lending)) (order : List ℕ) : Type 0 where
-  pub capacity_is_enough : MOST_UNANSWERED ≤ requests.capacity
+  pub capacity_is_enough : MOST_UNANSWERED_OF_ALL_CLIENTS ≤ requests.capacity
   pub one_loan_place_a_key : length loans ≡ requests.capacity
   pub store_lengths_agree : slab_len requests ≡ length order
   pub distinct : AllPairs (λ (a : ℕ) (b : ℕ). a ≢ b) order

@@ -19,11 +19,11 @@ pub struct Blocker {
 impl Model for Blocker {
     ghost use Rattle.std.specs.Prelude.{Option};
     ghost use Rattle.ata_types.specs.declared.request.RequestId.{RequestId};
-    ghost use Rattle.request_queue.specs.Blockers.{blocker_in};
+    ghost use Rattle.request_queue.specs.Blockers.{blocker_unless_greatest_id};
 
     ghost Value = { Option RequestId };
 
-    ghost view = { λ h. blocker_in h.id };
+    ghost view = { λ h. blocker_unless_greatest_id h.id };
 }
 
 impl Blocker {

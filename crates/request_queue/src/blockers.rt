@@ -1,7 +1,7 @@
 // An earlier request that each waiting read or write conflicts with, so that no walk has to search for it anew.
 ghost use Rattle.std.specs.{Prelude.{◌≡◌, ◌<◌, ◌≤◌, ◌&&◌, [], length, false, true, Contains, List, IfNone, IfOk, IfSome, not, remove, vec_capacity}, List.{list_any}};
 ghost use Rattle.block_machine.specs.declared.due.Unanswered.{Unanswered};
-ghost use Rattle.request_queue.specs.{Conflicts.{AreConflictLists}, BookEntries.{unanswered_of}, Flushes.{flushes_among, comes_after_flush}, Blockers.{AreBlockers, AreBlockersExceptOf, IsBlockerOf, is_read_or_write, may_be_blocked}, Sectors.{AreIndexed}};
+ghost use Rattle.request_queue.specs.{Conflicts.{AreConflictLists}, BookEntries.{unanswered_of}, Flushes.{flushes_among, comes_after_flush}, Blockers.{AreBlockers, AreBlockersExceptOf, IsBlockerOf, is_read_or_write, is_waiting_read_or_write}, Sectors.{AreIndexed}};
 
 use crate::blocker::Blocker;
 use crate::conflicts::Conflicts;
@@ -9,15 +9,16 @@ use crate::flushes::{Flush, earlier_flush};
 use crate::ranges::RangeIndex;
 use crate::request_slab::RequestSlab;
 use crate::sectors::{item_of, list_number_of_port};
-use ata_types::{MOST_UNANSWERED, Op, PORTS, RequestId};
+use ata_types::{MOST_UNANSWERED_OF_ALL_CLIENTS, Op, PORTS, RequestId};
 use block_machine::Unanswered;
 use std::alloc::{AllocError, Global};
 
 /// Holders of no requests, with room for 128. No other call takes memory.
 pub fn empty_blockers(alloc: Global) -> Result<Vec<Blocker>, AllocError>
-    ensures { IfOk result (λ blockers. (blockers.items ≡ []) × (MOST_UNANSWERED ≤ vec_capacity blockers)) }
+    ensures { IfOk result (λ blockers. (blockers.items ≡ [])
+        × (MOST_UNANSWERED_OF_ALL_CLIENTS ≤ vec_capacity blockers)) }
 {
-    let blockers = Vec::with_capacity(alloc, MOST_UNANSWERED)?;
+    let blockers = Vec::with_capacity(alloc, MOST_UNANSWERED_OF_ALL_CLIENTS)?;
     Ok(blockers)
 }
 
@@ -27,7 +28,7 @@ pub fn blocker_of(sectors: &[RangeIndex; PORTS], flushes: &[Flush], request: &Un
     ensures { (book : List Unanswered) → AreIndexed book sectors.now → flushes.now ≡ flushes_among book
         → IsBlockerOf book request.now result }
 {
-    if !may_be_blocked(request) {
+    if !is_waiting_read_or_write(request) {
         return Blocker::nobody();
     }
     match sectors[list_number_of_port(request.port)].earlier_conflict(&item_of(request)) {
@@ -38,7 +39,7 @@ pub fn blocker_of(sectors: &[RangeIndex; PORTS], flushes: &[Flush], request: &Un
 
 /// Searches anew for the blockers of those that a request held which is answered. It stands at this place of the store
 /// still, and was taken out of the lists of conflicts, as its own blocker was of the blockers.
-pub fn update_blockers(
+pub fn find_blockers_anew_before_removal(
     blockers: &mut Vec<Blocker>,
     conflicts: &Conflicts,
     store: &RequestSlab,
@@ -73,8 +74,8 @@ fn blocking_flush(flushes: &[Flush], request: &Unanswered) -> Blocker
 }
 
 /// Whether the request is a read or a write that waits.
-fn may_be_blocked(request: &Unanswered) -> bool
-    ensures { result ≡ may_be_blocked request.now }
+fn is_waiting_read_or_write(request: &Unanswered) -> bool
+    ensures { result ≡ is_waiting_read_or_write request.now }
 {
     !request.issued && is_read_or_write(request.op)
 }

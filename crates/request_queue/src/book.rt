@@ -3,16 +3,19 @@ ghost use Rattle.std.specs.Prelude.{◌≡◌, ◌&&◌, ◌==◌, ◌↔◌, �
 ghost use Rattle.block_machine.specs.{DueRequests.{is_due}, Rules.{HasNoFault, is_same_grant_name}};
 ghost use Rattle.dma_frames.specs.FrameTables.{SetsLoanOnly, lent_to, owner_of};
 ghost use Rattle.request_queue.specs.{BookIndexes.{IndexesMatch}, Blockers.{AreBlockers}};
-ghost use Rattle.request_queue.specs.BookEntries.{due_ids, BookEntry, GivesBack, IsEarlier, IsNewlyAccepted, BookIsWellFormed, IsUnanswered, IsWaiting, IsIssuedBelowLimit, HasItsFrames, HasAnyOverdue, HasOverdueOn, IsOverdueOn, aged_entries, unanswered_of, update_if_id, ids_where, is_among, is_of_port, issued_request, lone_due_id, aged_request, requeued_request, with_requests_under_grant_revoked, with_revoked_mark_if_under_grant, entry_count_of_client, waits_under, without_entry};
+ghost use Rattle.request_queue.specs.BookEntries.{due_ids, BookEntry, GivesBack, IsEarlier, IsNewlyAccepted, BookIsWellFormed, IsUnanswered, IsWaiting, IsIssuedBelowLimit, FramesAreLentToIt, HasAnyOverdue, HasOverdueOn, IsOverdueOn, aged_entries, unanswered_of, update_if_id, ids_where, is_among, is_of_port, issued_request, due_id_of_sole_request, aged_request, waiting_again_request, with_requests_under_grant_revoked, with_revoked_mark_if_under_grant, entry_count_of_client, waits_under, without_entry};
 
 use crate::PendingRequest;
 use crate::blocker::Blocker;
-use crate::blockers::{empty_blockers, update_blockers};
+use crate::blockers::{empty_blockers, find_blockers_anew_before_removal};
 use crate::conflicts::Conflicts;
 use crate::due::{DueIds, list_due};
 use crate::request_slab::{RequestSlab, as_unanswered};
 use arrayvec::ArrayVec;
-use ata_types::{ClientId, Frame, MOST_REQUEST_FRAMES, MOST_UNANSWERED, Port, RequestId};
+use ata_types::{
+    ClientId, Frame, MOST_REQUEST_FRAMES, MOST_UNANSWERED_OF_A_CLIENT,
+    MOST_UNANSWERED_OF_ALL_CLIENTS, Port, RequestId,
+};
 use block_machine::{QueueMode, Unanswered, is_plain};
 use dma_frames::{FrameTable, Loan};
 use std::alloc::Global;
@@ -42,7 +45,7 @@ pub struct Book {
 
 impl Model for Book {
     ghost use Rattle.std.specs.Prelude.{List, ◌≡◌, ◌≤◌, vec_capacity};
-    ghost use Rattle.ata_types.specs.declared.limits.TheConstants.{MOST_UNANSWERED};
+    ghost use Rattle.ata_types.specs.declared.limits.TheConstants.{MOST_UNANSWERED_OF_ALL_CLIENTS};
     ghost use Rattle.request_queue.specs.{ClientCounts.{AreClientCounts}, BookEntries.{BookEntry, BookIsWellFormed, unanswered_of}, BookIndexes.{IndexesMatch}, Conflicts.{AreConflictLists}, Blockers.{AreBlockers}};
 
     ghost Value = { List BookEntry };
@@ -50,7 +53,8 @@ impl Model for Book {
     ghost view = { λ b. b.store };
 
     ghost invariant = { λ b. BookIsWellFormed b.store × AreConflictLists (unanswered_of b.store) b.conflicts
-        × AreBlockers (unanswered_of b.store) b.blockers.items × (MOST_UNANSWERED ≤ vec_capacity b.blockers)
+        × AreBlockers (unanswered_of b.store) b.blockers.items
+        × (MOST_UNANSWERED_OF_ALL_CLIENTS ≤ vec_capacity b.blockers)
         × AreClientCounts b.store b.counts };
 }
 
@@ -99,7 +103,7 @@ impl Book {
         requires id_is_newest { All (λ e. e.request.id.0 < request.id.0) self.old }
         requires is_newly_accepted { IsNewlyAccepted request }
         requires client_is_valid { (1 ≤ request.client.0) × (request.client.0 ≤ 8) }
-        requires client_has_room { entry_count_of_client self.old request.client.0 < 16 }
+        requires client_has_room { entry_count_of_client self.old request.client.0 < MOST_UNANSWERED_OF_A_CLIENT }
         requires frames_have_no_fault_and_are_few { HasNoFault (owner_of table.old)
             (lent_to table.old) request.client frames.now
             × (length frames.now ≤ MOST_REQUEST_FRAMES) }
@@ -124,8 +128,8 @@ impl Book {
     }
 
     /// The id of the only request of the book, where it is due on the port. Where there are others, `issuable` tells.
-    pub fn lone_due_id(&self, mode: QueueMode, port: Port) -> Option<RequestId>
-        ensures result_is_lone_due { result ≡ lone_due_id mode port (unanswered_of self.now) }
+    pub fn due_id_of_sole_request(&self, mode: QueueMode, port: Port) -> Option<RequestId>
+        ensures result_is_due_id_of_sole_request { result ≡ due_id_of_sole_request mode port (unanswered_of self.now) }
         ensures is_the_only_due { IfSome result (λ id. due_ids mode port (unanswered_of self.now) ≡ id ∷ []) }
     {
         if self.store.len() != 1 {
@@ -157,7 +161,7 @@ impl Book {
     }
 
     /// The ids of a port's requests, in order of acceptance.
-    pub fn ids_of(&self, port: Port) -> ArrayVec<RequestId, MOST_UNANSWERED>
+    pub fn ids_of(&self, port: Port) -> ArrayVec<RequestId, MOST_UNANSWERED_OF_ALL_CLIENTS>
         ensures { result.items ≡ ids_where (is_of_port port) self.now }
     {
         ids_of(&self.store, port)
@@ -169,7 +173,7 @@ impl Book {
         &self,
         client: ClientId,
         grant: u8,
-    ) -> ArrayVec<RequestId, MOST_UNANSWERED>
+    ) -> ArrayVec<RequestId, MOST_UNANSWERED_OF_ALL_CLIENTS>
         ensures { result.items ≡ ids_where (waits_under client grant) self.now }
     {
         waiting_ids_under(&self.store, client, grant)
@@ -197,7 +201,7 @@ impl Book {
     /// Notes that a request which was issued fewer than four times waits again, in its old place and with its loan.
     pub fn requeue(&mut self, id: RequestId)
         requires { IsIssuedBelowLimit id self.old }
-        ensures { self.new ≡ map (update_if_id id requeued_request) self.old }
+        ensures { self.new ≡ map (update_if_id id waiting_again_request) self.old }
     {
         let place = place_of(&self.store, id);
         let old = self.store.request(place);
@@ -263,7 +267,7 @@ impl Book {
     /// Takes a request out, and gives back what was lent to it; the others stay in their order. So no loan is moved.
     pub fn remove_and_give_back(&mut self, id: RequestId, table: &mut FrameTable) -> PendingRequest
         requires unanswered { IsUnanswered id self.old }
-        requires frames_are_lent { All (HasItsFrames table.old) self.old }
+        requires frames_are_lent { All (FramesAreLentToIt table.old) self.old }
         ensures entry_is_given_back { (e : BookEntry) × Contains self.old e × (e.request ≡ result) × (result.id ≡ id)
             × SetsLoanOnly table.old table.new e.frames None }
         ensures request_left_book { self.new ≡ without_entry id self.old }
@@ -281,7 +285,7 @@ impl Book {
 
     /// Ends the book: what it has lent is given back.
     pub fn give_all_back(self, table: &mut FrameTable)
-        requires { All (HasItsFrames table.old) self }
+        requires { All (FramesAreLentToIt table.old) self }
         ensures { GivesBack table.old table.new self }
     {
         let Book {
@@ -342,12 +346,12 @@ fn remove_from_indexes(
     let request = store.request(place);
     conflicts.remove(store, place);
     blockers.remove(place);
-    update_blockers(blockers, conflicts, store, place, request.id);
+    find_blockers_anew_before_removal(blockers, conflicts, store, place, request.id);
     counts[usize::from(request.client.0)] -= 1;
 }
 
-fn ids_of(store: &RequestSlab, port: Port) -> ArrayVec<RequestId, MOST_UNANSWERED>
-    requires { length store.now ≤ MOST_UNANSWERED }
+fn ids_of(store: &RequestSlab, port: Port) -> ArrayVec<RequestId, MOST_UNANSWERED_OF_ALL_CLIENTS>
+    requires { length store.now ≤ MOST_UNANSWERED_OF_ALL_CLIENTS }
     ensures { result.items ≡ ids_where (is_of_port port) store.now }
 {
     let mut ids = ArrayVec::new();
@@ -364,8 +368,8 @@ fn waiting_ids_under(
     store: &RequestSlab,
     client: ClientId,
     grant: u8,
-) -> ArrayVec<RequestId, MOST_UNANSWERED>
-    requires { length store.now ≤ MOST_UNANSWERED }
+) -> ArrayVec<RequestId, MOST_UNANSWERED_OF_ALL_CLIENTS>
+    requires { length store.now ≤ MOST_UNANSWERED_OF_ALL_CLIENTS }
     ensures { result.items ≡ ids_where (waits_under client grant) store.now }
 {
     let mut ids = ArrayVec::new();
@@ -467,7 +471,7 @@ fn is_among(ports: &[bool], port: Port) -> bool
 
 /// Gives back what was lent to the requests.
 fn give_back(store: RequestSlab, table: &mut FrameTable)
-    requires stands { All (HasItsFrames table.old) store }
+    requires stands { All (FramesAreLentToIt table.old) store }
     requires ordered { AllPairs IsEarlier store }
     ensures { GivesBack table.old table.new store }
 {

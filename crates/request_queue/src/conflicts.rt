@@ -9,7 +9,7 @@ use crate::flushes::{Flush, add_flush, empty_flushes, remove_flush};
 use crate::ranges::RangeIndex;
 use crate::request_slab::RequestSlab;
 use crate::sectors::{add_sectors, empty_sectors, remove_sectors};
-use ata_types::{MOST_UNANSWERED, PORTS};
+use ata_types::{MOST_UNANSWERED_OF_ALL_CLIENTS, PORTS};
 use block_machine::Unanswered;
 use std::alloc::{AllocError, Global};
 use std::marker::Model;
@@ -28,14 +28,19 @@ pub struct Conflicts {
 
 impl Model for Conflicts {
     ghost use Rattle.std.specs.Prelude.{◌≤◌, vec_capacity};
-    ghost use Rattle.ata_types.specs.declared.limits.TheConstants.{MOST_UNANSWERED};
+    ghost use Rattle.ata_types.specs.declared.limits.TheConstants.{MOST_UNANSWERED_OF_ALL_CLIENTS};
     ghost use Rattle.request_queue.specs.Conflicts.{ConflictLists};
 
     ghost Value = { ConflictLists };
 
-    ghost view = { λ c. record { sectors = c.sectors; flushes = c.flushes.items; has_unlisted_request = c.unlisted } };
+    ghost view = { λ c. record {
+      sectors = c.sectors;
+      flushes = c.flushes.items;
+      lone_request_is_unlisted =
+          c.unlisted;
+    } };
 
-    ghost invariant = { λ c. MOST_UNANSWERED ≤ vec_capacity c.flushes };
+    ghost invariant = { λ c. MOST_UNANSWERED_OF_ALL_CLIENTS ≤ vec_capacity c.flushes };
 }
 
 impl Conflicts {
@@ -67,7 +72,7 @@ impl Conflicts {
     /// book, and that isn't listed yet.
     pub fn add(&mut self, store: &RequestSlab, request: &Unanswered) -> Blocker
         requires lists_match_book { AreConflictLists (unanswered_of store.now) self.old }
-        requires room { length store.now < MOST_UNANSWERED }
+        requires room { length store.now < MOST_UNANSWERED_OF_ALL_CLIENTS }
         requires newest { All (λ r. r.id.0 < request.now.id.0) (unanswered_of store.now) }
         ensures lists { AreConflictLists (unanswered_of store.now ++ request.now ∷ []) self.new }
         ensures blocker { IsBlockerOf (unanswered_of store.now) request.now result }
@@ -86,7 +91,7 @@ impl Conflicts {
     fn list_unlisted(&mut self, store: &RequestSlab)
         requires { AreConflictLists (unanswered_of store.now) self.old }
         ensures lists { AreConflictLists (unanswered_of store.now) self.new }
-        ensures listed { self.new.has_unlisted_request ≡ false }
+        ensures listed { self.new.lone_request_is_unlisted ≡ false }
     {
         if self.unlisted {
             self.unlisted = false;
@@ -114,8 +119,8 @@ impl Conflicts {
 /// Puts a request last into the lists.
 fn list_last(sectors: &mut [RangeIndex; PORTS], flushes: &mut Vec<Flush>, request: &Unanswered)
     requires fits { (book : List Unanswered) × AreIndexed book sectors.old × (flushes.old.items ≡ flushes_among book)
-        × (length book < MOST_UNANSWERED) × All (λ r. r.id.0 < request.now.id.0) book }
-    requires room { MOST_UNANSWERED ≤ vec_capacity flushes.old }
+        × (length book < MOST_UNANSWERED_OF_ALL_CLIENTS) × All (λ r. r.id.0 < request.now.id.0) book }
+    requires room { MOST_UNANSWERED_OF_ALL_CLIENTS ≤ vec_capacity flushes.old }
     ensures sectors { (book : List Unanswered) → AreIndexed book sectors.old
         → All (λ r. r.id.0 < request.now.id.0) book → AreIndexed (book ++ request.now ∷ []) sectors.new }
     ensures flushes { flushes.new.items ≡ flushes.old.items ++ flushes_among (request.now ∷ []) }

@@ -7,15 +7,15 @@ ghost use Rattle.block_machine.specs.DueRequests as machine;
 use crate::blocker::Blocker;
 use crate::request_slab::RequestSlab;
 use arrayvec::ArrayVec;
-use ata_types::{MOST_UNANSWERED, Port, RequestId, SLOTS};
-use block_machine::laws::{law_due_and_unblocked_ahead_agree, law_earlier_ones_stand_before};
+use ata_types::{MOST_UNANSWERED_OF_ALL_CLIENTS, Port, RequestId, SLOTS};
+use block_machine::laws::{law_counts_ahead_agree_on_slot_left, law_earlier_ones_stand_before};
 use block_machine::{QueueMode, Unanswered, is_plain};
 
 /// Ids of due requests: no more than a port has slots.
 pub type DueIds = ArrayVec<RequestId, SLOTS>;
 
 /// Places of requests in a store, in order of acceptance.
-type Places = ArrayVec<u8, MOST_UNANSWERED>;
+type Places = ArrayVec<u8, MOST_UNANSWERED_OF_ALL_CLIENTS>;
 
 /// What is issued of a port: how many requests, and whether one of them is plain, and so was issued alone.
 #[derive(Clone, Copy, Debug)]
@@ -37,20 +37,20 @@ pub fn list_due(
     due: &mut DueIds,
 )
     requires ordered { machine.IsInOrder (unanswered_of store.now) }
-    requires store_is_within_limit { length store.now ≤ MOST_UNANSWERED }
+    requires store_is_within_limit { length store.now ≤ MOST_UNANSWERED_OF_ALL_CLIENTS }
     requires usable_slots_are_at_most_32 { mode.usable_slots ≤ 32 }
     requires blockers { AreBlockers (unanswered_of store.now) blockers.now }
     requires due_is_empty { due.old.items ≡ [] }
     ensures { due.new.items ≡ due_ids mode port (unanswered_of store.now) }
 {
     law_earlier_ones_stand_before();
-    law_due_and_unblocked_ahead_agree();
+    law_counts_ahead_agree_on_slot_left();
     let mut places = ArrayVec::new();
     let issued = find_unblocked(store, blockers, mode, port, &mut places);
     let free = free_slots(mode, issued.count);
     for number in issued.leading..places.len() {
         let asks = nth(store, &places, number);
-        let clear = is_unblocked(mode, &asks, number, issued);
+        let clear = is_waiting_and_unblocked(mode, &asks, number, issued);
         if goes(mode, &asks, clear, due.len(), free) {
             due.push(asks.id);
         }
@@ -68,7 +68,7 @@ fn find_unblocked(
     port: Port,
     places: &mut Places,
 ) -> IssuedTally
-    requires few { length store.now ≤ MOST_UNANSWERED }
+    requires few { length store.now ≤ MOST_UNANSWERED_OF_ALL_CLIENTS }
     requires blockers { AreBlockers (unanswered_of store.now) blockers.now }
     requires empty { places.old.items ≡ [] }
     ensures without_blocker { unanswered_at store.now places.new.items
@@ -102,7 +102,7 @@ fn find_unblocked(
 
 /// How many are issued before the first that waits, or that is plain, where the request comes behind so many.
 fn leading_after(mode: QueueMode, asks: &Unanswered, leading: usize, before: usize) -> usize
-    requires { before ≤ MOST_UNANSWERED }
+    requires { before ≤ MOST_UNANSWERED_OF_ALL_CLIENTS }
     ensures { result ≡ (if leading == before && (asks.now.issued && not (machine.is_plain mode asks.now.op))
         then suc leading else leading) }
 {
@@ -160,9 +160,14 @@ fn free_slots(mode: QueueMode, issued: usize) -> usize
 /// Whether the request waits, and nothing stands in its way. It has this number among those of its port without a
 /// blocker, all before it are queued, and this is issued of them. A plain one waits for all that are issued and all
 /// before it, a queued one for what is issued alone.
-fn is_unblocked(mode: QueueMode, asks: &Unanswered, number: usize, issued: IssuedTally) -> bool
+fn is_waiting_and_unblocked(
+    mode: QueueMode,
+    asks: &Unanswered,
+    number: usize,
+    issued: IssuedTally,
+) -> bool
     ensures { (requests : List Unanswered) → IsReachedInWalk mode requests number asks.now
-        → TalliesIssued mode requests issued → result ≡ machine.is_unblocked mode requests asks.now }
+        → TalliesIssued mode requests issued → result ≡ machine.is_waiting_and_unblocked mode requests asks.now }
 {
     if asks.issued {
         false

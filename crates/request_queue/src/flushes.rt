@@ -3,7 +3,7 @@ ghost use Rattle.std.specs.{Prelude.{◌≡◌, ◌<◌, ◌≤◌, ◌++◌, �
 ghost use Rattle.request_queue.specs.Flushes.{flushes_among, comes_after_flush};
 ghost use Rattle.block_machine.specs.DueRequests as machine;
 
-use ata_types::{MOST_UNANSWERED, Op, Port, RequestId};
+use ata_types::{MOST_UNANSWERED_OF_ALL_CLIENTS, Op, Port, RequestId};
 use block_machine::Unanswered;
 use std::alloc::{AllocError, Global};
 
@@ -16,9 +16,9 @@ pub struct Flush {
 
 /// A list of no flushes, with room for 128. No other call takes memory.
 pub fn empty_flushes(alloc: Global) -> Result<Vec<Flush>, AllocError>
-    ensures { IfOk result (λ flushes. (flushes.items ≡ []) × (MOST_UNANSWERED ≤ vec_capacity flushes)) }
+    ensures { IfOk result (λ flushes. (flushes.items ≡ []) × (MOST_UNANSWERED_OF_ALL_CLIENTS ≤ vec_capacity flushes)) }
 {
-    let flushes = Vec::with_capacity(alloc, MOST_UNANSWERED)?;
+    let flushes = Vec::with_capacity(alloc, MOST_UNANSWERED_OF_ALL_CLIENTS)?;
     Ok(flushes)
 }
 

@@ -3,12 +3,12 @@ ghost use Rattle.std.specs.Prelude.{◌≡◌, ◌≢◌, ◌↔◌, ◌++◌, �
 ghost use Rattle.ata_types.specs.{declared.Port.{Port}, declared.request.ClientId.{ClientId}, declared.request.Frame.{Frame}, declared.request.Outcome.{Outcome}, declared.request.Reply.{Reply}, declared.request.RequestId.{RequestId}};
 ghost use Rattle.block_machine.specs.{DueRequests.{AreAllDueInOrder, IsDue, IsInOrder, with_issued, without_request, with_waiting}, State.{Machine, unanswered}, declared.due.QueueMode.{QueueMode}, declared.due.Unanswered.{Unanswered}};
 ghost use Rattle.dma_frames.specs.FrameTables.{OwnersAndLoans, SetsLoanOnly, lent_to};
-ghost use Rattle.request_queue.specs.{BookEntries.{BookEntry, IsWellFormedEntry, IsEarlier, IsNewlyAccepted, BookIsWellFormed, IsUnanswered, IsWaiting, IsIssuedBelowLimit, HasItsFrames, aged_entries, unanswered_of, update_if_id, due_ids, entry_with_id, issued_request, requeued_request, with_requests_under_grant_revoked, entry_count_of_client, without_entry}, Dispositions.{CompletesAllWith, BookAndLoans, AreResolved, keeps_loan}};
+ghost use Rattle.request_queue.specs.{BookEntries.{BookEntry, IsWellFormedEntry, IsEarlier, IsNewlyAccepted, BookIsWellFormed, IsUnanswered, IsWaiting, IsIssuedBelowLimit, FramesAreLentToIt, aged_entries, unanswered_of, update_if_id, due_ids, entry_with_id, issued_request, waiting_again_request, with_requests_under_grant_revoked, entry_count_of_client, without_entry}, Dispositions.{CompletesAllWith, BookAndLoans, AreResolved, keeps_loan}};
 ghost use Rattle.request_queue.specs.{BookRelation.{BookRelation, EntryRelation}, declared.PendingRequest.{PendingRequest}, declared.disposition.Disposition.TheVariants.{Complete}};
 ghost use Rattle.block_machine.specs.State as machine;
 ghost use Rattle.block_machine.specs.Steps as steps;
 
-use ata_types::MOST_UNANSWERED;
+use ata_types::{MOST_UNANSWERED_OF_A_CLIENT, MOST_UNANSWERED_OF_ALL_CLIENTS};
 use block_machine::laws::{law_due_in_turn, law_due_list_is_exact};
 
 /// Where the machine's book is the book, the machine's due requests are the book's.
@@ -39,7 +39,7 @@ pub fn law_steps_change_the_book()
         → BookRelation (map (update_if_id p.request.id issued_request) entries)
         (steps.after_step m (steps.Issue mode p)).book }
     ensures again { (entries : List BookEntry) (m : Machine) (p : machine.Pending) → BookRelation entries m.book
-        → BookRelation (map (update_if_id p.request.id requeued_request) entries)
+        → BookRelation (map (update_if_id p.request.id waiting_again_request) entries)
         (steps.after_step m (steps.WaitAgain p)).book }
     ensures answer { (entries : List BookEntry) (m : Machine) (p : machine.Pending) (outcome : Outcome)
         → BookRelation entries m.book
@@ -73,7 +73,7 @@ pub fn law_operations_change_the_unanswered()
         → unanswered_of (map (update_if_id id issued_request) entries)
         ≡ with_issued id (unanswered_of entries) }
     ensures requeue { (entries : List BookEntry) (id : RequestId)
-        → unanswered_of (map (update_if_id id requeued_request) entries) ≡ with_waiting id
+        → unanswered_of (map (update_if_id id waiting_again_request) entries) ≡ with_waiting id
         (unanswered_of entries) }
     ensures answer { (entries : List BookEntry) (id : RequestId)
         → unanswered_of (without_entry id entries) ≡ without_request id (unanswered_of entries) }
@@ -149,20 +149,21 @@ pub fn law_book_stays_well_formed()
     ensures accepted { (entries : List BookEntry) (e : BookEntry) → BookIsWellFormed entries
         → All (λ x. IsEarlier x e) entries
         → IsNewlyAccepted e.request → 1 ≤ e.request.client.0 → e.request.client.0 ≤ 8
-        → entry_count_of_client entries e.request.client.0 < 16
+        → entry_count_of_client entries e.request.client.0 < MOST_UNANSWERED_OF_A_CLIENT
         → BookIsWellFormed (entries ++ e ∷ []) }
     ensures issued { (entries : List BookEntry) (id : RequestId) → BookIsWellFormed entries → IsWaiting id entries
         → BookIsWellFormed (map (update_if_id id issued_request) entries) }
     ensures requeued { (entries : List BookEntry) (id : RequestId) → BookIsWellFormed entries
         → IsIssuedBelowLimit id entries
-        → BookIsWellFormed (map (update_if_id id requeued_request) entries) }
+        → BookIsWellFormed (map (update_if_id id waiting_again_request) entries) }
     ensures aged { (entries : List BookEntry) (ports : Port → Bool) → BookIsWellFormed entries
         → BookIsWellFormed (aged_entries ports entries) }
     ensures revoked { (entries : List BookEntry) (client : ClientId) (grant : ℕ) → BookIsWellFormed entries
         → BookIsWellFormed (with_requests_under_grant_revoked client grant entries) }
     ensures answered { (entries : List BookEntry) (id : RequestId) → BookIsWellFormed entries
         → BookIsWellFormed (without_entry id entries) }
-    ensures has_128_at_most { (entries : List BookEntry) → BookIsWellFormed entries → length entries ≤ MOST_UNANSWERED }
+    ensures has_128_at_most { (entries : List BookEntry) → BookIsWellFormed entries
+        → length entries ≤ MOST_UNANSWERED_OF_ALL_CLIENTS }
     ensures unanswered_are_in_order { (entries : List BookEntry) → BookIsWellFormed entries
         → IsInOrder (unanswered_of entries) }
 {}
@@ -190,7 +191,7 @@ pub fn law_well_formed_entries_stay()
         → All (IsWellFormedEntry table) (map (update_if_id id issued_request) entries) }
     ensures requeued { (table : OwnersAndLoans) (entries : List BookEntry) (id : RequestId)
         → All (IsWellFormedEntry table) entries
-        → All (IsWellFormedEntry table) (map (update_if_id id requeued_request) entries) }
+        → All (IsWellFormedEntry table) (map (update_if_id id waiting_again_request) entries) }
     ensures aged { (table : OwnersAndLoans) (entries : List BookEntry) (ports : Port → Bool)
         → All (IsWellFormedEntry table) entries → All (IsWellFormedEntry table) (aged_entries ports entries) }
     ensures revoked { (table : OwnersAndLoans) (entries : List BookEntry) (client : ClientId) (grant : ℕ)
@@ -198,7 +199,7 @@ pub fn law_well_formed_entries_stay()
         → All (IsWellFormedEntry table) (with_requests_under_grant_revoked client grant entries) }
     ensures frames_are_lent_to_all { (table : OwnersAndLoans) (entries : List BookEntry)
         → All (IsWellFormedEntry table) entries
-        → All (HasItsFrames table) entries }
+        → All (FramesAreLentToIt table) entries }
 {}
 
 /// Where the requests of a book that pass a test are answered one after another, all with one outcome at which no loan

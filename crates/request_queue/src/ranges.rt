@@ -5,10 +5,10 @@
 //! contract says what is found.) `new` alone takes memory. Ids tell which request is earlier.
 ghost use Rattle.std.specs.{Prelude.{◌≡◌, ◌≢◌, ◌↔◌, ℕ, ◌<◌, ◌≤◌, length, All, Contains, IfNone, IfOk, IfSome, IsTrue, Some, false, true, [], slice_get, slice_index_or, insert, remove, vec_capacity}, List.{list_any}};
 ghost use Rattle.ata_types.specs.Range.{range_end};
-ghost use Rattle.request_queue.specs.{BookRanges.{AreSorted, StandsBefore, IsGreatestEnd, is_earlier_conflict}, declared.ranges.IndexEntry.{IndexEntry}, declared.ranges.RequestRange.{RequestRange}, RangeIndex.{GreatestEndPropagates, IsIndex, items_of}};
+ghost use Rattle.request_queue.specs.{BookRanges.{AreSorted, StandsBefore, EndIsGreatestUpTo, is_earlier_conflict}, declared.ranges.IndexEntry.{IndexEntry}, declared.ranges.RequestRange.{RequestRange}, RangeIndex.{NextEndIsGreatestIfThis, IsSortedWithGreatestEndSoFar, items_of}};
 ghost use Rattle.block_machine.specs.DueRequests as machine;
 
-use ata_types::{MOST_UNANSWERED, Port, Range, RequestId};
+use ata_types::{MOST_UNANSWERED_OF_ALL_CLIENTS, Port, Range, RequestId};
 use std::alloc::{AllocError, Global};
 use std::marker::Model;
 
@@ -37,14 +37,15 @@ pub struct RangeIndex {
 
 impl Model for RangeIndex {
     ghost use Rattle.std.specs.Prelude.{List, ◌≤◌, vec_capacity};
-    ghost use Rattle.ata_types.specs.declared.limits.TheConstants.{MOST_UNANSWERED};
-    ghost use Rattle.request_queue.specs.{declared.ranges.RequestRange.{RequestRange as One}, RangeIndex.{IsIndex, items_of}};
+    ghost use Rattle.ata_types.specs.declared.limits.TheConstants.{MOST_UNANSWERED_OF_ALL_CLIENTS};
+    ghost use Rattle.request_queue.specs.{declared.ranges.RequestRange.{RequestRange as One}, RangeIndex.{IsSortedWithGreatestEndSoFar, items_of}};
 
     ghost Value = { List One };
 
     ghost view = { λ r. items_of r.entries.items };
 
-    ghost invariant = { λ r. IsIndex r.entries.items × (MOST_UNANSWERED ≤ vec_capacity r.entries) };
+    ghost invariant = { λ r. IsSortedWithGreatestEndSoFar r.entries.items
+        × (MOST_UNANSWERED_OF_ALL_CLIENTS ≤ vec_capacity r.entries) };
 }
 
 impl RangeIndex {
@@ -52,13 +53,13 @@ impl RangeIndex {
     pub fn new(alloc: Global) -> Result<Self, AllocError>
         ensures { IfOk result (λ ranges. ranges ≡ []) }
     {
-        let entries = Vec::with_capacity(alloc, MOST_UNANSWERED)?;
+        let entries = Vec::with_capacity(alloc, MOST_UNANSWERED_OF_ALL_CLIENTS)?;
         Ok(RangeIndex { entries })
     }
 
     /// Puts an item in its place.
     pub fn insert(&mut self, item: RequestRange)
-        requires room { length self.old < MOST_UNANSWERED }
+        requires room { length self.old < MOST_UNANSWERED_OF_ALL_CLIENTS }
         requires id_is_new { All (λ x. x.id ≢ item.id) self.old }
         ensures { (place : ℕ) × (place ≤ length self.old) × (self.new ≡ insert self.old place item) }
     {
@@ -156,7 +157,7 @@ fn count_before(entries: &[IndexEntry], first: u128, id: u64) -> usize
 /// Searches down from the last item that begins before this one ends. It stops at an entry whose greatest end is at or
 /// below this one's first sector: no range up to that entry reaches it.
 fn earlier_conflict(entries: &[IndexEntry], item: &RequestRange) -> Option<RequestRange>
-    requires { IsIndex entries.now }
+    requires { IsSortedWithGreatestEndSoFar entries.now }
     ensures none_conflicts { IfNone result (list_any (is_earlier_conflict item.now) (items_of entries.now) ≡ false) }
     ensures found { IfSome result (λ x. Contains (items_of entries.now) x
         × (is_earlier_conflict item.now x ≡ true)) }
@@ -181,12 +182,12 @@ fn earlier_conflict(entries: &[IndexEntry], item: &RequestRange) -> Option<Reque
 /// that is noted: each end there follows from the one before it, as it did before the change at that place.
 fn note_ends(entries: &mut Vec<IndexEntry>, from: usize)
     requires before { (k : ℕ) (d : IndexEntry) → k < from
-        → IsGreatestEnd (items_of entries.old.items) k (slice_index_or entries.old.items k d).greatest_end }
+        → EndIsGreatestUpTo (items_of entries.old.items) k (slice_index_or entries.old.items k d).greatest_end }
     requires within { from ≤ length entries.old.items }
-    requires follow { (k : ℕ) (d : IndexEntry) → from < k → GreatestEndPropagates entries.old.items k d }
+    requires follow { (k : ℕ) (d : IndexEntry) → from < k → NextEndIsGreatestIfThis entries.old.items k d }
     ensures items { items_of entries.new.items ≡ items_of entries.old.items }
     ensures ends { (k : ℕ) (d : IndexEntry) → k < length entries.old.items
-        → IsGreatestEnd (items_of entries.old.items) k (slice_index_or entries.new.items k d).greatest_end }
+        → EndIsGreatestUpTo (items_of entries.old.items) k (slice_index_or entries.new.items k d).greatest_end }
     ensures room { vec_capacity entries.new ≡ vec_capacity entries.old }
 {
     for place in from..entries.len() {
@@ -202,8 +203,8 @@ fn note_ends(entries: &mut Vec<IndexEntry>, from: usize)
 fn greatest_end_at(entries: &[IndexEntry], place: usize) -> u128
     requires within { place < length entries.now }
     requires before { (k : ℕ) (d : IndexEntry) → k < place
-        → IsGreatestEnd (items_of entries.now) k (slice_index_or entries.now k d).greatest_end }
-    ensures { IsGreatestEnd (items_of entries.now) place result }
+        → EndIsGreatestUpTo (items_of entries.now) k (slice_index_or entries.now k d).greatest_end }
+    ensures { EndIsGreatestUpTo (items_of entries.now) place result }
 {
     let end = end_of(&entries[place].item.range);
     if place == 0 {

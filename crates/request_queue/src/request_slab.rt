@@ -2,10 +2,10 @@
 ghost use Rattle.std.specs.Prelude.{◌≡◌, ◌<◌, ◌≤◌, ◌++◌, ◌∷◌, [], length, map, replicate, remove, slice_get, slice_set, All, IfOk, IfSome, None, Some};
 ghost use Rattle.block_machine.specs.Rules.{HasNoFault};
 ghost use Rattle.dma_frames.specs.FrameTables.{SetsLoanOnly, lent_to, owner_of};
-ghost use Rattle.request_queue.specs.BookEntries.{BookEntry, HasItsFrames, as_unanswered, unanswered_of};
+ghost use Rattle.request_queue.specs.BookEntries.{BookEntry, FramesAreLentToIt, as_unanswered, unanswered_of};
 
 use crate::PendingRequest;
-use ata_types::{Frame, MOST_REQUEST_FRAMES, MOST_UNANSWERED};
+use ata_types::{Frame, MOST_REQUEST_FRAMES, MOST_UNANSWERED_OF_ALL_CLIENTS};
 use block_machine::Unanswered;
 use dma_frames::{FrameTable, Loan, LoanPlace};
 use slab::Slab;
@@ -21,7 +21,7 @@ pub struct RequestSlab {
 
 impl Model for RequestSlab {
     ghost use Rattle.std.specs.Prelude.{List, ◌≤◌, length, vec_capacity};
-    ghost use Rattle.ata_types.specs.declared.limits.TheConstants.{MOST_UNANSWERED};
+    ghost use Rattle.ata_types.specs.declared.limits.TheConstants.{MOST_UNANSWERED_OF_ALL_CLIENTS};
     ghost use Rattle.request_queue.specs.{BookEntries.{BookEntry}, RequestSlab.{slab_entries, SlabIsSound}};
 
     ghost Value = { List BookEntry };
@@ -29,7 +29,7 @@ impl Model for RequestSlab {
     ghost view = { λ s. slab_entries s.requests s.loans.items s.order.items };
 
     ghost invariant = { λ s. SlabIsSound s.requests s.loans.items s.order.items
-        × (MOST_UNANSWERED ≤ vec_capacity s.order) };
+        × (MOST_UNANSWERED_OF_ALL_CLIENTS ≤ vec_capacity s.order) };
 }
 
 impl RequestSlab {
@@ -37,8 +37,8 @@ impl RequestSlab {
     pub fn new(alloc: Global) -> Result<Self, AllocError>
         ensures { IfOk result (λ store. store ≡ []) }
     {
-        let requests = Slab::with_capacity(alloc, MOST_UNANSWERED)?;
-        let order = Vec::with_capacity(alloc, MOST_UNANSWERED)?;
+        let requests = Slab::with_capacity(alloc, MOST_UNANSWERED_OF_ALL_CLIENTS)?;
+        let order = Vec::with_capacity(alloc, MOST_UNANSWERED_OF_ALL_CLIENTS)?;
         let loans = empty_loans(alloc, requests.capacity())?;
         Ok(RequestSlab {
             requests,
@@ -75,7 +75,7 @@ impl RequestSlab {
 
     /// Puts a request last, and lends it these frames of the table. The loan begins in its place, so it isn't moved.
     pub fn push(&mut self, request: PendingRequest, frames: &[Frame], table: &mut FrameTable)
-        requires room { length self.old < MOST_UNANSWERED }
+        requires room { length self.old < MOST_UNANSWERED_OF_ALL_CLIENTS }
         requires frames { HasNoFault (owner_of table.old) (lent_to table.old) request.client frames.now
             × (length frames.now ≤ MOST_REQUEST_FRAMES) }
         ensures request_is_appended { self.new ≡ self.old ++ record { request = request; frames = frames.now } ∷ [] }
@@ -102,7 +102,7 @@ impl RequestSlab {
     /// Takes out the request at this place, and gives back what was lent to it.
     pub fn remove_and_give_back(&mut self, place: usize, table: &mut FrameTable) -> PendingRequest
         requires place_is_in_range { place < length self.old }
-        requires frames_are_lent { All (HasItsFrames table.old) self.old }
+        requires frames_are_lent { All (FramesAreLentToIt table.old) self.old }
         ensures entry { (e : BookEntry) × (slice_get self.old place ≡ Some e) × (e.request ≡ result)
             × SetsLoanOnly table.old table.new e.frames None }
         ensures request_is_removed { self.new ≡ remove self.old place }

@@ -6,7 +6,7 @@ ghost use Rattle.block_machine.specs.DueRequests as machine;
 
 use crate::ranges::{RangeIndex, RequestRange};
 use crate::request_slab::RequestSlab;
-use ata_types::{MOST_UNANSWERED, Op, PORTS, Port};
+use ata_types::{MOST_UNANSWERED_OF_ALL_CLIENTS, Op, PORTS, Port};
 use block_machine::{Unanswered, changes_sectors};
 use std::alloc::{AllocError, Global};
 
@@ -24,7 +24,7 @@ pub fn empty_sectors(alloc: Global) -> Result<[RangeIndex; PORTS], AllocError>
 
 /// Puts the sectors of a request into its port's list. It was accepted after all whose sectors are listed.
 pub fn add_sectors(sectors: &mut [RangeIndex; PORTS], request: &Unanswered)
-    requires { (book : List Unanswered) × AreIndexed book sectors.old × (length book < MOST_UNANSWERED)
+    requires { (book : List Unanswered) × AreIndexed book sectors.old × (length book < MOST_UNANSWERED_OF_ALL_CLIENTS)
         × All (λ r. r.id.0 < request.now.id.0) book }
     ensures { (book : List Unanswered) → AreIndexed book sectors.old → All (λ r. r.id.0 < request.now.id.0) book
         → AreIndexed (book ++ request.now ∷ []) sectors.new }

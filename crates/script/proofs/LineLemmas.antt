@@ -22,7 +22,7 @@ use Rattle.adapter.specs.declared.access.FatalError.TheVariants.{Interface, Host
 use Rattle.ata_types.specs.declared.call.Call.{Call}
 use Rattle.ata_types.specs.declared.call.Call.TheVariants.{Submit, ClientStore, ClientLoad, Service, Tick, Reset, Revoke, State, Device}
 use Rattle.script.specs.FieldWords.{Word, fatal_word, frames_word}
-use Rattle.script.specs.Line.{HasLine, PortAndSlotInRange, RequestFitsTypes, StepInRange, line_text, line_words, op_word, page_word, port_and_slot_words, request_words, step_words}
+use Rattle.script.specs.Line.{HasLine, PortBelow4AndSlotBelow32, RequestFitsTypes, StepFitsModelledAdapter, line_text, line_words, op_word, page_word, port_and_slot_words, request_words, step_words}
 use Rattle.script.proofs.FrameLemmas.{IsFrame, decimals}
 use Rattle.script.proofs.FrameLemmas as frame
 use Rattle.script.proofs.WordLemmas.{Lacks-below, Within, Within-decimal, Within-hex, Within-join, Within-literal, Within-weaker, IsUtf8-from_Within, slice_split-join}
@@ -79,13 +79,13 @@ request_are Write r h = sectors_are r (frames_word r.frames.items ∷ []) h (mor
 request_are Trim r h = sectors_are r [] h none
 request_are Flush r h = by_are r [] h none
 
-place_are : (port : Port) (slot : Slot) → PortAndSlotInRange port slot → AreWords (port_and_slot_words port slot)
+place_are : (port : Port) (slot : Slot) → PortBelow4AndSlotBelow32 port slot → AreWords (port_and_slot_words port slot)
 place_are port slot h = more (number port.0 (omega (arith, h.0))) (more (number slot.0 (omega (arith, h.1))) none)
 
 port_are : (w : Word) (port : Port) → IsWord w → port.0 < 4 → AreWords (w ∷ decimal port.0 ∷ [])
 port_are w port first small = more first (more (number port.0 (omega (arith, small))) none)
 
-step_are : (s : DeviceStep) → StepInRange s → AreWords (step_words s)
+step_are : (s : DeviceStep) → StepFitsModelledAdapter s → AreWords (step_words s)
 step_are (step.Fetch port slot) h = more (fixed (codes "fetch") refl) (place_are port slot h)
 step_are (step.Move port slot) h = more (fixed (codes "move") refl) (place_are port slot h)
 step_are (step.Clear port slot count) h =

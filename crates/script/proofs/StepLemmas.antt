@@ -16,7 +16,7 @@ use Rattle.ata_types.specs.declared.request.Op.{Op}
 use Rattle.ata_types.specs.declared.request.Op.TheVariants.{Read, Write, Trim, Flush}
 use Rattle.ata_types.specs.declared.call.Call.{Call}
 use Rattle.ata_types.specs.declared.call.Call.TheVariants.{Submit, ClientStore, ClientLoad, Service, Tick, Reset, Revoke, State, Device}
-use Rattle.script.specs.Line.{HasLine, StepInRange, line_words, op_word, page_word, step_words}
+use Rattle.script.specs.Line.{HasLine, StepFitsModelledAdapter, line_words, op_word, page_word, step_words}
 use Rattle.script.specs.FieldWords.{Word}
 
 pub record IsLie (s : DeviceStep) (port page offset bits : Word) : Type 0 where
@@ -34,7 +34,7 @@ pub record IsLie (s : DeviceStep) (port page offset bits : Word) : Type 0 where
   pub step_is : s ≡ step.Lie on of at turned
 
 -- what follows `lie` is its fields; the first letters part it from the other steps
-pub as_lie : (s : DeviceStep) (port page offset bits : Word) → StepInRange s
+pub as_lie : (s : DeviceStep) (port page offset bits : Word) → StepFitsModelledAdapter s
     → step_words s ≡ codes "lie" ∷ port ∷ page ∷ offset ∷ bits ∷ [] → IsLie s port page offset bits
 as_lie (step.Lie p q o b) port page offset bits h e = record {
   on = p;

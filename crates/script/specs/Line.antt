@@ -100,27 +100,27 @@ pub record RequestFitsTypes (r : Request) : Type 0 where
   pub frame_count_in_range : length r.frames.items ≤ MOST_REQUEST_FRAMES
 
 -- the port and slot are ones that an adapter can have
-abbrev pub PortAndSlotInRange : Port → Slot → Type 0
-PortAndSlotInRange port slot = (port.0 < 4) × (slot.0 < 32)
+abbrev pub PortBelow4AndSlotBelow32 : Port → Slot → Type 0
+PortBelow4AndSlotBelow32 port slot = (port.0 < 4) × (slot.0 < 32)
 
--- the step's numbers are in their ranges
-abbrev pub StepInRange : DeviceStep → Type 0
-StepInRange (step.Fetch port slot) = PortAndSlotInRange port slot
-StepInRange (step.Move port slot) = PortAndSlotInRange port slot
-StepInRange (step.Clear port slot count) = (port.0 < 4) × (slot.0 < 32) × (count < 2 ^ 32)
-StepInRange (step.Done port slot) = PortAndSlotInRange port slot
-StepInRange (step.Finish port slot) = PortAndSlotInRange port slot
-StepInRange (step.Fault port slot error) = (port.0 < 4) × (slot.0 < 32) × (error < 256)
-StepInRange (step.FaultBusy port slot error) = (port.0 < 4) × (slot.0 < 32) × (error < 256)
-StepInRange (step.Fatal port error) = port.0 < 4
-StepInRange (step.Scribble port byte) = (port.0 < 4) × (byte < 256)
-StepInRange (step.Lie port page offset bits) = (port.0 < 4) × (offset < 512) × (bits < 256)
-StepInRange (step.Truth port) = port.0 < 4
-StepInRange (step.Hold port) = port.0 < 4
-StepInRange (step.Release port) = port.0 < 4
-StepInRange (step.Unplug port) = port.0 < 4
-StepInRange (step.Plug port disk) = (port.0 < 4) × (disk.0 < 2)
-StepInRange (step.LosePlug port) = port.0 < 4
+-- the step's port, slot, disk and bytes are ones that the modelled adapter can have
+abbrev pub StepFitsModelledAdapter : DeviceStep → Type 0
+StepFitsModelledAdapter (step.Fetch port slot) = PortBelow4AndSlotBelow32 port slot
+StepFitsModelledAdapter (step.Move port slot) = PortBelow4AndSlotBelow32 port slot
+StepFitsModelledAdapter (step.Clear port slot count) = (port.0 < 4) × (slot.0 < 32) × (count < 2 ^ 32)
+StepFitsModelledAdapter (step.Done port slot) = PortBelow4AndSlotBelow32 port slot
+StepFitsModelledAdapter (step.Finish port slot) = PortBelow4AndSlotBelow32 port slot
+StepFitsModelledAdapter (step.Fault port slot error) = (port.0 < 4) × (slot.0 < 32) × (error < 256)
+StepFitsModelledAdapter (step.FaultBusy port slot error) = (port.0 < 4) × (slot.0 < 32) × (error < 256)
+StepFitsModelledAdapter (step.Fatal port error) = port.0 < 4
+StepFitsModelledAdapter (step.Scribble port byte) = (port.0 < 4) × (byte < 256)
+StepFitsModelledAdapter (step.Lie port page offset bits) = (port.0 < 4) × (offset < 512) × (bits < 256)
+StepFitsModelledAdapter (step.Truth port) = port.0 < 4
+StepFitsModelledAdapter (step.Hold port) = port.0 < 4
+StepFitsModelledAdapter (step.Release port) = port.0 < 4
+StepFitsModelledAdapter (step.Unplug port) = port.0 < 4
+StepFitsModelledAdapter (step.Plug port disk) = (port.0 < 4) × (disk.0 < 2)
+StepFitsModelledAdapter (step.LosePlug port) = port.0 < 4
 
 -- the value has a line
 abbrev pub HasLine : Call DeviceStep → Type 0
@@ -134,17 +134,17 @@ HasLine Tick = Unit {0}
 HasLine Reset = Unit {0}
 HasLine (Revoke client grant) = (client.0 < 256) × (grant < 256)
 HasLine (State port) = port.0 < 4
-HasLine (Device asked) = StepInRange asked
+HasLine (Device asked) = StepFitsModelledAdapter asked
 
 -- ---- what is read from words
 
 -- if a step is found, these are its words
 abbrev pub FoundStepHasWords : List Word → Option DeviceStep → Type 0
-FoundStepHasWords words found = IfSome found (λ s. StepInRange s × (step_words s ≡ words))
+FoundStepHasWords words found = IfSome found (λ s. StepFitsModelledAdapter s × (step_words s ≡ words))
 
 -- the step whose words these are is found
 abbrev pub FindsSpelledStep : List Word → Option DeviceStep → Type 0
-FindsSpelledStep words found = (s : DeviceStep) → StepInRange s → step_words s ≡ words → found ≡ Some s
+FindsSpelledStep words found = (s : DeviceStep) → StepFitsModelledAdapter s → step_words s ≡ words → found ≡ Some s
 
 -- if a call is found, which then stands in the place, these are its line's words
 abbrev pub FoundCallHasWords : List Word → Option ⊤ → Call DeviceStep → Type 0

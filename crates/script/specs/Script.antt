@@ -19,14 +19,14 @@ lines_after (Some after) = lines_of after.now
 abbrev pub IsFirstLine : List ℕ → List ℕ → Option (Bor (List ℕ)) → Type 0
 IsFirstLine text first after = lines_of text ≡ first ∷ lines_after after
 
--- an empty line, or one that begins with `#`, asks nothing
-abbrev pub AsksNothing : List ℕ → Type 0
-AsksNothing [] = Unit {0}
-AsksNothing (b ∷ rest) = b ≡ 35
+-- an empty line, or one that begins with `#`
+abbrev pub IsEmptyOrComment : List ℕ → Type 0
+IsEmptyOrComment [] = Unit {0}
+IsEmptyOrComment (b ∷ rest) = b ≡ 35
 
 -- the line's text asks this, or nothing
 abbrev pub Asks : List ℕ → Option (Call DeviceStep) → Type 0
-Asks text None = AsksNothing text
+Asks text None = IsEmptyOrComment text
 Asks text (Some line) = HasLine line × (line_text line ≡ text)
 
 -- the line that is asked, if one is
@@ -45,9 +45,9 @@ pub data AskForCalls : List (List ℕ) → List (Call DeviceStep) → Type 0 whe
 abbrev pub IsScript : List ℕ → List (Call DeviceStep) → Type 0
 IsScript text lines = AskForCalls (lines_of text) lines
 
--- the text of a line that neither asks nothing nor is spelled as a line
+-- the text of a line that is neither empty, nor a comment, nor spelled as a line
 abbrev pub IsBadLine : List ℕ → Type 0
-IsBadLine text = (AsksNothing text → ⊥) × ((l : Call DeviceStep) → HasLine l → line_text l ≡ text → ⊥)
+IsBadLine text = (IsEmptyOrComment text → ⊥) × ((l : Call DeviceStep) → HasLine l → line_text l ≡ text → ⊥)
 
 -- what one text asks, as a list
 abbrev pub asked_calls : Option (Call DeviceStep) → List (Call DeviceStep)

@@ -1,6 +1,6 @@
 // A whole script.
 ghost use Rattle.std.specs.{Prelude.{◌≡◌, ◌<◌, ◌==◌, ◌↔◌, IsTrue, IfOk, IfErr, IfSome, List, OnErr, OnOk, length}, List.{position}};
-ghost use Rattle.script.specs.Script.{Asks, call_if_asked, AsksNothing, IsBadLine, IsFirstBadLine, IsFirstLine, IsScript};
+ghost use Rattle.script.specs.Script.{Asks, call_if_asked, IsEmptyOrComment, IsBadLine, IsFirstBadLine, IsFirstLine, IsScript};
 ghost use Rattle.adapter.specs.declared.access.DeviceStep.{DeviceStep};
 ghost use Rattle.ata_types.specs.declared.call.Call.{Call};
 
@@ -19,8 +19,8 @@ pub struct Misspelled;
 pub struct BadLine(pub u64);
 
 /// Whether a line is empty or begins with `#`.
-fn asks_nothing(text: &[u8]) -> bool
-    ensures { IsTrue result ↔ AsksNothing text.now }
+fn is_empty_or_comment(text: &[u8]) -> bool
+    ensures { IsTrue result ↔ IsEmptyOrComment text.now }
 {
     matches!(text, [] | [b'#', ..])
 }
@@ -32,7 +32,7 @@ pub fn parse_script_line(text: &[u8], call: &mut CallBuffer) -> Result<bool, Mis
     ensures ok { IfOk result (λ some. Asks text.now (call_if_asked some call.new)) }
     ensures bad { OnErr result (IsBadLine text.now) }
 {
-    if asks_nothing(text) {
+    if is_empty_or_comment(text) {
         return Ok(false);
     }
     match parse_line_into(text, call) {

@@ -4,7 +4,7 @@ use Rattle.std.specs.Prelude.{slice_set, ◌++◌, ◌-◌, ◌≤◌, ◌∷◌
 use Rattle.std.proofs.lemmas.Bool.Decides.{eqb_tells}
 use Rattle.std.proofs.lemmas.List.{set-append_left, length-set, append_assoc, replicate-append-replicate, length-replicate}
 use Rattle.std.proofs.Common.{length-append}
-use Rattle.sector_store.specs.Stores.{AreSectors, IsSectorBytes, followed_by_zeros, with_sector}
+use Rattle.sector_store.specs.Stores.{AreSectors, IsSectorBytes, filled_with_zeros_to_size, with_sector}
 
 -- one sector replaced
 pub sectors_set : (xs : List (List ℕ)) (p : ℕ) (new : List ℕ) → p < length xs →
@@ -29,7 +29,7 @@ zero_sector = (refl, λ k d lt. each_same (λ b. b < 256) 0 d 512 k (omega arith
 
 -- behind what was written there are zeros, of which so many more may be written
 pub zeros_written : (size n : ℕ) (xs : List (List ℕ)) → length xs + n ≤ size →
-    followed_by_zeros size (xs ++ replicate n (replicate 512 0)) ≡ followed_by_zeros size xs
+    filled_with_zeros_to_size size (xs ++ replicate n (replicate 512 0)) ≡ filled_with_zeros_to_size size xs
 zeros_written size n xs few =
     let z : List ℕ = replicate 512 0 in
     let grown : length (xs ++ replicate n z) ≡ length xs + n = simp (length-append, length-replicate) refl in
@@ -40,13 +40,13 @@ zeros_written size n xs few =
 
 -- one of these zeros is in memory
 pub zero_written : (size : ℕ) (xs ys : List (List ℕ)) → ys ≡ xs ++ replicate 512 0 ∷ [] → length xs < size →
-    followed_by_zeros size ys ≡ followed_by_zeros size xs
-zero_written size xs ys is few = ap (followed_by_zeros size) is ∙ zeros_written size 1 xs (omega (arith, few))
+    filled_with_zeros_to_size size ys ≡ filled_with_zeros_to_size size xs
+zero_written size xs ys is few = ap (filled_with_zeros_to_size size) is ∙ zeros_written size 1 xs (omega (arith, few))
 
 -- what is told, once a sector that was written before has other bytes
 pub sector_rewritten : (size p : ℕ) (xs : List (List ℕ)) (new : List ℕ) → p < length xs →
-    (λ (k : ℕ). slice_index_or (followed_by_zeros size (slice_set xs p new)) k [])
-    ≡ with_sector (λ k. slice_index_or (followed_by_zeros size xs) k []) p new
+    (λ (k : ℕ). slice_index_or (filled_with_zeros_to_size size (slice_set xs p new)) k [])
+    ≡ with_sector (λ k. slice_index_or (filled_with_zeros_to_size size xs) k []) p new
 sector_rewritten size p xs new small =
     let zeros = replicate (size - length xs) (replicate 512 0) in
     ap {B = ℕ → List ℕ} (λ (l : List (List ℕ)). λ k. slice_index_or l k [])
@@ -64,8 +64,8 @@ replaced_are_sectors size p told new are is k lt =
     ]
 
 -- sectors, where none was written
-pub zeros_are_sectors : (size : ℕ) → AreSectors size (Some (λ k. slice_index_or (followed_by_zeros size []) k []))
+pub zeros_are_sectors : (size : ℕ) → AreSectors size (Some (λ k. slice_index_or (filled_with_zeros_to_size size []) k []))
 zeros_are_sectors size =
-    let all : followed_by_zeros size [] ≡ replicate size (replicate 512 0) = ap (λ n. replicate n (replicate 512 0)) (omega arith) in
+    let all : filled_with_zeros_to_size size [] ≡ replicate size (replicate 512 0) = ap (λ n. replicate n (replicate 512 0)) (omega arith) in
     λ k lt. subst (λ (l : List (List ℕ)). IsSectorBytes (slice_index_or l k [])) (sym all)
     (each_same IsSectorBytes (replicate 512 0) [] size k zero_sector (simp length-replicate lt))

@@ -42,12 +42,12 @@ pub unfilled : (serial : List ℕ) (sectors : ℕ) (a : Abilities) (number : ℕ
 unfilled serial sectors a number past =
     record {
       serial_is = λ _ less. absurd (omega (arith, less, past));
-      trim_support_is = λ e. absurd (omega (arith, e, past));
+      deterministic_trim_is = λ e. absurd (omega (arith, e, past));
       depth_is = λ e. absurd (omega (arith, e, past));
       queuing_is = λ e. absurd (omega (arith, e, past));
       word_83_is = λ e. absurd (omega (arith, e, past));
       sectors_are = λ _ less. absurd (omega (arith, less, past));
-      trim_function_is = λ either. absurd (elim either [ inl e ↦ omega (arith, e, past) | inr e ↦ omega (arith, e, past) ]);
+      data_set_management_is = λ either. absurd (elim either [ inl e ↦ omega (arith, e, past) | inr e ↦ omega (arith, e, past) ]);
       sector_size_is = λ e. absurd (omega (arith, e, past));
       others_are = λ _ _ _ _ _ _ _ _ _. refl;
     }

@@ -14,15 +14,15 @@ abbrev pub character : List ℕ → ℕ → ℕ
 character text place = slice_index_or text place 0x20
 
 -- Word 69: bit 14, what is trimmed reads the same each time; bit 5, as zeros.
-abbrev pub trim_support_word : Trim → ℕ
-trim_support_word Full = 0x4020
-trim_support_word Weak = 0x4000
-trim_support_word Without = 0
+abbrev pub deterministic_trim_word : Trim → ℕ
+deterministic_trim_word Full = 0x4020
+deterministic_trim_word Weak = 0x4000
+deterministic_trim_word Without = 0
 
 -- Word 105: how many blocks of ranges a trim may have. Word 169, bit 0: the disk trims.
-abbrev pub trim_function_word : Trim → ℕ
-trim_function_word Without = 0
-trim_function_word _ = 1
+abbrev pub data_set_management_word : Trim → ℕ
+data_set_management_word Without = 0
+data_set_management_word _ = 1
 
 -- What a word tells, but for the last: serial number (10 to 19), trims (69, 105, 169), queue depth less one (75),
 -- native command queuing (76), 48-bit addresses and FLUSH CACHE EXT in a valid word (83), sectors (100 to 103, the
@@ -31,12 +31,12 @@ trim_function_word _ = 1
 pub record IsIdentifyWord (serial : List ℕ) (sectors : ℕ) (a : Abilities) (number w : ℕ) : Type 0 where
   pub serial_is : 10 ≤ number → number < 20
       → w ≡ 2 ^ 8 * character serial (2 * (number - 10)) + character serial (2 * (number - 10) + 1)
-  pub trim_support_is : number ≡ 69 → w ≡ trim_support_word a.trim
+  pub deterministic_trim_is : number ≡ 69 → w ≡ deterministic_trim_word a.trim
   pub depth_is : number ≡ 75 → w ≡ a.depth - 1
   pub queuing_is : number ≡ 76 → w ≡ (if a.ncq then 0x100 else 0)
   pub word_83_is : number ≡ 83 → w ≡ 0x6400
   pub sectors_are : 100 ≤ number → number < 104 → w ≡ sectors / 2 ^ (16 * (number - 100)) % 2 ^ 16
-  pub trim_function_is : (number ≡ 105) ⊎ (number ≡ 169) → w ≡ trim_function_word a.trim
+  pub data_set_management_is : (number ≡ 105) ⊎ (number ≡ 169) → w ≡ data_set_management_word a.trim
   pub sector_size_is : number ≡ 106 → w ≡ 0x4000
   pub others_are : (number < 10) ⊎ (20 ≤ number) → number ≢ 69 → number ≢ 75 → number ≢ 76 → number ≢ 83
       → (number < 100) ⊎ (104 ≤ number) → number ≢ 105 → number ≢ 106 → number ≢ 169 → w ≡ 0

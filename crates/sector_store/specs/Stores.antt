@@ -15,8 +15,8 @@ abbrev pub AreSectors : ℕ → Option (ℕ → List ℕ) → Type 0
 AreSectors size told = IfSome told (λ f. (k : ℕ) → k < size → IsSectorBytes (f k))
 
 -- so many sectors, these and zeros behind them
-abbrev pub followed_by_zeros : ℕ → List (List ℕ) → List (List ℕ)
-followed_by_zeros size sectors = sectors ++ replicate (size - length sectors) (replicate 512 0)
+abbrev pub filled_with_zeros_to_size : ℕ → List (List ℕ) → List (List ℕ)
+filled_with_zeros_to_size size sectors = sectors ++ replicate (size - length sectors) (replicate 512 0)
 
 -- the first of so many sectors that stand at the end of a room
 abbrev pub first_untaken_sector : (room : List (List ℕ)) → ℕ → List ℕ

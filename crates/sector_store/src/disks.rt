@@ -1,6 +1,6 @@
 // A disk over a file or in memory.
 ghost use Rattle.std.specs.Prelude.{◌≡◌};
-ghost use Rattle.sector_store.specs.{declared.disks.DiskStore.TheVariants.{File, Memory}, Disks.{failures_of, sector_count_of, contents_of}};
+ghost use Rattle.sector_store.specs.{declared.disks.DiskStore.TheVariants.{File, Memory}, Disks.{failures_if_file_backed, sector_count_of, contents_of}};
 
 use crate::{FileStore, MemStore, SectorStore};
 
@@ -16,7 +16,7 @@ impl SectorStore for DiskStore {
 
     ghost told = { contents_of };
 
-    ghost failures = { failures_of };
+    ghost failures = { failures_if_file_backed };
 
     ghost told_sectors_are_valid = { elim [ File file ↦ tt | Memory memory ↦ memory.are_sectors ] };
 

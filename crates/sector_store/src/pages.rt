@@ -1,6 +1,6 @@
 // The pages by which a disk says what it is, and which queued command failed.
 ghost use Rattle.std.specs.Prelude.{◌≡◌, ◌<◌, ◌≤◌, ◌%◌, All, length, sum};
-ghost use Rattle.sector_store.specs.{Pages.{IsLogPage, IsIdentifyPage, IsIdentifyWord, character, logged_error_byte, logged_status, logged_tag, trim_function_word, trim_support_word}, Stores.{IsSectorBytes}};
+ghost use Rattle.sector_store.specs.{Pages.{IsLogPage, IsIdentifyPage, IsIdentifyWord, character, logged_error_byte, logged_status, logged_tag, data_set_management_word, deterministic_trim_word}, Stores.{IsSectorBytes}};
 
 /// What a disk says of DATA SET MANAGEMENT with TRIM.
 #[derive(Clone, Copy, Debug, Default, PartialEq, Eq)]
@@ -42,7 +42,7 @@ const FAILED_STATUS: u8 = 0x41;
 impl Trim {
     /// The word that tells of zeros after a trim (word 69).
     fn support(self) -> u16
-        ensures { result ≡ trim_support_word self }
+        ensures { result ≡ deterministic_trim_word self }
     {
         match self {
             Trim::Full => 0x4020,
@@ -53,7 +53,7 @@ impl Trim {
 
     /// The words that tell of blocks of ranges and of the function (words 105 and 169).
     fn function(self) -> u16
-        ensures { result ≡ trim_function_word self }
+        ensures { result ≡ data_set_management_word self }
     {
         match self {
             Trim::Full | Trim::Weak => 1,

@@ -1,6 +1,6 @@
 // Stores of sectors of 512 bytes.
 ghost use Rattle.std.specs.Prelude.{◌≡◌, ◌<◌, ◌≤◌, ◌+◌, ◌^◌, ℕ, List, Option, None, Some, IfOk, replicate, true, length, nat_lt, if◌then◌else◌, slice_index_or, vec_capacity, []};
-ghost use Rattle.sector_store.specs.{Stores.{AreSectors, HasOneMoreFailure, ReadsSector, WritesSector, followed_by_zeros}, declared.store.Failures.{Failures}};
+ghost use Rattle.sector_store.specs.{Stores.{AreSectors, HasOneMoreFailure, ReadsSector, WritesSector, filled_with_zeros_to_size}, declared.store.Failures.{Failures}};
 
 use crate::sector_file::copy;
 use std::alloc::{AllocError, Global};
@@ -65,7 +65,8 @@ pub struct MemStore {
     size: usize,
     /// Those up to the last one that was written.
     written: Vec<[u8; 512]>,
-    ghost are_sectors: { AreSectors size (Some (λ k. slice_index_or (followed_by_zeros size written.items) k [])) },
+    ghost are_sectors: { AreSectors size (Some (λ k.
+        slice_index_or (filled_with_zeros_to_size size written.items) k [])) },
     ghost inside: { length written.items ≤ size },
     ghost reserved: { size ≤ vec_capacity written },
     ghost few: { size < 2 ^ 64 },
@@ -76,7 +77,7 @@ impl MemStore {
     pub fn new(alloc: Global, sectors: u32) -> Result<MemStore, AllocError>
         ensures size { IfOk result (λ s. s.size ≡ sectors) }
         ensures zeros { IfOk result (λ s.
-            followed_by_zeros s.size s.written.items ≡ replicate sectors (replicate 512 0)) }
+            filled_with_zeros_to_size s.size s.written.items ≡ replicate sectors (replicate 512 0)) }
         ensures none_is_written { IfOk result (λ s. s.written.items ≡ []) }
     {
         let size = sectors as usize;
@@ -88,8 +89,8 @@ impl MemStore {
     /// sectors before it.
     fn extend_to(&mut self, sector: usize)
         requires { sector < self.old.size }
-        ensures kept { followed_by_zeros self.new.size self.new.written.items
-            ≡ followed_by_zeros self.old.size self.old.written.items }
+        ensures kept { filled_with_zeros_to_size self.new.size self.new.written.items
+            ≡ filled_with_zeros_to_size self.old.size self.old.written.items }
         ensures size { self.new.size ≡ self.old.size }
         ensures there { sector < length self.new.written.items }
         ensures extends_no_further { length self.new.written.items
@@ -104,7 +105,7 @@ impl MemStore {
 impl SectorStore for MemStore {
     ghost size = { λ s. s.size };
 
-    ghost told = { λ s. Some (λ k. slice_index_or (followed_by_zeros s.size s.written.items) k []) };
+    ghost told = { λ s. Some (λ k. slice_index_or (filled_with_zeros_to_size s.size s.written.items) k []) };
 
     ghost failures = { λ _. None };
 

@@ -25,16 +25,16 @@ use Rattle.adapter.specs.Memory.{changed}
 use Rattle.adapter.specs.declared.access.DeviceStep.{DeviceStep}
 use Rattle.adapter.specs.declared.access.DeviceStep.TheVariants.{Hold, Fatal}
 use Rattle.adapter.specs.declared.access.FatalError.TheVariants.{Interface, HostBus}
-use Rattle.block_machine.specs.Events.{CallRecord, AbstractCall, AbstractState, Submit as AskSubmit, StoreAt, Service as AskService, Reset as AskReset, State as AskState, StepDevice as AskDevice, Submitted, Stored, Replied, WasReset, PortStateShown, Stepped, AllByDevice, EveryReadHoldsExpected, ResultMatchesSteps, IsIssuedIn, IsRun, IsStillStuck, IsStuckAfterCall, answers_of, issues_id, reply_of, abstract_after, abstract_after_all, replies_of, steps_of}
+use Rattle.block_machine.specs.Events.{CallRecord, AbstractCall, AbstractState, Submit as AskSubmit, StoreAt, Service as AskService, Reset as AskReset, State as AskState, StepDevice as AskDevice, Submitted, Stored, Replied, WasReset, PortStateShown, Stepped, AllByDevice, EveryReadHoldsExpected, ResultMatchesSteps, IsIssuedIn, IsRun, LastServiceOrResetIsStuckReset, LastServiceOrResetIsStuckResetAfter, answers_of, issues_id, reply_of, abstract_after, abstract_after_all, replies_of, steps_of}
 use Rattle.block_machine.specs.Events as machine
 use Rattle.block_machine.specs.Histories.{JointEvent, JointState, events_of}
 use Rattle.block_machine.specs.Expected.{after}
 use Rattle.block_machine.specs.State.{Accepted, Pending, Machine}
-use Rattle.block_machine.specs.Steps.{Step, Touch, End, Unplug, Replace, Answer, Release}
+use Rattle.block_machine.specs.Steps.{Step, Touch, End, Unplug, PlugDisk, Answer, Release}
 use Rattle.driver_history.specs.Evidence.{ShowsFailure}
 use Rattle.driver_history.specs.Histories.{ExplainsAccesses, IsDriverHistory}
 use Rattle.identify.specs.declared.wanted.Wanted.{Wanted}
-use Rattle.machine_runs.specs.AnswerOrigins.{SubmitsAndIsAccepted, WasUnansweredBefore, WasSubmittedAndAccepted, requeues_id}
+use Rattle.machine_runs.specs.AnswerOrigins.{SubmitsAndIsGivenId, WasUnansweredBefore, WasSubmittedAndGivenId, requeues_id}
 use Rattle.server_history.specs.Histories.{StartsHistory, LeadsToServer}
 use Rattle.server_history.specs.ServerState.{ServerState}
 use Rattle.block_server.specs.Promise.{RunsAsPromised}
@@ -104,19 +104,19 @@ in_middle late x early = Contains-append_right late (x ∷ early) x (Contains-ap
 -- ---- who asked
 
 -- a call that isn't a submit asked for nothing
-device_asks_none : (r : Accepted) (event : CallRecord DeviceStep) (step : DeviceStep) → event.call ≡ AskDevice step → SubmitsAndIsAccepted r event → ⊥
+device_asks_none : (r : Accepted) (event : CallRecord DeviceStep) (step : DeviceStep) → event.call ≡ AskDevice step → SubmitsAndIsGivenId r event → ⊥
 device_asks_none r event step is asks = let e : AskDevice step ≡ AskSubmit r.asked = sym is ∙ asks.0 in cc
 
-state_asks_none : (r : Accepted) (event : CallRecord DeviceStep) (port : Port) → event.call ≡ AskState port → SubmitsAndIsAccepted r event → ⊥
+state_asks_none : (r : Accepted) (event : CallRecord DeviceStep) (port : Port) → event.call ≡ AskState port → SubmitsAndIsGivenId r event → ⊥
 state_asks_none r event port is asks = let e : ◌≡◌ {A = AbstractCall DeviceStep} (AskState port) (AskSubmit r.asked) = sym is ∙ asks.0 in cc
 
-service_asks_none : (r : Accepted) (event : CallRecord DeviceStep) → event.call ≡ AskService → SubmitsAndIsAccepted r event → ⊥
+service_asks_none : (r : Accepted) (event : CallRecord DeviceStep) → event.call ≡ AskService → SubmitsAndIsGivenId r event → ⊥
 service_asks_none r event is asks = let e : ◌≡◌ {A = AbstractCall DeviceStep} AskService (AskSubmit r.asked) = sym is ∙ asks.0 in cc
 
-store_asks_none : (r : Accepted) (event : CallRecord DeviceStep) (client : ClientId) (frame : Frame) (offset : ℕ) (bytes : List ℕ) → event.call ≡ StoreAt client frame offset bytes → SubmitsAndIsAccepted r event → ⊥
+store_asks_none : (r : Accepted) (event : CallRecord DeviceStep) (client : ClientId) (frame : Frame) (offset : ℕ) (bytes : List ℕ) → event.call ≡ StoreAt client frame offset bytes → SubmitsAndIsGivenId r event → ⊥
 store_asks_none r event client frame offset bytes is asks = let e : ◌≡◌ {A = AbstractCall DeviceStep} (StoreAt client frame offset bytes) (AskSubmit r.asked) = sym is ∙ asks.0 in cc
 
-submit_asks : (r : Accepted) (event : CallRecord DeviceStep) (asked : Request) → event.call ≡ AskSubmit asked → SubmitsAndIsAccepted r event → r.asked ≡ asked
+submit_asks : (r : Accepted) (event : CallRecord DeviceStep) (asked : Request) → event.call ≡ AskSubmit asked → SubmitsAndIsGivenId r event → r.asked ≡ asked
 submit_asks r event asked is asks = let e : ◌≡◌ {A = AbstractCall DeviceStep} (AskSubmit asked) (AskSubmit r.asked) = sym is ∙ asks.0 in cc
 
 -- ---- a read that is answered Ok
@@ -127,7 +127,7 @@ told_alone items reply only = subst (λ (xs : List Reply). Contains xs reply) (s
 
 served_last : (laws : ShownRunLaws) (old new : ServerState) (asked : Request) (first : JointState Device) → LeadsToServer first [] old → (past : List (JointEvent Device DeviceStep)) (last : JointEvent Device DeviceStep)
     → LeadsToServer first (last ∷ past) new → IsRun first.abstract (events_of (last ∷ past)) → EveryReadHoldsExpected first.abstract (events_of (last ∷ past)) → (items : List Reply) (reply : Reply)
-    → last.event.result ≡ Replied items → items ≡ reply ∷ [] → reply.outcome ≡ outcome.Ok → asked.op ≡ Read → ((r : Accepted) → WasSubmittedAndAccepted r (events_of past) → r.asked ≡ asked) → ServesRead old new asked
+    → last.event.result ≡ Replied items → items ≡ reply ∷ [] → reply.outcome ≡ outcome.Ok → asked.op ≡ Read → ((r : Accepted) → WasSubmittedAndGivenId r (events_of past) → r.asked ≡ asked) → ServesRead old new asked
 served_last laws old new asked first begun past last leads run holds items reply says only ok reads asks =
     let there : Contains (replies_of last.event.result) reply = subst (λ (s : machine.AbstractCallResult). Contains (replies_of s) reply) (sym says) (told_alone items reply only) in
     let told = laws.replied_was_asked first.abstract (events_of past) last.event reply run there in
@@ -172,7 +172,7 @@ devices_issue_none id [] d i = false≢true i
 devices_issue_none id (Touch e k block ∷ before) d i = devices_issue_none id before d.0 i
 devices_issue_none id (End e ∷ before) d i = devices_issue_none id before d.0 i
 devices_issue_none id (Unplug port ∷ before) d i = devices_issue_none id before d.0 i
-devices_issue_none id (Replace port name size disk ∷ before) d i = devices_issue_none id before d.0 i
+devices_issue_none id (PlugDisk port name size disk ∷ before) d i = devices_issue_none id before d.0 i
 devices_issue_none id (step ∷ before) d i = absurd d.1
 
 any_first : (p : Step → Bool) (step : Step) (before : List Step) → (list_any p before ≡ true → 1 ≤ count_by p before) → (b : Bool) → p step ≡ b → list_any p (step ∷ before) ≡ true → 1 ≤ count_by p (step ∷ before)
@@ -193,9 +193,9 @@ count_append p late early = sum_by-append (λ s. cond {A = ℕ} (p s) 1 0) late 
 -- A call of the kind that lets all be: of its steps none is the server's, and ports are what they were.
 record LetsBe (old : AbstractState) (event : CallRecord DeviceStep) : Type 0 where
   issues : (id : RequestId) → IsIssuedIn id event.steps → ⊥
-  asks : (r : Accepted) → SubmitsAndIsAccepted r event → ⊥
+  asks : (r : Accepted) → SubmitsAndIsGivenId r event → ⊥
   ports : (port : Port) → event.ports.state port ≡ old.ports.state port
-  calm : (past : List (CallRecord DeviceStep)) → IsStillStuck (event ∷ past) → IsStillStuck past
+  calm : (past : List (CallRecord DeviceStep)) → LastServiceOrResetIsStuckReset (event ∷ past) → LastServiceOrResetIsStuckReset past
 
 state_lets_be : (first : AbstractState) (past : List (CallRecord DeviceStep)) (event : CallRecord DeviceStep) (port : Port) (shown : PortState) → IsRun first (event ∷ past) → event.call ≡ AskState port → event.result ≡ PortStateShown shown
     → LetsBe (abstract_after_all first past) event × (shown ≡ (abstract_after_all first past).ports.state port)
@@ -208,7 +208,7 @@ state_lets_be first past event port shown r is says =
         issues = λ id i. let P : List Step → Type 0 = IsIssuedIn id in false≢true (subst P a.1 i);
         asks = λ q asks. state_asks_none q event port is asks;
         ports = λ q. (a.2 q).1;
-        calm = λ earlier w. subst (λ (q : AbstractCall DeviceStep). IsStuckAfterCall q event.result (IsStillStuck earlier)) is w;
+        calm = λ earlier w. subst (λ (q : AbstractCall DeviceStep). LastServiceOrResetIsStuckResetAfter q event.result (LastServiceOrResetIsStuckReset earlier)) is w;
       },
       a.0,
     )
@@ -224,7 +224,7 @@ device_lets_be first past event step r is says =
       issues = λ id i. devices_issue_none id event.steps a.0 i;
       asks = λ q asks. device_asks_none q event step is asks;
       ports = λ q. (a.1 q).1;
-      calm = λ earlier w. subst (λ (q : AbstractCall DeviceStep). IsStuckAfterCall q event.result (IsStillStuck earlier)) is w;
+      calm = λ earlier w. subst (λ (q : AbstractCall DeviceStep). LastServiceOrResetIsStuckResetAfter q event.result (LastServiceOrResetIsStuckReset earlier)) is w;
     }
 
 -- an unanswered request, and what it was before
@@ -241,7 +241,7 @@ was_then laws first past event e r lets h = ⊎_elim
       before = c.before;
       here = c.is_in_book;
       same = c.same_request;
-      issued = λ is. ⊎_elim (λ now. absurd (lets.issues e.request.id now)) (λ was. was) (c.was_issued_before_or_now is);
+      issued = λ is. ⊎_elim (λ now. absurd (lets.issues e.request.id now)) (λ was. was) (c.if_issued_then_before_or_now is);
     })
     (λ asks. absurd (lets.asks e.request asks))
     (laws.unanswered_was_there_or_asked first past event e r h)
@@ -309,7 +309,7 @@ lone_of laws wanted first asked id submit one two three fatal service finish c e
     let w2 = was_then laws first.abstract (events_of (one ∷ submit ∷ [])) two.event w3.before r3 l3.0 w3.here in
     let w1 = was_then laws first.abstract (events_of (submit ∷ [])) one.event w2.before r2 l2.0 w2.here in
     let state : Port → PortState = fatal.event.ports.state in
-    let calm : IsStillStuck (events_of (submit ∷ [])) → ⊥ = λ stuck. subst (λ (q : AbstractCall DeviceStep). IsStuckAfterCall q submit.event.result ⊥) c.submits.0 stuck in
+    let calm : LastServiceOrResetIsStuckReset (events_of (submit ∷ [])) → ⊥ = λ stuck. subst (λ (q : AbstractCall DeviceStep). LastServiceOrResetIsStuckResetAfter q submit.event.result ⊥) c.submits.0 stuck in
     let ready : state e.request.port ≡ Ready = ⊎_elim (λ is. is) (λ dead. absurd (calm (l2.0.calm (events_of (submit ∷ [])) (l3.0.calm (events_of (one ∷ submit ∷ [])) (l4.0.calm (events_of (two ∷ one ∷ submit ∷ [])) (l5.calm (events_of (three ∷ two ∷ one ∷ submit ∷ [])) dead.1))))))
     (laws.unanswered_only_where_ready_or_stuck first.abstract (events_of (fatal ∷ three ∷ two ∷ one ∷ submit ∷ [])) e r5 here) in
     let fit = r5.1.ports_are_well_formed in
@@ -341,8 +341,8 @@ issued_first laws first asked id submit e r is says here =
     (λ (c : WasUnansweredBefore first.abstract.machine submit.event.steps x). absurd (nothing c.before (subst (λ (xs : List Pending). Contains xs c.before) legal.0.book_is_empty c.is_in_book)))
     (λ asks. let e : ◌≡◌ {A = machine.AbstractCallResult} (Submitted (Ok x.request.id)) (Submitted (Ok id)) = sym asks.1 ∙ says in cc)
     (laws.unanswered_was_there_or_asked first.abstract [] submit.event x r h) in
-    let ready = ⊎_elim (λ is. is) (λ (dead : ((abstract_after_all first.abstract run).ports.state e.request.port ≡ Dead) × IsStillStuck run).
-    let no : ⊥ = subst (λ (q : AbstractCall DeviceStep). IsStuckAfterCall q submit.event.result ⊥) is dead.1 in absurd no) (laws.unanswered_only_where_ready_or_stuck first.abstract run e r here) in
+    let ready = ⊎_elim (λ is. is) (λ (dead : ((abstract_after_all first.abstract run).ports.state e.request.port ≡ Dead) × LastServiceOrResetIsStuckReset run).
+    let no : ⊥ = subst (λ (q : AbstractCall DeviceStep). LastServiceOrResetIsStuckResetAfter q submit.event.result ⊥) is dead.1 in absurd no) (laws.unanswered_only_where_ready_or_stuck first.abstract run e r here) in
     let issued = laws.lone_request_is_issued first.abstract run e r here ready (λ x h. its x h ∙ sym (its e here)) in
     let counted = (laws.issues_are_counted first.abstract.machine (steps_of run) e legal.0 legal.1 (subst (λ (m : Machine). Contains m.book e) legal.2 here)).1 in
     let one : ◌≡◌ {A = ℕ} (cond e.issued 1 0) 1 = ap (λ (b : Bool). cond {A = ℕ} b 1 0) issued in
@@ -371,7 +371,7 @@ went_again laws wanted first asked id submit one two three fatal service finish 
     let failed = c.history.0.0 in
     let fails : ShowsFailure (fatal.device.port 0) = shows_failure _ fatal.event _ fatal.device failed.2.accesses c.fails.0 c.fails.1 failed.2.accesses_are_explained in
     let port_is : came.before.request.port ≡ port_0 = ap (λ (n : ℕ). record { 0 = n }) lone.at_port_0 in
-    let anew = (laws.shown_failures_are_handled wanted first (fatal ∷ three ∷ two ∷ one ∷ submit ∷ []) service port_0 c.history.0 c.serves (subst (λ (p : Port). fatal.event.ports.state p ≡ Ready) port_is lone.ready) fails).none_stays_issued in
+    let anew = (laws.shown_failures_are_handled wanted first (fatal ∷ three ∷ two ∷ one ∷ submit ∷ []) service port_0 c.history.0 c.serves (subst (λ (p : Port). fatal.event.ports.state p ≡ Ready) port_is lone.ready) fails).issued_are_issued_in_steps in
     let again : IsIssuedIn w6.before.request.id service.event.steps = anew w6.before w6.here (ap (λ (a : Accepted). a.port) (sym came.same_request) ∙ port_is) (w6.issued issued) in
     let count : List Step → ℕ = count_by (issues_id e.request.id) in
     let second : 1 ≤ count service.event.steps = subst (λ (i : RequestId). 1 ≤ count_by (issues_id i) service.event.steps) (id_is w6.before w6.same) (any_counted (issues_id w6.before.request.id) service.event.steps again) in
@@ -464,7 +464,7 @@ some_of None is = absurd (false≢true is)
 some_of (Some x) is = (x, refl)
 
 -- the id that a submit gave
-id_given : (r : Accepted) (event : CallRecord DeviceStep) (id : RequestId) → event.result ≡ Submitted (Ok id) → SubmitsAndIsAccepted r event → r.id ≡ id
+id_given : (r : Accepted) (event : CallRecord DeviceStep) (id : RequestId) → event.result ≡ Submitted (Ok id) → SubmitsAndIsGivenId r event → r.id ≡ id
 id_given r event id says asks = let e : Submitted (Ok r.id) ≡ Submitted (Ok id) = sym asks.1 ∙ says in cc
 
 -- a store that is told to be done
@@ -508,7 +508,7 @@ shows_a_release device old new request client frame bytes last_bytes id replies 
     let there : Contains (replies_of d.0.event.result) reply = subst (λ (s : machine.AbstractCallResult). Contains (replies_of s) reply) (sym d.2) (told_alone replies reply only) in
     let told = laws.replied_was_asked r.initial_state.abstract (events_of before) d.0.event reply run.0.0.0 there in
     let answered : Contains d.0.event.steps (Answer told.0 outcome.PortDead) = subst (λ (o : Outcome). Contains d.0.event.steps (Answer told.0 o)) dead told.1 in
-    let given_then : (x : Accepted) → WasSubmittedAndAccepted x (events_of before) → x.id ≡ id = λ x asked.
+    let given_then : (x : Accepted) → WasSubmittedAndGivenId x (events_of before) → x.id ≡ id = λ x asked.
     ⊎_elim (λ now. id_given x c.0.event id c.2 now)
     (λ more. ⊎_elim (λ now. absurd (device_asks_none x b.0.event _ b.1 now))
     (λ rest. ⊎_elim (λ now. absurd (device_asks_none x a.0.event _ a.1 now)) (λ no. absurd no) rest) more) asked in

@@ -12,7 +12,7 @@ use Rattle.ata_types.specs.declared.request.Outcome.{Outcome}
 use Rattle.ata_types.specs.declared.request.Outcome.TheVariants.{Ok, PortDead}
 use Rattle.adapter.specs.Device.{Device}
 use Rattle.adapter.specs.declared.access.DeviceStep.{DeviceStep}
-use Rattle.block_machine.specs.Events.{CallRecord, AbstractState, Reset, Service, EveryReadHoldsExpected, IsLawfulAnswer, IsRun, IsStillStuck, answers_of, issues_id, abstract_after_all, replies_of, steps_of}
+use Rattle.block_machine.specs.Events.{CallRecord, AbstractState, Reset, Service, EveryReadHoldsExpected, IsLawfulAnswer, IsRun, LastServiceOrResetIsStuckReset, answers_of, issues_id, abstract_after_all, replies_of, steps_of}
 use Rattle.block_machine.specs.Confinement.{HasFrame, WasAccepted}
 use Rattle.block_machine.specs.Histories.{JointEvent, JointState, events_of, joint_state_after}
 use Rattle.block_machine.specs.Expected.{IsLegal, IsInitial, after}
@@ -22,7 +22,7 @@ use Rattle.driver_history.specs.Claims.{HandlesShownFailure}
 use Rattle.driver_history.specs.Evidence.{ShowsFailure}
 use Rattle.driver_history.specs.Histories.{IsDriverHistory}
 use Rattle.identify.specs.declared.wanted.Wanted.{Wanted}
-use Rattle.machine_runs.specs.AnswerOrigins.{SubmitsAndIsAccepted, WasUnansweredBefore, CallAnswersOk, WasSubmittedAndAccepted, requeues_id}
+use Rattle.machine_runs.specs.AnswerOrigins.{SubmitsAndIsGivenId, WasUnansweredBefore, CallAnswersOk, WasSubmittedAndGivenId, requeues_id}
 use Rattle.server_history.specs.Histories.{LeadsToServer, StartsHistory}
 use Rattle.server_history.specs.ServerState.{ServerState}
 use Rattle.block_server.specs.AbstractCalls.{abstract_call_of, machine_result_of}
@@ -123,12 +123,12 @@ pub record ShownRunLaws : Type 0 where
       → IsLegal start history → (after start history).lent frame ≡ Some id
       → (r : Accepted) × WasAccepted start history r × (r.id ≡ id) × HasFrame r frame
   pub accepted_was_asked : (first : AbstractState) (run : List (CallRecord DeviceStep)) (r : Accepted) → IsRun first run
-      → WasAccepted first.machine (steps_of run) r → WasSubmittedAndAccepted r run
+      → WasAccepted first.machine (steps_of run) r → WasSubmittedAndGivenId r run
   pub replied_was_asked : (first : AbstractState) (past : List (CallRecord DeviceStep)) (event : CallRecord DeviceStep)
       (reply : Reply)
       → IsRun first (event ∷ past) → Contains (replies_of event.result) reply → (e : Pending)
       × Contains event.steps (Answer e reply.outcome) × (e.request.id ≡ reply.id)
-      × (e.request.asked.client ≡ reply.client) × WasSubmittedAndAccepted e.request past
+      × (e.request.asked.client ≡ reply.client) × WasSubmittedAndGivenId e.request past
   pub answers_are_lawful : (first : AbstractState) (past : List (CallRecord DeviceStep)) (event : CallRecord DeviceStep)
       (e : Pending) (o : Outcome)
       → IsRun first (event ∷ past) → Contains event.steps (Answer e o)
@@ -137,7 +137,7 @@ pub record ShownRunLaws : Type 0 where
   pub unanswered_was_there_or_asked : (first : AbstractState) (past : List (CallRecord DeviceStep))
       (event : CallRecord DeviceStep) (e : Pending)
       → IsRun first (event ∷ past) → Contains (abstract_after_all first (event ∷ past)).machine.book e
-      → WasUnansweredBefore (abstract_after_all first past).machine event.steps e ⊎ SubmitsAndIsAccepted e.request event
+      → WasUnansweredBefore (abstract_after_all first past).machine event.steps e ⊎ SubmitsAndIsGivenId e.request event
   pub ok_was_served : (first : AbstractState) (past : List (CallRecord DeviceStep)) (event : CallRecord DeviceStep)
       (e : Pending)
       → IsRun first (event ∷ past) → EveryReadHoldsExpected first (event ∷ past) → Contains event.steps (Answer e Ok)
@@ -157,7 +157,7 @@ pub record ShownRunLaws : Type 0 where
       → IsRun first run
       → Contains (abstract_after_all first run).machine.book e
       → ((abstract_after_all first run).ports.state e.request.port ≡ Ready)
-      ⊎ (((abstract_after_all first run).ports.state e.request.port ≡ Dead) × IsStillStuck run)
+      ⊎ (((abstract_after_all first run).ports.state e.request.port ≡ Dead) × LastServiceOrResetIsStuckReset run)
   pub shown_failures_are_handled : (wanted : List Wanted) (first : JointState Device)
       (past : List (JointEvent Device DeviceStep))
       (h : JointEvent Device DeviceStep) (port : Port)

@@ -16,9 +16,9 @@ use block_machine::laws::{law_lent_was_accepted, law_runs_are_legal};
 use block_server::{CallResults, Server};
 use driver_history::troubles::law_services_heed_shown_failures;
 use machine_runs::laws::{
-    law_a_lone_request_is_issued, law_accepted_was_asked, law_answers_are_lawful,
-    law_issues_are_counted, law_ok_was_served, law_replied_was_asked,
-    law_unanswered_on_ready_or_stuck, law_unanswered_was_there_or_asked,
+    law_accepted_was_asked, law_answers_are_lawful, law_issues_are_counted, law_ok_was_served,
+    law_replied_was_asked, law_sole_book_request_is_issued_if_ready,
+    law_unanswered_on_ready_or_stuck, law_unanswered_was_there_or_just_asked,
 };
 use std::alloc::Global;
 
@@ -31,9 +31,9 @@ fn law_shown_run_prerequisites()
     law_accepted_was_asked::<DeviceStep>();
     law_replied_was_asked::<DeviceStep>();
     law_answers_are_lawful::<DeviceStep>();
-    law_unanswered_was_there_or_asked::<DeviceStep>();
+    law_unanswered_was_there_or_just_asked::<DeviceStep>();
     law_ok_was_served::<DeviceStep>();
-    law_a_lone_request_is_issued::<DeviceStep>();
+    law_sole_book_request_is_issued_if_ready::<DeviceStep>();
     law_issues_are_counted();
     law_unanswered_on_ready_or_stuck::<DeviceStep>();
     law_services_heed_shown_failures();

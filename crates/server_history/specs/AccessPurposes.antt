@@ -2,8 +2,8 @@
 use Rattle.ata_types.specs.declared.Port.{Port}
 use Rattle.adapter.specs.Access.{Access}
 use Rattle.commands.specs.Masks.{ReadsCiOrSact}
-use Rattle.port_control.specs.PortEvents.{IsEventAccess}
-use Rattle.port_control.specs.ServiceAccesses.{IsServiceAccess}
+use Rattle.port_control.specs.PortEvents.{IsPxisSstsOrOwnIsAccess}
+use Rattle.port_control.specs.ServiceAccesses.{WritesOnlyHbaIsPxIsCiOrSact}
 use Rattle.refinement.specs.Fragments.{AnySlotStates}
 use Rattle.refinement.specs.Slots.{SlotStates}
 
@@ -14,9 +14,9 @@ pub data AccessPurpose : Type 0 where
   Serving : AccessPurpose
 
 abbrev pub accesses_for : AccessPurpose → Access → Type 0
-accesses_for (Looking port) = IsEventAccess port
+accesses_for (Looking port) = IsPxisSstsOrOwnIsAccess port
 accesses_for (ReadingMasks port) = ReadsCiOrSact port
-accesses_for Serving = IsServiceAccess
+accesses_for Serving = WritesOnlyHbaIsPxIsCiOrSact
 
 abbrev pub slot_uses_for : AccessPurpose → SlotStates → Type 0
 slot_uses_for kind = AnySlotStates

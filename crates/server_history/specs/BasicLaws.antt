@@ -15,16 +15,16 @@ use Rattle.adapter.specs.Commands.{Meaning}
 use Rattle.adapter.specs.Rules.{IsOn}
 use Rattle.adapter.specs.KeptBySteps.{KeepsOverSteps}
 use Rattle.adapter.specs.Steps.{Steps}
-use Rattle.refinement.specs.Acts.{Act, AreActsDone, accesses_of, act_steps}
+use Rattle.refinement.specs.Acts.{Act, AreActsDone, accesses_of, newest_first_steps_of_acts}
 use Rattle.refinement.specs.Relation.{StateRelation, ServeDistinctRequests}
 use Rattle.refinement.specs.ReadySlots.{IsStoredOnPortWithStSet, KeepsStoredCommand}
 use Rattle.adapter.specs.Access.{Access, Does, DoesAll}
 use Rattle.adapter.specs.Access.Access.{Storing, Writing}
 use Rattle.adapter.specs.Decoding.{DecodesTo}
 use Rattle.refinement.specs.Fragments.{GainsNoMove}
-use Rattle.refinement.specs.Driver.{AllFree, IsBackedByDeviceAlone, MissesTableAndHeaderButPrdbc, ForgetsAtMost, DriverAdvances, HasNoSlot, DriverState, DriverRelation, with_slot_freed_and_request_parked}
+use Rattle.refinement.specs.Driver.{AllFree, IsBackedByDeviceAlone, MissesTableAndHeaderButPrdbc, OthersStayParked, DriverAdvances, HasNoSlot, DriverState, DriverRelation, with_slot_freed_and_request_parked}
 use Rattle.refinement.specs.PreservedParts.{DoesNotWrite}
-use Rattle.refinement.specs.StartedPort.{ClearsNoStart}
+use Rattle.refinement.specs.StartedPort.{WritesCmdOnlyWithStSet}
 use Rattle.hba_regs.specs.Bits.{bit}
 use Rattle.hba_regs.specs.declared.reg.PortReg.TheVariants.{Ci, Clb}
 use Rattle.hba_regs.specs.declared.reg.Reg.TheVariants.{Px}
@@ -33,8 +33,8 @@ use Rattle.refinement.specs.Slots.{Free, IsMove, IsOver, Own, Serves, SlotState,
 use Rattle.block_machine.specs.Ports.{PortsWellFormed, Ports}
 use Rattle.block_machine.specs.Rules.{HasGrantName}
 use Rattle.block_machine.specs.State.{Accepted, Machine, Pending}
-use Rattle.block_machine.specs.Steps.{Step, Accept, Age, WaitAgain, Answer, HoldsFrames, MayAccept, MayStillMove, after_step, is_kept_at_answer, Revoke}
-use Rattle.refinement.specs.PortFacts.{EndedIn, IsSlotClear, ShowsFault}
+use Rattle.block_machine.specs.Steps.{Step, Accept, Age, WaitAgain, Answer, IsInBookOrKept, MayAccept, MayStillMove, after_step, is_kept_at_answer, Revoke}
+use Rattle.refinement.specs.PortFacts.{EndedOnPort, IsSlotClear, ShowsFault}
 use Rattle.dma_frames.specs.FrameTables.{OwnersAndLoans}
 use Rattle.request_queue.specs.BookEntries.{BookEntry, IsWellFormedEntry, BookIsWellFormed, aged_entries, unanswered_of}
 use Rattle.request_queue.specs.BookRelation.{BookRelation}
@@ -42,7 +42,7 @@ use Rattle.block_machine.specs.Confinement.{HasFrame, IsGranted, WasAccepted, Ke
 use Rattle.block_machine.specs.Expected.{IsLegal, IsInitial, after}
 use Rattle.block_machine.specs.Histories.{JointState, IsReachable, IsSimulatedBySteps, JointEvent, joint_state_after}
 use Rattle.block_machine.specs.Events.{AllByDevice, AllEnabled}
-use Rattle.refinement.specs.SparedBook.{AllAsFarOrFurther, IsAsFarOrFurther, KeepsLoansAndBookOnlyAdvances}
+use Rattle.refinement.specs.SparedBook.{AllAsFarOrFurther, IsAsFarOrFurther, KeepsLoansAndPendingsOnlyAdvance}
 use Rattle.driver_history.specs.Histories.{IsDriverHistory}
 use Rattle.identify.specs.declared.wanted.Wanted.{Wanted}
 
@@ -74,7 +74,7 @@ pub record BasicLaws : Type 0 where
       → e.issued ≡ true
   -- what the device's own steps leave of it
   pub device_steps_spare_book : (m : Machine) (steps : List Step) → AllByDevice steps
-      → KeepsLoansAndBookOnlyAdvances m (after m steps)
+      → KeepsLoansAndPendingsOnlyAdvance m (after m steps)
   pub entry_is_found_in_later_book : (old new : List Pending) (e : Pending) → AllAsFarOrFurther old new
       → Contains old e → (x : Pending) × Contains new x × IsAsFarOrFurther e x
   pub entry_is_found_in_earlier_book : (old new : List Pending) (e : Pending) → AllAsFarOrFurther old new
@@ -101,17 +101,17 @@ pub record SlotLaws : Type 0 where
   pub ended_clear : (uses : SlotStates) (m : Machine) (d : Device) (port : Port) (slot : ℕ) (e : Pending)
       → IsReachable m
       → StateRelation uses m d → MayStillMove m e → e.ended ≡ true → uses port.0 slot ≡ Serves e.request.id
-      → IsSlotClear (d.port port.0) slot × EndedIn m port e.request.id
+      → IsSlotClear (d.port port.0) slot × EndedOnPort m port e.request.id
   -- what becomes of requests that no slot serves
   pub answered_agrees : (k : DriverState) (m : Machine) (e : Pending) (outcome : Outcome) (later : ℕ → List RequestId)
       → IsReachable m → DriverRelation m k → Contains m.book e → is_kept_at_answer e outcome ≡ false
       → HasNoSlot k.slot_states e.request.id
-      → ForgetsAtMost e.request.id k.awaiting_disposition later
+      → OthersStayParked e.request.id k.awaiting_disposition later
       → DriverRelation (after_step m (Answer e outcome)) (record k { awaiting_disposition = later })
   pub wait_again_agrees : (k : DriverState) (m : Machine) (e : Pending) (later : ℕ → List RequestId) → IsReachable m
       → DriverRelation m k
       → Contains m.book e → HasNoSlot k.slot_states e.request.id
-      → ForgetsAtMost e.request.id k.awaiting_disposition later
+      → OthersStayParked e.request.id k.awaiting_disposition later
       → DriverRelation (after_step m (WaitAgain e)) (record k { awaiting_disposition = later })
   -- and of one that is kept, in its slot or without one
   pub kept_agrees : (k : DriverState) (m : Machine) (e : Pending) (outcome : Outcome) → IsReachable m
@@ -120,7 +120,7 @@ pub record SlotLaws : Type 0 where
   -- what acts give
   pub acts_advance_driver : (acts : List Act) (k later : DriverState) (m : Machine) → DriverRelation m k
       → AreActsDone acts k m later
-      → DriverAdvances k m (act_steps acts) later
+      → DriverAdvances k m (newest_first_steps_of_acts acts) later
   pub acts_gain_no_move_without_own_command : (acts : List Act) (k later : DriverState) (m : Machine) (port : ℕ)
       (o : Operation) → client_operation_of o ≡ None
       → IsReachable m → DriverRelation m k → (k.slot_states port 0 ≡ Own o → ⊥)
@@ -176,7 +176,7 @@ pub record SlotLaws : Type 0 where
   pub stored_stays_over_access_that_leaves_it : (uses : SlotStates) (m : Machine) (port : Port) (slot : ℕ) (c : Meaning)
       (places : List ℕ)
       (access : Access) (old new : Device) → IsReachable m → StateRelation uses m old → old.hr ≡ false
-      → ClearsNoStart port access → DoesNotWrite (Px port Clb) access
+      → WritesCmdOnlyWithStSet port access → DoesNotWrite (Px port Clb) access
       → ((at : ℕ) (bytes : List ℕ) → access ≡ Storing at bytes
       → MissesTableAndHeaderButPrdbc port.0 slot at (length bytes))
       → Does access old new → IsStoredOnPortWithStSet old port.0 slot c places
@@ -210,7 +210,7 @@ pub record FrameHolderLaws : Type 0 where
       → KeepsLimitsAndHoldsOwnFrames (after start history)
   pub frame_holders_were_accepted : (start : Machine) (history : List Step) (e : Pending) → IsInitial start
       → IsLegal start history
-      → HoldsFrames (after start history) e → WasAccepted start history e.request
+      → IsInBookOrKept (after start history) e → WasAccepted start history e.request
   pub acceptable_is_granted : (m : Machine) (r : Accepted) → MayAccept m r → IsGranted m.rows r
   pub rows_shrink_and_owners_stay : (start : Machine) (history : List Step)
       → ((row : GrantRow) → Contains (after start history).rows row → Contains start.rows row)
@@ -221,7 +221,7 @@ pub record FrameHolderLaws : Type 0 where
   pub a_name_is_one_row : (m : Machine) (client : ClientId) (number : ℕ) (a b : GrantRow) → IsReachable m
       → Contains m.rows a
       → HasGrantName client number a → Contains m.rows b → HasGrantName client number b → a ≡ b
-  pub held_frame_is_of_request : (m : Machine) (frame : Frame) (e : Pending) → IsReachable m → HoldsFrames m e
+  pub held_frame_is_of_request : (m : Machine) (frame : Frame) (e : Pending) → IsReachable m → IsInBookOrKept m e
       → m.lent frame ≡ Some e.request.id → HasFrame e.request frame
   pub kept_is_not_in_book : (m : Machine) (a b : Pending) → IsReachable m → Contains m.book a → Contains m.kept b
       → a.request.id.0 ≢ b.request.id.0

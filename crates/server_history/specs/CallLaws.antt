@@ -10,7 +10,7 @@ use Rattle.adapter.specs.declared.tape.Fault.{Fault}
 use Rattle.adapter.specs.Rules.{IsOn}
 use Rattle.adapter.specs.Steps.{Steps}
 use Rattle.adapter.specs.Access.{Access, Does, DoesAll, Reads, notes_after_reading}
-use Rattle.refinement.specs.PreservedParts.{NoPlugEvents, DoesNotWrite, SameAdapter, ShowsDiskIfIn}
+use Rattle.refinement.specs.PreservedParts.{NoPlugEvents, DoesNotWrite, SameAdapter, HasDet3IfDiskPresent}
 use Rattle.hba_regs.specs.Bits.{bit}
 use Rattle.hba_regs.specs.declared.reg.PortReg.{PortReg}
 use Rattle.hba_regs.specs.declared.reg.PortReg.TheVariants.{Ci, Is, Sact, Sctl, Ssts}
@@ -18,18 +18,18 @@ use Rattle.hba_regs.specs.declared.reg.Reg.TheVariants.{Ghc, Px}
 use Rattle.refinement.specs.Fragments.{IsDrivenBy, SparesOtherPorts, OnlyDeviceChangesPort, GainsNoMove, TapeGrows}
 use Rattle.refinement.specs.Errors.{NoDiskComes, IsFatalErrorOf}
 use Rattle.refinement.specs.Laws.{FragmentLaws}
-use Rattle.refinement.specs.PortFacts.{IsFaulted, RecordsFaultsIfSt, RunsWell, ShowsNoTrouble, PxisValueTellsNoTrouble, Undisturbed, IsFaultOf}
+use Rattle.refinement.specs.PortFacts.{IsHaltedPlainOrQueued, RecordsFaultsIfSt, RunsWell, ShowsNoTrouble, PxisValueTellsNoTrouble, Undisturbed, IsFaultOf}
 use Rattle.block_machine.specs.Events.{AbstractCall, AbstractState, AbstractCallResult, Service}
 use Rattle.block_machine.specs.Histories.{JointState}
 use Rattle.block_machine.specs.Ports.{Evidence, IsStoppedOrStuck, Ports, SamePort}
 use Rattle.driver_history.specs.Evidence.{IsEvidencedOf, ShowsLinkChange, ShowsFailure}
 use Rattle.error_recovery.specs.Evidence.{BringsLastLogPage, HasFailed, GainsSinceStart}
 use Rattle.driver_history.specs.Histories.{BootsAnewWhereRequired, HasOnlyTaskFileError, LosesNoPortError, RunsWellAnew, IsForeignOrUnfit, ProbesDisk}
-use Rattle.driver_history.specs.PortTurn.{HasTurnIn, EvidenceAgreesOn, call_accesses, ChangedUnreadyPortEndsNoLinkDue}
-use Rattle.driver_history.specs.AccessTrace.{ClearsNoError, ResetsLink}
+use Rattle.driver_history.specs.PortTurn.{HasTurnIn, EvidenceAgreesOn, call_accesses, ForeignOrUnfitShowingXEndsNoLinkDue}
+use Rattle.driver_history.specs.AccessTrace.{WritesOneToNoTroubleBit, ResetsLink}
 use Rattle.port_control.specs.Engines.{Stops}
-use Rattle.port_control.specs.PortEvents.{TakesEvent, port_event_of, IsEventAccess}
-use Rattle.port_control.specs.ServiceAccesses.{LinkChangedOrMissing, IsServiceButPxIs, IsServiceAccess, HidesNoPlugEvent, HidesNoFatal, HidesNoFault}
+use Rattle.port_control.specs.PortEvents.{TakesEvent, port_event_of, IsPxisSstsOrOwnIsAccess}
+use Rattle.port_control.specs.ServiceAccesses.{OldShowsChangeOrNoDeviceOrPlugEventComes, WritesOnlyHbaIsCiSactOrOtherPxIs, WritesOnlyHbaIsPxIsCiOrSact, HidesNoPlugEvent, HidesNoFatal, HidesNoFault}
 use Rattle.port_control.specs.declared.events.PortEvent.{PortEvent}
 use Rattle.port_control.specs.declared.events.PortEvent.TheVariants.{FatalError, TaskFileError, LinkChanged, NoEvent}
 use Rattle.server_history.specs.AccessPurposes.{AccessPurpose, slot_uses_for, accesses_for}
@@ -43,20 +43,20 @@ pub record LookLaws : Type 0 where
       → Reads (Px port r) v old new
       → (new.port port.0).notes ≡ notes_after_reading r v (old.port port.0)
   pub disk_shown_if_in_stays_but_for_sctl_write : (port : Port) (access : Access) (old new : Device) → old.hr ≡ false
-      → DoesNotWrite (Px port Sctl) access → Does access old new → ShowsDiskIfIn (old.port port.0)
-      → ShowsDiskIfIn (new.port port.0)
+      → DoesNotWrite (Px port Sctl) access → Does access old new → HasDet3IfDiskPresent (old.port port.0)
+      → HasDet3IfDiskPresent (new.port port.0)
   pub leaves_port_is_reflexive : (p : DevicePort) → OnlyDeviceChangesPort p p
   pub leaves_port_is_transitive : (old mid new : DevicePort) → OnlyDeviceChangesPort old mid
       → OnlyDeviceChangesPort mid new → OnlyDeviceChangesPort old new
   -- a command that failed
   pub look_finds_fault_halted : (port : Port) (old new : Device) → IsOn old → TakesEvent port TaskFileError old new
       → (old.port port.0).st ≡ true → RecordsFaultsIfSt old.tape (old.port port.0) port.0
-      → IsFaulted (new.port port.0).halt
+      → IsHaltedPlainOrQueued (new.port port.0).halt
       × ((new.port port.0).notes.last_ssts % 16 ≡ 3)
   pub reading_keeps_fault_halted : (port : Port) (r : PortReg) (v : ℕ) (old new : Device) → IsOn old
       → Reads (Px port r) v old new
       → r ≢ Ssts → (old.port port.0).st ≡ true → RecordsFaultsIfSt old.tape (old.port port.0) port.0
-      → IsFaulted (old.port port.0).halt → IsFaulted (new.port port.0).halt
+      → IsHaltedPlainOrQueued (old.port port.0).halt → IsHaltedPlainOrQueued (new.port port.0).halt
       × ((new.port port.0).notes.last_ssts ≡ (old.port port.0).notes.last_ssts)
   -- what a look tells of trouble
   pub look_tells_shown_change : (port : Port) (result : PortEvent) (old new : Device) → IsOn old
@@ -89,42 +89,44 @@ pub record LookLaws : Type 0 where
       → TakesEvent port result old new
       → HidesNoPlugEvent port.0 old new
   pub pxis_spared_hides_no_fault : (port : Port) (old new : Device) → IsOn old
-      → IsDrivenBy (IsServiceButPxIs port) old new
+      → IsDrivenBy (WritesOnlyHbaIsCiSactOrOtherPxIs port) old new
       → HidesNoFault port.0 old new
   pub pxis_spared_hides_no_fatal : (port : Port) (old new : Device) → IsOn old
-      → IsDrivenBy (IsServiceButPxIs port) old new
+      → IsDrivenBy (WritesOnlyHbaIsCiSactOrOtherPxIs port) old new
       → HidesNoFatal port.0 old new
   pub pxis_spared_hides_no_plug_event : (port : Port) (old new : Device) → IsOn old
-      → IsDrivenBy (IsServiceButPxIs port) old new
+      → IsDrivenBy (WritesOnlyHbaIsCiSactOrOtherPxIs port) old new
       → HidesNoPlugEvent port.0 old new
   pub link_changed_means_loss : (port : Port) (old new : Device) → IsOn old → TakesEvent port LinkChanged old new
-      → (old.port port.0).link_due ≡ false → LinkChangedOrMissing port.0 old new
+      → (old.port port.0).link_due ≡ false → OldShowsChangeOrNoDeviceOrPlugEventComes port.0 old new
   -- accesses that serve ports
   pub fragments : FragmentLaws AccessPurpose accesses_for slot_uses_for
-  pub look_access_is_service_access : (port : Port) (access : Access) → IsEventAccess port access
-      → IsServiceAccess access
-  pub look_access_is_of_port : (port : Port) (access : Access) → IsEventAccess port access
+  pub look_access_is_service_access : (port : Port) (access : Access) → IsPxisSstsOrOwnIsAccess port access
+      → WritesOnlyHbaIsPxIsCiOrSact access
+  pub look_access_is_of_port : (port : Port) (access : Access) → IsPxisSstsOrOwnIsAccess port access
       → SparesOtherPorts port access
   pub look_is_driven_by_its_accesses : (port : Port) (result : PortEvent) (old new : Device)
       → TakesEvent port result old new
-      → IsDrivenBy (IsEventAccess port) old new
+      → IsDrivenBy (IsPxisSstsOrOwnIsAccess port) old new
   pub undisturbed_well_port_shows_no_event : (port : Port) (result : PortEvent) (old new : Device) → IsOn old
       → TakesEvent port result old new
       → RunsWell (old.port port.0) → Undisturbed port.0 old new → (result ≡ NoEvent) × RunsWell (new.port port.0)
   -- what serving ports writes, and leaves
-  pub services_do_not_write_ghc : (access : Access) → IsServiceAccess access → DoesNotWrite Ghc access
+  pub services_do_not_write_ghc : (access : Access) → WritesOnlyHbaIsPxIsCiOrSact access → DoesNotWrite Ghc access
   pub services_spare_other_registers : (port : Port) (r : PortReg) → r ≢ Is → r ≢ Ci → r ≢ Sact → (access : Access)
-      → IsServiceAccess access
+      → WritesOnlyHbaIsPxIsCiOrSact access
       → DoesNotWrite (Px port r) access
-  pub service_keeps_adapter_on : (old new : Device) → IsOn old → IsDrivenBy IsServiceAccess old new → IsOn new
-  pub service_keeps_adapter : (old new : Device) → IsDrivenBy IsServiceAccess old new → SameAdapter old new
-  pub services_keep_controls : (port : ℕ) (old new : Device) → IsOn old → IsDrivenBy IsServiceAccess old new
+  pub service_keeps_adapter_on : (old new : Device) → IsOn old → IsDrivenBy WritesOnlyHbaIsPxIsCiOrSact old new
+      → IsOn new
+  pub service_keeps_adapter : (old new : Device) → IsDrivenBy WritesOnlyHbaIsPxIsCiOrSact old new → SameAdapter old new
+  pub services_keep_controls : (port : ℕ) (old new : Device) → IsOn old → IsDrivenBy WritesOnlyHbaIsPxIsCiOrSact old new
       → ((new.port port).sctl_det ≡ (old.port port).sctl_det) × ((new.port port).ie ≡ (old.port port).ie)
       × ((new.port port).notes.sctl_written_at ≡ (old.port port).notes.sctl_written_at)
       × ((new.port port).notes.st_set_at ≡ (old.port port).notes.st_set_at)
-  pub service_keeps_faults_on_record : (port : ℕ) (old new : Device) → IsDrivenBy IsServiceAccess old new
+  pub service_keeps_faults_on_record : (port : ℕ) (old new : Device) → IsDrivenBy WritesOnlyHbaIsPxIsCiOrSact old new
       → RecordsFaultsIfSt old.tape (old.port port) port → RecordsFaultsIfSt new.tape (new.port port) port
-  pub look_keeps_sact_clear : (port : Port) (q slot : ℕ) (old new : Device) → IsDrivenBy (IsEventAccess port) old new
+  pub look_keeps_sact_clear : (port : Port) (q slot : ℕ) (old new : Device)
+      → IsDrivenBy (IsPxisSstsOrOwnIsAccess port) old new
       → (old.port q).sact slot ≡ false → (new.port q).sact slot ≡ false
 
 pub record CallLaws : Type 0 where
@@ -147,7 +149,7 @@ pub record CallLaws : Type 0 where
   pub ordinary_accesses_lose_no_error : (port : Port) (old : JointState Device) (new : Device) (accesses : List Access)
       (evidence : Evidence)
       (ports : Ports) → IsOn old.device
-      → DoesAll accesses old.device new → All (DoesNotWrite Ghc) accesses → All (ClearsNoError port) accesses
+      → DoesAll accesses old.device new → All (DoesNotWrite Ghc) accesses → All (WritesOneToNoTroubleBit port) accesses
       → LosesNoPortError evidence old ports new port
   pub steps_lose_no_error : (port : Port) (old : JointState Device) (new : Device) (evidence : Evidence) (ports : Ports)
       → IsOn old.device → Steps old.device new → LosesNoPortError evidence old ports new port
@@ -188,8 +190,8 @@ pub record CallLaws : Type 0 where
       (new : Device)
       → IsOn old.device → (t : HasTurnIn port old.device new) → IsOn t.end → SamePort ended ports port
       → SamePort old.abstract.ports begun.ports port
-      → (IsForeignOrUnfit old.abstract.ports port → ShowsDiskIfIn (old.device.port port.0))
-      → ChangedUnreadyPortEndsNoLinkDue port (record { device = t.start; abstract = begun }) ended t.end
+      → (IsForeignOrUnfit old.abstract.ports port → HasDet3IfDiskPresent (old.device.port port.0))
+      → ForeignOrUnfitShowingXEndsNoLinkDue port (record { device = t.start; abstract = begun }) ended t.end
       → (NoDiskComes port.0 t.start t.end → ProbesDisk t.turn
       (record { device = t.start; abstract = begun }) ended t.end
       port)
@@ -198,8 +200,8 @@ pub record CallLaws : Type 0 where
       (ended ports : Ports) (new : Device)
       → IsOn old.device → (t : HasTurnIn port old.device new) → IsOn t.end → SamePort ended ports port
       → SamePort old.abstract.ports begun.ports port
-      → ChangedUnreadyPortEndsNoLinkDue port (record { device = t.start; abstract = begun }) ended
-      t.end → ChangedUnreadyPortEndsNoLinkDue port old ports new
+      → ForeignOrUnfitShowingXEndsNoLinkDue port (record { device = t.start; abstract = begun }) ended
+      t.end → ForeignOrUnfitShowingXEndsNoLinkDue port old ports new
   pub stopped_port_set_st_since : (port : Port) (accesses : List Access) (old new : Device) → IsOn old
       → All (DoesNotWrite Ghc) accesses → DoesAll accesses old new → Stops port accesses → (new.port port.0).st ≡ true
       → length old.tape ≤ (new.port port.0).notes.st_set_at

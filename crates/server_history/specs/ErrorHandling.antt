@@ -13,7 +13,7 @@ use Rattle.error_recovery.specs.Recovery.{RecoversOrStops, TellsRecovery}
 use Rattle.error_recovery.specs.declared.Next.{Next}
 use Rattle.error_recovery.specs.declared.Next.TheVariants as next
 use Rattle.error_recovery.specs.declared.Recovered.{Recovered}
-use Rattle.host_boot.specs.Reboots.{RebootsPort, RebootsIfPresent}
+use Rattle.host_boot.specs.Reboots.{RebootsPort, RebootsWithDet3OrFindsAbsent}
 use Rattle.host_boot.specs.TakeOver.{probe_result_of, wanted_of}
 use Rattle.host_boot.specs.declared.Booted.{Booted}
 use Rattle.host_boot.specs.declared.ProbeResult.{ProbeResult}
@@ -93,7 +93,7 @@ pub record IsErrorHandled (port : Port) (old mid : ServerState) (new : Device) :
 
 -- It is booted; one whose disk was lost only if a device shows.
 abbrev pub BootsAfter : PortError → Wanted → Port → Booted → Device → Device → Type 0
-BootsAfter LinkChanged wanted port booted old new = RebootsIfPresent wanted port booted old new
+BootsAfter LinkChanged wanted port booted old new = RebootsWithDet3OrFindsAbsent wanted port booted old new
 BootsAfter port_error wanted port booted old new = RebootsPort wanted port booted old new
 
 -- It is found to be this: what it was, where it runs; what its boot has found, where it has to be booted; or dead.

@@ -41,13 +41,13 @@ ExtendsHistory old new ask said = (first : JointState Device) (past : List (Join
     × LeadsToServer first (h ∷ past) new
 
 -- So it does; and the new server's adapter is on, and each request is issued that is due.
-pub record ExtendsSettled (old new : ServerState) (ask : AbstractCall DeviceStep) (said : AbstractCallResult) : Type 0
+pub record ExtendsToSettled (old new : ServerState) (ask : AbstractCall DeviceStep) (said : AbstractCallResult) : Type 0
   where
     pub settled_invariant : SettledInvariant new
     pub extends_history : ExtendsHistory old new ask said
 
 -- So it does; and the new server's adapter hasn't been seen to end a reset.
-pub record ExtendsStuck (old new : ServerState) (ask : AbstractCall DeviceStep) (said : AbstractCallResult) : Type 0
+pub record ExtendsToStuck (old new : ServerState) (ask : AbstractCall DeviceStep) (said : AbstractCallResult) : Type 0
   where
     pub stuck_invariant : StuckInvariant new
     pub extends_history : ExtendsHistory old new ask said

@@ -260,9 +260,9 @@ AllByDeviceOrIssue mode port (Issue its e ∷ steps) = (its ≡ mode) × (e.requ
 AllByDeviceOrIssue mode port (step ∷ steps) = IsByDevice step × AllByDeviceOrIssue mode port steps
 
 -- the answers of these requests, one after another, the last first
-abbrev pub ok_answers_of : List Pending → List Step
-ok_answers_of [] = []
-ok_answers_of (e ∷ rest) = ok_answers_of rest ++ Answer e outcome.Ok ∷ []
+abbrev pub ok_answers_newest_first : List Pending → List Step
+ok_answers_newest_first [] = []
+ok_answers_newest_first (e ∷ rest) = ok_answers_newest_first rest ++ Answer e outcome.Ok ∷ []
 
 -- The machine's request is this one of the port; it was issued, and it had ended with all its sectors touched.
 pub record HasEnded (port : Port) (request : BookEntry) (done : Pending) : Type 0 where
@@ -282,6 +282,6 @@ pub record StepsAnswer (mode : QueueMode) (port : Port) (replies : List Reply) (
   pub each_has_ended : AllZip (HasEnded port) requests ended
   pub later : List Step
   pub before : List Step
-  pub steps_are : steps ≡ later ++ (ok_answers_of ended ++ before)
+  pub steps_are : steps ≡ later ++ (ok_answers_newest_first ended ++ before)
   pub device_steps_come_first : AllByDevice before
   pub others_come_last : AllByDeviceOrIssue mode port later

@@ -13,7 +13,7 @@ use Rattle.adapter.specs.declared.command.Operation.{Operation}
 use Rattle.adapter.specs.declared.command.Operation.TheVariants.{ReadLog}
 use Rattle.adapter.specs.declared.tape.Entry.{Entry as TapeEntry}
 use Rattle.adapter.specs.declared.tape.Fault.{Fault}
-use Rattle.adapter.specs.Rules.{IsUnowned, IsOn, IsStable}
+use Rattle.adapter.specs.Rules.{IsInMemoryNotOwnedByDevice, IsOn, IsStable}
 use Rattle.refinement.specs.Acts.{DriverSlots, driver_state_of_slots}
 use Rattle.adapter.specs.Access.{Access, Does, DoesAll, Loads, Stores, Writes}
 use Rattle.adapter.specs.Access.Access.{Loading, Storing}
@@ -51,10 +51,10 @@ use Rattle.port_boot.specs.States.{StaysRunningIfUndisturbed, IsBootAccess}
 use Rattle.port_control.specs.Engines.{EngineFalls, EngineSticks}
 use Rattle.error_recovery.specs.Recovery.{IsRecoveryAccess}
 use Rattle.commands.specs.Masks.{ReadsDone, ReadsCiOrSact}
-use Rattle.commands.specs.Batches.{IsBatchAccess, IssuesBatch, MayServeBatch, PlacedTask, issues_of, with_serving_batch}
+use Rattle.commands.specs.Batches.{IsBatchAccess, IssuesBatch, MayServeBatch, PlacedTask, issues_newest_first, with_serving_batch}
 use Rattle.commands.specs.Tasks.{IsTaskOf}
 use Rattle.port_control.specs.EventLaws.{Laws}
-use Rattle.request_queue.specs.BookEntries.{BookEntry, IsWellFormedEntry, IsEarlier, IsNewlyAccepted, BookIsWellFormed, IsWaiting, IsIssuedBelowLimit, with_requests_under_grant_revoked, unanswered_of, update_if_id, issued_request, requeued_request, entry_count_of_client, without_entry}
+use Rattle.request_queue.specs.BookEntries.{BookEntry, IsWellFormedEntry, IsEarlier, IsNewlyAccepted, BookIsWellFormed, IsWaiting, IsIssuedBelowLimit, with_requests_under_grant_revoked, unanswered_of, update_if_id, issued_request, waiting_again_request, entry_count_of_client, without_entry}
 use Rattle.request_queue.specs.declared.PendingRequest.{PendingRequest}
 use Rattle.request_queue.specs.Dispositions.{CompletesAllWith, BookAndLoans, AreResolved, keeps_loan}
 use Rattle.request_queue.specs.BookRelation.{BookRelation, EntryRelation}
@@ -75,7 +75,7 @@ pub record PrerequisiteLaws : Type 0 where
       → BookRelation entries m.book
       → BookRelation (map (update_if_id p.request.id issued_request) entries) (after_step m (Issue mode p)).book
   pub requeue_keeps_book_relation : (entries : List BookEntry) (m : Machine) (p : Pending) → BookRelation entries m.book
-      → BookRelation (map (update_if_id p.request.id requeued_request) entries) (after_step m (WaitAgain p)).book
+      → BookRelation (map (update_if_id p.request.id waiting_again_request) entries) (after_step m (WaitAgain p)).book
   pub answer_keeps_book_relation : (entries : List BookEntry) (m : Machine) (p : Pending) (outcome : Outcome)
       → BookRelation entries m.book
       → BookRelation (without_entry p.request.id entries) (after_step m (Answer p outcome)).book
@@ -99,7 +99,7 @@ pub record PrerequisiteLaws : Type 0 where
       → BookIsWellFormed (map (update_if_id id issued_request) entries)
   pub requeueing_keeps_book_well_formed : (entries : List BookEntry) (id : RequestId) → BookIsWellFormed entries
       → IsIssuedBelowLimit id entries
-      → BookIsWellFormed (map (update_if_id id requeued_request) entries)
+      → BookIsWellFormed (map (update_if_id id waiting_again_request) entries)
   pub removing_keeps_book_well_formed : (entries : List BookEntry) (id : RequestId) → BookIsWellFormed entries
       → BookIsWellFormed (without_entry id entries)
   pub marking_keeps_book_well_formed : (entries : List BookEntry) (client : ClientId) (grant : ℕ)
@@ -128,7 +128,7 @@ pub record PrerequisiteLaws : Type 0 where
       → All (IsWellFormedEntry table) (map (update_if_id id issued_request) entries)
   pub requeue_keeps_entries_well_formed : (table : OwnersAndLoans) (entries : List BookEntry) (id : RequestId)
       → All (IsWellFormedEntry table) entries
-      → All (IsWellFormedEntry table) (map (update_if_id id requeued_request) entries)
+      → All (IsWellFormedEntry table) (map (update_if_id id waiting_again_request) entries)
   pub marking_keeps_entries_well_formed : (table : OwnersAndLoans) (entries : List BookEntry) (client : ClientId)
       (grant : ℕ)
       → All (IsWellFormedEntry table) entries
@@ -186,7 +186,7 @@ pub record PrerequisiteLaws : Type 0 where
       (s : DriverSlots) (m : Machine)
       → IssuesBatch port tasks old new → AllZip (λ t e. IsTaskOf port t.slot t.task t.frames mode e) tasks es
       → IsReachable m → DriverRelation m (driver_state_of_slots s old) → MayServeBatch port tasks mode es s m
-      → EndsInSteps (driver_state_of_slots s old) m (issues_of mode es)
+      → EndsInSteps (driver_state_of_slots s old) m (issues_newest_first mode es)
       (driver_state_of_slots (with_serving_batch port tasks es s) new)
   pub batch_issue_moves_no_page : (port : Port) (tasks : List PlacedTask) (mode : QueueMode) (es : List Pending)
       (old new : Device)
@@ -234,11 +234,12 @@ pub record PrerequisiteLaws : Type 0 where
       → MayAccessFrame m.owner m.lent client frame offset (length bytes)
       → Loads (FRAME_BYTES * frame.0 + offset) bytes k.device new
       → EndsInOneStep k m (Load client frame offset bytes) (record k { device = new })
-  pub accessible_bytes_are_unowned : (uses : SlotStates) (m : Machine) (d : Device) → IsReachable m
+  pub device_owns_no_accessible_bytes : (uses : SlotStates) (m : Machine) (d : Device) → IsReachable m
       → StateRelation uses m d
       → (client : ClientId)
       (frame : Frame) (offset n : ℕ) → FRAME_BYTES * frame.0 + FRAME_BYTES ≤ d.memory_size
-      → MayAccessFrame m.owner m.lent client frame offset n → IsStable (IsUnowned (FRAME_BYTES * frame.0 + offset) n) d
+      → MayAccessFrame m.owner m.lent client frame offset n →
+      IsStable (IsInMemoryNotOwnedByDevice (FRAME_BYTES * frame.0 + offset) n) d
   -- a port that runs does so still
   pub runs_on_after_access : (port : Port) (access : Access) (old new : Device) → IsOn old
       → DoesNotWrite (Px port Sctl) access
@@ -285,7 +286,7 @@ pub record PrerequisiteLaws : Type 0 where
       → GainsNoMove port.0 ReadLog new end → BringsLastLogPage port old new page → BringsLastLogPage port start end page
   -- a request that waits again
   pub unanswered_after_requeue : (entries : List BookEntry) (id : RequestId)
-      → unanswered_of (map (update_if_id id requeued_request) entries)
+      → unanswered_of (map (update_if_id id waiting_again_request) entries)
       ≡ with_waiting id (unanswered_of entries)
   -- requests that are marked
   pub unanswered_after_marking : (entries : List BookEntry) (client : ClientId) (grant : ℕ)

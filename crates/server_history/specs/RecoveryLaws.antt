@@ -18,8 +18,8 @@ use Rattle.refinement.specs.Fragments.{IsDrivenBy, SparesOtherPorts, GainsNoMove
 use Rattle.refinement.specs.Driver.{DriverAdvances, DriverState, DriverRelation}
 use Rattle.refinement.specs.Errors.{NoFatalErrors}
 use Rattle.refinement.specs.PortFacts.{RecordsFaultsIfSt, Undisturbed}
-use Rattle.refinement.specs.Halting.{HaltIsOfTaken, HaltOfTakenIfSt}
-use Rattle.refinement.specs.PreservedParts.{ShowsDiskIfIn, KeepsDisk, NoPlugEvents, SameAdapter, DoesNotWrite}
+use Rattle.refinement.specs.Halting.{NotLogOnlyAndQueuedHaltHasTakenCommand, NotLogOnlyAndQueuedHaltHasTakenCommandIfSt}
+use Rattle.refinement.specs.PreservedParts.{HasDet3IfDiskPresent, KeepsDisk, NoPlugEvents, SameAdapter, DoesNotWrite}
 use Rattle.refinement.specs.HaltRecovery.{WorksOnUnqueuedCommandsOnly}
 use Rattle.refinement.specs.Slots.{Serves, SlotState, SlotStates, set_slot_state, serving_count}
 use Rattle.block_machine.specs.DueRequests.{issued_count}
@@ -27,7 +27,7 @@ use Rattle.block_machine.specs.Histories.{IsReachable}
 use Rattle.block_machine.specs.Expected.{after}
 use Rattle.block_machine.specs.State.{Machine, unanswered}
 use Rattle.block_machine.specs.Steps.{NoneKept, Step}
-use Rattle.host_boot.specs.Reboots.{RebootsPort, RebootsIfPresent, IsCapPiOrBootAccess}
+use Rattle.host_boot.specs.Reboots.{RebootsPort, RebootsWithDet3OrFindsAbsent, IsCapPiOrBootAccess}
 use Rattle.host_boot.specs.TakeOver.{FoundUnusableDevice, IsServed, KeepsWhatBacksProbeResult, BacksProbeResult, StillBacksProbeResult}
 use Rattle.host_boot.specs.declared.Booted.{Booted}
 use Rattle.host_boot.specs.declared.ProbeResult.{ProbeResult}
@@ -58,7 +58,7 @@ pub record RecoveryLaws : Type 0 where
       → RecordsFaultsIfSt old.tape (old.port q) q → RecordsFaultsIfSt new.tape (new.port q) q
   pub other_port_keeps_shown_disk : (port other : Port) (old new : Device) → port.0 ≢ other.0 → IsOn old
       → IsDrivenBy (SparesOtherPorts other) old new
-      → ShowsDiskIfIn (old.port port.0) → ShowsDiskIfIn (new.port port.0)
+      → HasDet3IfDiskPresent (old.port port.0) → HasDet3IfDiskPresent (new.port port.0)
   -- a port that was booted again
   pub reboot_is_of_port : (wanted : Wanted) (port : Port) (booted : Booted) (old new : Device)
       → RebootsPort wanted port booted old new → IsDrivenBy (SparesOtherPorts port) old new
@@ -68,7 +68,7 @@ pub record RecoveryLaws : Type 0 where
   pub reboot_shows_bad_disk : (wanted : Wanted) (port : Port) (booted : Booted) (state : PortState) (old new : Device)
       → IsOn old
       → RebootsPort wanted port booted old new → FoundUnusableDevice state → booted.found ≡ Unready state
-      → ShowsDiskIfIn (new.port port.0)
+      → HasDet3IfDiskPresent (new.port port.0)
   -- what stands behind a port still does
   pub backing_begins : (wanted : Wanted) (found : ProbeResult) (port : ℕ) (d : Device)
       → BacksProbeResult wanted found port d
@@ -81,14 +81,15 @@ pub record RecoveryLaws : Type 0 where
   pub boot_start_access_is_of_port : (port : Port) (access : Access) → IsCapPiOrBootAccess port access
       → SparesOtherPorts port access
   pub conditional_boot_is_of_port : (wanted : Wanted) (port : Port) (booted : Booted) (old new : Device)
-      → RebootsIfPresent wanted port booted old new → IsDrivenBy (SparesOtherPorts port) old new
+      → RebootsWithDet3OrFindsAbsent wanted port booted old new → IsDrivenBy (SparesOtherPorts port) old new
   pub conditional_boot_backs_result : (wanted : Wanted) (port : Port) (booted : Booted) (old new : Device)
-      → RebootsIfPresent wanted port booted old new → IsServed wanted port.0 old
+      → RebootsWithDet3OrFindsAbsent wanted port booted old new → IsServed wanted port.0 old
       → BacksProbeResult wanted booted.found port.0 new
   pub conditional_boot_shows_bad_disk : (wanted : Wanted) (port : Port) (booted : Booted) (state : PortState)
       (old new : Device) → IsOn old
-      → RebootsIfPresent wanted port booted old new → FoundUnusableDevice state → booted.found ≡ Unready state
-      → ShowsDiskIfIn (new.port port.0)
+      → RebootsWithDet3OrFindsAbsent wanted port booted old new → FoundUnusableDevice state → booted.found
+      ≡ Unready state
+      → HasDet3IfDiskPresent (new.port port.0)
 
 -- What of a port's trouble is shown.
 pub record PortErrorLaws : Type 0 where
@@ -113,11 +114,14 @@ pub record PortErrorLaws : Type 0 where
       → IsReachable m
       → DriverRelation m k
       → AreActsDone acts k m later → All (DoesNotWrite (Px port Cmd)) (accesses_of acts)
-      → HaltOfTakenIfSt (k.device.port port.0) → HaltOfTakenIfSt (later.device.port port.0)
+      → NotLogOnlyAndQueuedHaltHasTakenCommandIfSt (k.device.port port.0)
+      → NotLogOnlyAndQueuedHaltHasTakenCommandIfSt (later.device.port port.0)
   pub halt_of_taken_stays_but_for_cmd_write : (uses : SlotStates) (m : Machine) (port : Port) (access : Access)
       (old new : Device)
       → IsReachable m
       → StateRelation uses m old → DoesNotWrite (Px port Cmd) access → Does access old new
-      → HaltOfTakenIfSt (old.port port.0) → HaltOfTakenIfSt (new.port port.0)
-  pub unhalted_has_no_halt : (p : DevicePort) → p.halt ≡ NotHalted → HaltIsOfTaken p
-  pub plain_port_halt_is_of_taken : (p : DevicePort) → WorksOnUnqueuedCommandsOnly p → HaltIsOfTaken p
+      → NotLogOnlyAndQueuedHaltHasTakenCommandIfSt (old.port port.0)
+      → NotLogOnlyAndQueuedHaltHasTakenCommandIfSt (new.port port.0)
+  pub unhalted_has_no_halt : (p : DevicePort) → p.halt ≡ NotHalted → NotLogOnlyAndQueuedHaltHasTakenCommand p
+  pub plain_port_halt_is_of_taken : (p : DevicePort) → WorksOnUnqueuedCommandsOnly p
+      → NotLogOnlyAndQueuedHaltHasTakenCommand p

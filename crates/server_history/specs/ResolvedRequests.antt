@@ -28,19 +28,19 @@ IsResolveStep port (WaitAgain e) = e.request.port ≡ port
 IsResolveStep port (Answer e outcome) = e.request.port ≡ port
 IsResolveStep port step = ⊥
 
--- it ends with its frames lent still
-abbrev pub keeps_frames_lent : Disposition → PendingRequest → Bool
-keeps_frames_lent (Complete outcome) e = keeps_loan outcome e
-keeps_frames_lent _ e = false
+-- it is answered, and its loan is kept
+abbrev pub completes_keeping_loan : Disposition → PendingRequest → Bool
+completes_keeping_loan (Complete outcome) e = keeps_loan outcome e
+completes_keeping_loan _ e = false
 
 -- the loan of a request that the machine keeps
 abbrev pub loan_of : Pending → Lending
 loan_of e = record { frames = e.request.asked.frames.items; request = e.request.id }
 
 -- the loans of these, the last first
-abbrev pub loans_of : List Pending → List Lending
-loans_of [] = []
-loans_of (e ∷ rest) = loans_of rest ++ loan_of e ∷ []
+abbrev pub loans_newest_first : List Pending → List Lending
+loans_newest_first [] = []
+loans_newest_first (e ∷ rest) = loans_newest_first rest ++ loan_of e ∷ []
 
 -- The machine has the book and the loans. These are requests of the port in the book, each with a mark that tells
 -- whether the machine has its grant; and no slot serves one of them whose loan isn't kept.
@@ -58,13 +58,13 @@ pub record AreResolvable (port : Port) (disposition : PendingRequest
   pub revoked_marks_agree : (e : BookEntry) → Contains requests e → RevokedMarkAgrees m.rows e.request
   pub are_in_order : AllPairs IsEarlier requests
   pub released_have_no_slot : (e : BookEntry) → Contains requests e
-      → keeps_frames_lent (disposition e.request) e.request ≡ false
+      → completes_keeping_loan (disposition e.request) e.request ≡ false
       → HasNoSlot k.slot_states e.request.id
 
--- the request is decided on, and its loan isn't kept
-abbrev pub IsResolvedAndReleased : (PendingRequest → Disposition) → BookEntry → Type 0
-IsResolvedAndReleased disposition e = (disposition e.request ≢ Wait)
-    × (keeps_frames_lent (disposition e.request) e.request ≡ false)
+-- the request waits again, or is answered and its loan isn't kept
+abbrev pub IsRequeuedOrAnsweredWithoutKeptLoan : (PendingRequest → Disposition) → BookEntry → Type 0
+IsRequeuedOrAnsweredWithoutKeptLoan disposition e = (disposition e.request ≢ Wait)
+    × (completes_keeping_loan (disposition e.request) e.request ≡ false)
 
 -- They are resolved by steps that decide on requests of the port, after which the machine has the book and the
 -- loans that are left. Those whose loans are kept are kept in the machine beside those that were, and each has one more
@@ -81,17 +81,17 @@ pub record AreResolvedInMachine (port : Port) (disposition : PendingRequest → 
   pub parked_of_others_is_kept : (q : ℕ) → q ≢ port.0 → parked q ≡ k.awaiting_disposition q
   pub parked_was_parked_and_not_freed : (id : RequestId) → Contains (parked port.0) id
       → Contains (k.awaiting_disposition port.0) id
-      × ((e : BookEntry) → Contains requests e → IsResolvedAndReleased disposition e → e.request.id ≢ id)
+      × ((e : BookEntry) → Contains requests e → IsRequeuedOrAnsweredWithoutKeptLoan disposition e → e.request.id ≢ id)
   pub book : BookRelation new.book (after m steps).book
   pub loans_agree : (frame : Frame) → (after m steps).lent frame ≡ lent_to new.table frame
   pub newly_kept : List Pending
   pub newly_kept_are_kept : (after m steps).kept ≡ newly_kept ++ m.kept
-  pub loans_of_newly_kept : new.kept ≡ old.kept ++ loans_of newly_kept
-  pub loans_differ_in_request : AllPairs DifferInRequest (loans_of newly_kept)
+  pub loans_of_newly_kept : new.kept ≡ old.kept ++ loans_newest_first newly_kept
+  pub loans_differ_in_request : AllPairs DifferInRequest (loans_newest_first newly_kept)
   pub newly_kept_are_of_requests : (e : Pending) → Contains newly_kept e → (request : BookEntry)
       × Contains requests request
       × EntryRelation request e
-      × (keeps_frames_lent (disposition request.request) request.request ≡ true)
+      × (completes_keeping_loan (disposition request.request) request.request ≡ true)
   pub answers_are_as_decided : (e : Pending) (outcome : Outcome) → Contains steps (Answer e outcome)
       → (request : BookEntry)
       × Contains requests request × EntryRelation request e × (disposition request.request ≡ Complete outcome)

@@ -13,8 +13,8 @@ use Rattle.adapter.specs.Device.{Device}
 use Rattle.adapter.specs.Rules.{IsOn, HasPort}
 use Rattle.refinement.specs.Fragments.{driver_state_of}
 use Rattle.refinement.specs.Driver.{DriverRelation}
-use Rattle.refinement.specs.Halting.{HaltIsOfTaken}
-use Rattle.refinement.specs.PreservedParts.{ShowsDiskIfIn}
+use Rattle.refinement.specs.Halting.{NotLogOnlyAndQueuedHaltHasTakenCommand}
+use Rattle.refinement.specs.PreservedParts.{HasDet3IfDiskPresent}
 use Rattle.refinement.specs.ReadySlots.{IsStoredOnPortWithStSet}
 use Rattle.refinement.specs.Slots.{Free, Serves, SlotState, SlotStates}
 use Rattle.block_machine.specs.DueRequests.{NoneDue, is_plain}
@@ -187,7 +187,7 @@ abbrev pub DifferInRequest : Lending → Lending → Type 0
 DifferInRequest a b = a.request ≢ b.request
 
 -- The machine's kept requests are those whose loans the server keeps, one loan each, on dead ports alone.
-pub record QuarantineRelation (found : List ProbeResult) (kept : List (List Lending))
+pub record KeptRequestsRelation (found : List ProbeResult) (kept : List (List Lending))
     (requests : List Pending) : Type 0 where
   pub quarantine_ports_are_dead : (e : Pending) → Contains requests e → probe_result_of found e.request.port.0
       ≡ Unready Dead
@@ -209,7 +209,7 @@ pub record MachineRelation (s : ServerState) (m : Machine) : Type 0 where
       → awaiting_disposition port ≡ []
   pub driver_relation : DriverRelation m (driver_state_of uses awaiting_disposition s.device)
   pub book : BookRelation s.book m.book
-  pub quarantine_relation : QuarantineRelation s.probe_results s.kept_loans m.kept
+  pub quarantine_relation : KeptRequestsRelation s.probe_results s.kept_loans m.kept
   pub rows : m.rows ≡ s.grants
   pub owner : (frame : Frame) → m.owner frame ≡ owner_of s.table frame
   pub lent : (frame : Frame) → m.lent frame ≡ lent_to s.table frame
@@ -233,10 +233,10 @@ pub record PortInvariant (wanted : List Wanted) (found : List ProbeResult) (port
   pub probe_result_is_backed : StillBacksProbeResult (wanted_of wanted port) (probe_result_of found port) port d
   pub ready_engine_runs : state_of (probe_result_of found port) ≡ ReadyState → EngineRuns port d
   pub bad_disk_is_shown_if_in : FoundUnusableDevice (state_of (probe_result_of found port))
-      → ShowsDiskIfIn (d.port port)
+      → HasDet3IfDiskPresent (d.port port)
   pub ready_has_disk_if_shown : state_of (probe_result_of found port) ≡ ReadyState → ShownDiskIsIn (d.port port)
   pub ready_is_not_log_only_and_halt_is_of_taken : state_of (probe_result_of found port) ≡ ReadyState
-      → HaltIsOfTaken (d.port port)
+      → NotLogOnlyAndQueuedHaltHasTakenCommand (d.port port)
 
 -- how many slots of a port may be used: those of its mode, if it is ready
 abbrev pub usable_slots_of : ProbeResult → QueueMode → ℕ

@@ -12,7 +12,7 @@ use Rattle.adapter.specs.declared.tape.Fault as tape_fault
 use Rattle.refinement.specs.Relation.{port_at}
 use Rattle.refinement.specs.Fragments.{SparesOtherPorts, GainsNoMove}
 use Rattle.refinement.specs.Driver.{TapeBacksSteps}
-use Rattle.block_machine.specs.Events.{AbstractCall, AnswersAndWaitsLawful, AllEnabled, AnswersEnded, AreStepsOfCall, UnpluggedPortIsNotDeadNorReadyWithSameDisk, ShownDiskWasInOrCame, IsByDevice, IssueIsLastOfRequest, AbstractState, NoneStaysIssued, Replied, Service, RepliesMatch, Tick, UnpluggedEmptiesPort}
+use Rattle.block_machine.specs.Events.{AbstractCall, AnswersAndWaitsLawful, AllEnabled, AnswersOkWhatHadEnded, AreStepsOfCall, UnpluggedOutcomeExcludesDeadAndSameSerialAndSize, ShownDiskWasInOrCame, IsByDevice, IssueIsLastOfRequest, AbstractState, IssuedOnPortAreIssuedInSteps, Replied, Service, RepliesMatch, Tick, UnpluggedOutcomeEmptiesPort}
 use Rattle.block_machine.specs.DueRequests.{requests_of_port}
 use Rattle.block_machine.specs.Histories.{JointEvent, JointState, IsReachable}
 use Rattle.block_machine.specs.Expected.{after}
@@ -26,7 +26,7 @@ use Rattle.identify.specs.ErrorLog.{NamesQueuedCommand}
 use Rattle.driver_history.specs.Histories.{FindsDone, IsIssuedOn, IssuesDue, LosesNoPortError, RunsWellAnew, PortCorresponds}
 use Rattle.driver_history.specs.PortInvariants.{HasNoUnanswered}
 use Rattle.driver_history.specs.AccessTrace.{StaysInDriverFrames, ResetsLink}
-use Rattle.driver_history.specs.PortTurn.{ChangedUnreadyPortEndsNoLinkDue}
+use Rattle.driver_history.specs.PortTurn.{ForeignOrUnfitShowingXEndsNoLinkDue}
 use Rattle.host_boot.specs.TakeOver.{probe_result_of}
 use Rattle.host_boot.specs.declared.ProbeResult.{ProbeResult}
 use Rattle.host_boot.specs.declared.ProbeResult.TheVariants.{Ready, Unready, Unserved}
@@ -122,8 +122,8 @@ pub record HandlesShownErrors (port : Port) (accesses : List Access) (old : Join
   pub runs_well_anew : RunsWellAnew evidence accesses old ports new port
 
 -- As such a call it has done of its port what a service does of one; where it probed a port that showed X, and no disk
--- came, no link is due at its end (ChangedUnreadyPortEndsNoLinkDue); and where it restarts the port it has done what a
--- call does of trouble.
+-- came, no link is due at its end (ForeignOrUnfitShowingXEndsNoLinkDue); and where it restarts the port it has done
+-- what a call does of trouble.
 abbrev pub TurnCorresponds : Turn → Port → List Reply → List Access → ServerState → ServerState → Machine → Evidence
     → List Step → Type 0
 TurnCorresponds ServingReady port replies accesses old new m evidence steps =
@@ -132,7 +132,7 @@ TurnCorresponds InRestart port replies accesses old new m evidence steps =
     HandlesShownErrors port accesses (joint_state_of old m) evidence (ports_of new) new.device
 TurnCorresponds InProbe port replies accesses old new m evidence steps =
     PortCorresponds (joint_state_of old m) (joint_event_of_turn InProbe replies new evidence steps) accesses port
-    × ChangedUnreadyPortEndsNoLinkDue port (joint_state_of old m) (ports_of new) new.device
+    × ForeignOrUnfitShowingXEndsNoLinkDue port (joint_state_of old m) (ports_of new) new.device
 TurnCorresponds RestingInTick port replies accesses old new m evidence steps = Unit {0}
 
 -- What was done was found by a reading of the masks, in which the bits of each slot that wasn't used when the turn
@@ -145,41 +145,47 @@ pub record FindsDoneInTurn (port : Port) (accesses : List Access) (old : ServerS
       × (bit finds_done.sact slot ≡ false)
 
 -- What a tick does of a port that it restarts. What was done was found by a reading of the masks, and the port was
--- booted anew, unless it got stuck. What had ended is answered; the port was stopped, or got stuck; and none of its
--- requests keeps its issue. Unplugged is told only where the port is neither dead nor ready with its disk; and it shows
--- a disk only where one was in.
+-- booted anew, unless it got stuck. What had ended is answered Ok; the port was stopped, or got stuck; and what is
+-- issued on it then was issued anew. Unplugged is told only where the port is neither dead nor ready with its disk; and
+-- it shows a disk only where one was in.
 pub record RestartsPort (port : Port) (accesses : List Access) (old new : ServerState) (m : Machine)
     (evidence : Evidence)
     (steps : List Step) : Type 0 where
   pub finds_done : FindsDoneInTurn port accesses old m steps
   pub is_dead_or_link_is_reset : (state_of (probe_result_of new.probe_results port.0) ≡ Dead) ⊎ ResetsLink port accesses
-  pub answers_ended : AnswersEnded m steps port
-  pub is_interrupted : IsStoppedOrStuck evidence port
-  pub none_stays_issued : NoneStaysIssued steps (after m steps) port
-  pub unplugged_lost_its_disk : UnpluggedPortIsNotDeadNorReadyWithSameDisk steps (ports_of old) (ports_of new)
+  pub answers_ok_what_had_ended : AnswersOkWhatHadEnded m steps port
+  pub is_stopped_or_stuck : IsStoppedOrStuck evidence port
+  pub issued_are_issued_in_steps : IssuedOnPortAreIssuedInSteps steps (after m steps) port
+  pub unplugged_lost_its_disk : UnpluggedOutcomeExcludesDeadAndSameSerialAndSize steps (ports_of old) (ports_of new)
   pub shown_disk_was_in_or_came : ShownDiskWasInOrCame (abstract_state_of old m) steps
       (abstract_state_of new (after m steps)) port
 
--- What a turn owes besides. In a service requests wait again, are aborted, told Revoked or a fault, on ports alone that
--- failed; of a port that isn't ready no fault is told, and no loss. A restart owes what it does, and tells no fault.
--- Where a port rests nothing is done.
-abbrev pub MeetsTurnDuty : Turn → Port → List Access → ServerState → ServerState → Machine → Evidence → List Step
+-- What a turn does of requeues, aborts, Revoked and faults. In a service requests wait again, are aborted, told Revoked
+-- or a fault, on ports alone that failed; of a port that isn't ready no fault is told, and no loss. A restart restarts
+-- the port, and tells no fault. Where a port rests nothing is done.
+abbrev pub RequeuesOnFailedPortsOrRestartsOrRestsByTurn : Turn → Port → List Access → ServerState → ServerState
+    → Machine
+    → Evidence → List Step
     → Type 0
-MeetsTurnDuty ServingReady port accesses old new m evidence steps = OnlyFailedPortsRequeueAbortRevokeOrFault evidence
+RequeuesOnFailedPortsOrRestartsOrRestsByTurn ServingReady port accesses old new m evidence steps =
+    OnlyFailedPortsRequeueAbortRevokeOrFault evidence
     steps
-MeetsTurnDuty InProbe port accesses old new m evidence steps = OnlyFailedPortsRequeueAbortRevokeOrFault evidence steps
+RequeuesOnFailedPortsOrRestartsOrRestsByTurn InProbe port accesses old new m evidence steps =
+    OnlyFailedPortsRequeueAbortRevokeOrFault evidence steps
     × (evidence.faults ≡ [])
     × (evidence.lost ≡ [])
-MeetsTurnDuty InRestart port accesses old new m evidence steps = RestartsPort port accesses old new m evidence steps
+RequeuesOnFailedPortsOrRestartsOrRestsByTurn InRestart port accesses old new m evidence steps =
+    RestartsPort port accesses old new m evidence steps
     × (evidence.faults ≡ [])
-MeetsTurnDuty RestingInTick port accesses old new m evidence steps = (accesses ≡ []) × (steps ≡ [])
+RequeuesOnFailedPortsOrRestartsOrRestsByTurn RestingInTick port accesses old new m evidence steps = (accesses ≡ [])
+    × (steps ≡ [])
     × (evidence.faults ≡ [])
     × (IsStoppedOrStuck evidence port → ⊥)
 
 -- What a turn that made these accesses and said these replies has made of the machine: its steps may come, and lead to
 -- a machine that stands for the new server; the tape backs them; and they are the device's own, or of requests of the
--- port. Its evidence names the port alone, and is backed by the device. Of what its call owes and claims it owes and
--- claims what a history asks; and it has done what a call does of a port.
+-- port. Its evidence names the port alone, and is backed by the device. It answers and claims what
+-- a history asks of its call; and it has done what a call does of a port.
 pub record SimulatesTurn (turn : Turn) (port : Port) (replies : List Reply) (accesses : List Access)
     (old new : ServerState)
     (m : Machine) : Type 0 where
@@ -193,9 +199,10 @@ pub record SimulatesTurn (turn : Turn) (port : Port) (replies : List Reply) (acc
   pub issues_are_last : IssueIsLastOfRequest steps
   pub names_only_port : PortListsNameOnly port evidence
   pub answers_are_lawful : AnswersAndWaitsLawful (abstract_state_of old m) evidence (ports_of new) steps
-  pub meets_turn_duty : MeetsTurnDuty turn port accesses old new m evidence steps
+  pub requeues_on_failed_port_or_restarts_by_turn : RequeuesOnFailedPortsOrRestartsOrRestsByTurn turn port
+      accesses old new m evidence steps
   pub replies_match : RepliesMatch steps replies
-  pub unplugged_empties_port : UnpluggedEmptiesPort steps (after m steps)
+  pub unplugged_outcome_empties_port : UnpluggedOutcomeEmptiesPort steps (after m steps)
   pub port_is_serviced : IsServiced (ports_of old) evidence (ports_of new) port
   pub shown_disk_was_in_or_came : SamePort (ports_of old) (ports_of new) port
       ⊎ ShownDiskWasInOrCame (abstract_state_of old m) steps (abstract_state_of new (after m steps)) port

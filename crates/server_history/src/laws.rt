@@ -2,20 +2,20 @@
 ghost use Rattle.std.specs.Prelude.{ℕ, Bool, true, false, ◌≡◌, ◌≢◌, ◌<◌, ◌≤◌, ◌+◌, ◌*◌, ◌/◌, ◌%◌, ◌++◌, List, [], ◌∷◌, Some, None, Ok, Err, length, All, Contains, count_by, not};
 ghost use Rattle.ata_types.specs.{declared.Port.{Port}, declared.PortState.TheVariants.{Dead, Ready as ReadyState}, declared.grant.GrantRow.{GrantRow}, declared.memory.TheConstants.{FRAME_BYTES}, declared.refusal.MemFault.{MemFault}, declared.refusal.Refusal.{Refusal}, declared.request.ClientId.{ClientId}, declared.request.Frame.{Frame}, declared.request.Reply.{Reply}, declared.request.Request.{Request}};
 ghost use Rattle.ata_types.specs.{declared.request.RequestId.{RequestId}, declared.PortState.{PortState}};
-ghost use Rattle.adapter.specs.{Access.{Loads, Stores}, AskedSteps.{DoesOrFailsStep}, Device.{Device}, Idle.{IsIdle, DisksAreKnownIfTelling}, Rules.{HasPort, IsUnowned, IsOn, IsStable}, Steps.{Steps}, declared.access.DeviceStep.{DeviceStep}};
+ghost use Rattle.adapter.specs.{Access.{Loads, Stores}, AskedSteps.{DoesOrFailsStep}, Device.{Device}, Idle.{IsIdle, DisksAreKnownIfTelling}, Rules.{HasPort, IsInMemoryNotOwnedByDevice, IsOn, IsStable}, Steps.{Steps}, declared.access.DeviceStep.{DeviceStep}};
 ghost use Rattle.refinement.specs.{Fragments.{SomeMachineAgreesWith, AnySlotStates, IsSimulated}, PortFacts.{RunsWell, Undisturbed}, Slots.{IsOver}};
 ghost use Rattle.block_machine.specs.{DueRequests.{IsDue, is_plain}, Events.{Submit, StoreAt, LoadAt, RevokeOf, Service, State, Tick, StepDevice as Told, Submitted, Replied, PortStateShown, Stepped, WasRevoked}, Refusals.{IsAcceptable, IsFirstRefusal, MayAccessFrame, IsFirstMemFault}, Rules.{HasRow, IsNamed}};
-ghost use Rattle.command_table.specs.TableStores.{IsUnused};
+ghost use Rattle.command_table.specs.TableStores.{IsSlotStateFree};
 ghost use Rattle.dma_frames.specs.FrameTables.{OwnersAndLoans, SetsLoanOnly, owner_of, lent_to};
 ghost use Rattle.host_boot.specs.{TakeOver.{probe_result_of, TakesOver}, declared.ProbeResult.TheVariants.{Ready, Unready}, declared.Host.{Host}};
 ghost use Rattle.identify.specs.declared.DiskInfo.{DiskInfo};
 ghost use Rattle.hba_regs.specs.Bits.{bit};
 ghost use Rattle.commands.specs.{Batches.{PlacedTask}, Masks.{ReadsDone, FindsEachClearSlot}};
 ghost use Rattle.request_queue.specs.BookEntries.{BookEntry, as_unanswered, unanswered_of, due_ids};
-ghost use Rattle.server_history.specs.{Histories.{ExtendsSettled, ExtendsAndHasInvariantByStuck, ExtendsHistory, StartsHistory, InvariantBetweenCalls, load_result, store_result}, KeptLoans.{LoansEndInTurn}, Revoking.{RevokesGrant}, IssuingAndAnswering.{AcceptsAndIssues, AnswersDoneAndIssues, AnswersOne, IsEmptyMask, IsMaskOf, IssuesDueOfPort, IssuesTogetherIfAny, ChangesOnlySlotsAndBook, FindsSlotFor, PutsInSlot, PutsInSlots, with_accepted}};
+ghost use Rattle.server_history.specs.{Histories.{ExtendsToSettled, ExtendsAndHasInvariantByStuck, ExtendsHistory, StartsHistory, InvariantBetweenCalls, load_result, store_result}, KeptLoans.{LoansEndInTurn}, Revoking.{RevokesGrant}, IssuingAndAnswering.{AcceptsAndIssues, AnswersDoneAndIssues, AnswersOne, IsEmptyMask, IsMaskOf, IssuesDueOfPort, IssuesTogetherIfAny, ChangesOnlySlotsAndBook, FindsSlotFor, PutsInSlot, PutsInSlots, with_accepted}};
 ghost use Rattle.server_history.specs.{StuckServer.{ServerInvariant}, Probing.{ProbesPort}, Turns.{IsPortTurn, InRestart, ServicesEachPort, ServicesPort, Ticks, ProbesUnready, a_tick_older}, ServerState.{ServerState, probed_mode, InCallInvariant, IsNewServer, SettledInvariant, quarantined_at, mode_in, ports_of, admission_context, slots_at, state_of, used_for}};
 ghost use Rattle.server_history.specs.ErrorHandling.{AreAllQueuedAs, IsErrorHandled, HasResolved, HandlesPortError, requests_of};
-ghost use Rattle.port_control.specs.{declared.events.PortError.TheVariants.{TimedOut}, PortEvents.{IsEventAccess, TakesEvent}, declared.events.PortEvent.TheVariants.{TaskFileError, NoEvent}, Ports.{IsStopped}, declared.Stopped.{Stopped}};
+ghost use Rattle.port_control.specs.{declared.events.PortError.TheVariants.{TimedOut}, PortEvents.{IsPxisSstsOrOwnIsAccess, TakesEvent}, declared.events.PortEvent.TheVariants.{TaskFileError, NoEvent}, Ports.{IsStopped}, declared.Stopped.{Stopped}};
 ghost use Rattle.slots.specs.{SlotUses.{IsLowestFree, IsTaken}, declared.SlotUse.{SlotUse}};
 ghost use Rattle.error_recovery.specs.{Recovery.{PlainUsesSlot0, StopsOrSticksForReset, PlainIsSlot0, PortMayRecover}, declared.Recovered.{Recovered}, declared.Next.TheVariants.{Restart}};
 ghost use Rattle.port_boot.specs.States.{IsOnWithPortMemoryAndFreeSlots};
@@ -77,17 +77,17 @@ pub fn law_refusals_extend_history()
     law_history_prerequisites();
 }
 
-/// Bytes of an open frame may be loaded and stored, whatever the device does first, and whether or not the adapter is
-/// on.
-pub fn law_open_frames_are_accessible()
+/// Bytes of a frame that its client may access may be loaded and stored, whatever the device does first, and whether or
+/// not the adapter is on.
+pub fn law_device_never_owns_accessible_frames()
     ensures { (s : ServerState) (client : ClientId) (frame : Frame) (offset count : ℕ) → ServerInvariant s
         → MayAccessFrame (owner_of s.table) (lent_to s.table) client frame offset count
-        → IsStable (IsUnowned (FRAME_BYTES * frame.0 + offset) count) s.device }
+        → IsStable (IsInMemoryNotOwnedByDevice (FRAME_BYTES * frame.0 + offset) count) s.device }
 {
     law_history_prerequisites();
 }
 
-/// Bytes of an open frame that a client stores or loads add an event, whether or not the adapter is on.
+/// Bytes that a client stores or loads, in a frame that it may access, add an event, whether or not the adapter is on.
 pub fn law_client_bytes_extend_history()
     ensures store { (stuck : Bool) (s : ServerState) (new : Device) (client : ClientId) (frame : Frame) (offset : ℕ)
         (bytes : List ℕ) → InvariantBetweenCalls stuck s
@@ -116,7 +116,7 @@ pub fn law_a_due_request_finds_a_free_slot()
         → (slot : ℕ) → IsLowestFree (slots_at s.slots request.request.port.0) slot
         → (slot < (mode_in s request.request.port).usable_slots) × (slot < 32) × (slot ≤ s.device.cap / 256 % 32)
         × (is_plain (mode_in s request.request.port) request.request.op ≡ true → slot ≡ 0)
-        × SomeMachineAgreesWith (IsUnused request.request.port.0 slot) s.device }
+        × SomeMachineAgreesWith (IsSlotStateFree request.request.port.0 slot) s.device }
     ensures not_all_usable_are_taken { (s : ServerState) (request : BookEntry) → InCallInvariant s
         → Contains s.book request
         → IsDue (mode_in s request.request.port) (unanswered_of s.book) (as_unanswered request.request)
@@ -209,7 +209,7 @@ pub fn law_looks_preserve_invariant()
     ensures looking { (s : ServerState) (new : Device) (port : Port) → InCallInvariant s
         → state_of (probe_result_of s.probe_results port.0)
         ≡ ReadyState
-        → IsSimulated (IsEventAccess port) AnySlotStates s.device new
+        → IsSimulated (IsPxisSstsOrOwnIsAccess port) AnySlotStates s.device new
         → InCallInvariant (record s { device = new }) }
     ensures finding { (s : ServerState) (new : Device) (port : Port) (mask done : ℕ) → InCallInvariant s
         → state_of (probe_result_of s.probe_results port.0) ≡ ReadyState → ReadsDone port mask done s.device new
@@ -220,7 +220,7 @@ pub fn law_looks_preserve_invariant()
         → slot < 32
         → ReadsDone port mask done s.device new → bit done slot ≡ true → IsOver (new.port port.0) slot }
     ensures empty_look_is_simulated { (port : Port) (device : Device)
-        → IsSimulated (IsEventAccess port) AnySlotStates device device }
+        → IsSimulated (IsPxisSstsOrOwnIsAccess port) AnySlotStates device device }
 {
     law_history_prerequisites();
 }
@@ -232,25 +232,27 @@ pub fn law_a_port_is_served()
     ensures no_slot_is_used { (s : ServerState) (seen : Device) (port : Port) → SettledInvariant s
         → state_of (probe_result_of s.probe_results port.0)
         ≡ ReadyState
-        → TakesEvent port NoEvent s.device seen → IsSimulated (IsEventAccess port) AnySlotStates s.device seen
+        → TakesEvent port NoEvent s.device seen → IsSimulated (IsPxisSstsOrOwnIsAccess port) AnySlotStates s.device seen
         → IsMaskOf (slots_at s.slots port.0) 0 → ServicesPort port [] s (record s { device = seen }) }
     ensures none_is_done { (s : ServerState) (seen new : Device) (port : Port) (mask : ℕ) → SettledInvariant s
         → state_of (probe_result_of s.probe_results port.0) ≡ ReadyState → TakesEvent port NoEvent s.device seen
-        → IsSimulated (IsEventAccess port) AnySlotStates s.device seen → IsMaskOf (slots_at s.slots port.0) mask
+        → IsSimulated (IsPxisSstsOrOwnIsAccess port) AnySlotStates s.device seen
+        → IsMaskOf (slots_at s.slots port.0) mask
         → (IsEmptyMask mask → ⊥) → (done : ℕ) → ReadsDone port mask done seen new
         → FindsEachClearSlot port mask done seen
         → IsEmptyMask done → ServicesPort port [] s (record s { device = new }) }
     ensures some_are_done { (s new : ServerState) (seen found : Device) (port : Port) (mask done : ℕ)
         (replies : List Reply)
         → SettledInvariant s → state_of (probe_result_of s.probe_results port.0) ≡ ReadyState
-        → TakesEvent port NoEvent s.device seen → IsSimulated (IsEventAccess port) AnySlotStates s.device seen
+        → TakesEvent port NoEvent s.device seen → IsSimulated (IsPxisSstsOrOwnIsAccess port) AnySlotStates s.device seen
         → IsMaskOf (slots_at s.slots port.0) mask → (IsEmptyMask mask → ⊥) → ReadsDone port mask done seen found
         → FindsEachClearSlot port mask done seen → (IsEmptyMask done → ⊥)
         → AnswersDoneAndIssues port done replies (record s { device = found }) new → ServicesPort port replies s new }
     ensures error_handled { (s new : ServerState) (port : Port) (replies : List Reply) → SettledInvariant s
         → state_of (probe_result_of s.probe_results port.0) ≡ ReadyState → (r : HandlesPortError port replies s new)
         → r.has_resolved.error_handled.port_error ≢ TimedOut
-        → IsSimulated (IsEventAccess port) AnySlotStates s.device r.has_resolved.error_handled.device_after_look
+        → IsSimulated (IsPxisSstsOrOwnIsAccess port) AnySlotStates s.device
+        r.has_resolved.error_handled.device_after_look
         → ServicesPort port replies s new × SettledInvariant new }
 {
     law_history_prerequisites();
@@ -273,7 +275,7 @@ pub fn law_a_timed_out_port_is_restarted()
 pub fn law_port_errors_may_be_handled()
     ensures may_recover { (s : ServerState) (seen found : Device) (port : Port) (mask done : ℕ) → InCallInvariant s
         → state_of (probe_result_of s.probe_results port.0) ≡ ReadyState → TakesEvent port TaskFileError s.device seen
-        → IsSimulated (IsEventAccess port) AnySlotStates s.device seen → ReadsDone port mask done seen found
+        → IsSimulated (IsPxisSstsOrOwnIsAccess port) AnySlotStates s.device seen → ReadsDone port mask done seen found
         → PortMayRecover port.0 found }
     ensures plain_uses_slot_0 { (s : ServerState) (port : Port) (queued : Bool) → InCallInvariant s
         → state_of (probe_result_of s.probe_results port.0)
@@ -295,14 +297,15 @@ pub fn law_port_errors_may_be_handled()
 pub fn law_a_port_goes_on_after_its_errors()
     ensures bootable { (s mid : ServerState) (device : Device) (port : Port) (token : Stopped) → InCallInvariant s
         → state_of (probe_result_of s.probe_results port.0) ≡ ReadyState → (r : IsErrorHandled port s mid device)
-        → IsSimulated (IsEventAccess port) AnySlotStates s.device r.device_after_look → r.result.next ≡ Restart token
+        → IsSimulated (IsPxisSstsOrOwnIsAccess port) AnySlotStates s.device r.device_after_look → r.result.next
+        ≡ Restart token
         → IsOnWithPortMemoryAndFreeSlots port device
         × IsStopped (device.port port.0) × ((device.port port.0).notes.link_wait_count ≡ MOST_READINGS) }
     ensures mode_is_kept { (s mid : ServerState) (device : Device) (port : Port) → InCallInvariant s
         → state_of (probe_result_of s.probe_results port.0)
         ≡ ReadyState
         → (r : IsErrorHandled port s mid device)
-        → IsSimulated (IsEventAccess port) AnySlotStates s.device r.device_after_look
+        → IsSimulated (IsPxisSstsOrOwnIsAccess port) AnySlotStates s.device r.device_after_look
         → mode_in s port ≡ probed_mode device.cap (probe_result_of s.probe_results port.0) }
     ensures issued_loans_have_room { (s : ServerState) (port : Port) → InCallInvariant s
         → state_of (probe_result_of s.probe_results port.0) ≡ ReadyState
@@ -310,7 +313,7 @@ pub fn law_a_port_goes_on_after_its_errors()
         (requests_of port s.book) ≤ 32) }
     ensures resolved_has_invariant { (s new : ServerState) (port : Port) (later : List Reply) → InCallInvariant s
         → state_of (probe_result_of s.probe_results port.0) ≡ ReadyState → (a : HasResolved port later s new)
-        → IsSimulated (IsEventAccess port) AnySlotStates s.device a.error_handled.device_after_look
+        → IsSimulated (IsPxisSstsOrOwnIsAccess port) AnySlotStates s.device a.error_handled.device_after_look
         → InCallInvariant new }
     ensures unready_has_none_due { (s : ServerState) (port : Port) → InCallInvariant s
         → ((info : DiskInfo) → probe_result_of s.probe_results port.0 ≡ Ready info
@@ -323,7 +326,7 @@ pub fn law_a_port_goes_on_after_its_errors()
 pub fn law_acceptances_extend_history()
     ensures { (s new : ServerState) (port : Port) (r : Request) (id : RequestId) → SettledInvariant s
         → IsAcceptable (admission_context s) r → AcceptsAndIssues port r id s new
-        → ExtendsSettled s new (Submit r) (Submitted (Ok id)) }
+        → ExtendsToSettled s new (Submit r) (Submitted (Ok id)) }
 {
     law_history_prerequisites();
 }
@@ -333,7 +336,7 @@ pub fn law_acceptances_extend_history()
 pub fn law_revocations_extend_history()
     ensures { (s mid new : ServerState) (client : ClientId) (number : ℕ) (replies : List Reply) → SettledInvariant s
         → (revokes : RevokesGrant client number replies s mid) → IssuesDueOfPort revokes.has_grant_row.0.port mid new
-        → ExtendsSettled s new (RevokeOf client number) (WasRevoked (Some replies)) }
+        → ExtendsToSettled s new (RevokeOf client number) (WasRevoked (Some replies)) }
 {
     law_history_prerequisites();
 }
@@ -342,7 +345,7 @@ pub fn law_revocations_extend_history()
 pub fn law_services_extend_history()
     ensures { (s new : ServerState) (replies : List Reply) → SettledInvariant s
         → ServicesEachPort 0 s.probe_results replies s new
-        → ExtendsSettled s new Service (Replied replies) }
+        → ExtendsToSettled s new Service (Replied replies) }
 {
     law_history_prerequisites();
 }
@@ -355,17 +358,18 @@ pub fn law_an_unready_port_is_probed()
     ensures look_keeps_relation { (s : ServerState) (seen : Device) (port : Port) (state : PortState)
         → InCallInvariant s
         → probe_result_of s.probe_results port.0 ≡ Unready state → state ≢ Dead
-        → IsSimulated (IsEventAccess port) AnySlotStates s.device seen
+        → IsSimulated (IsPxisSstsOrOwnIsAccess port) AnySlotStates s.device seen
         → IsOn seen × HasPort seen port.0 × SomeMachineAgreesWith AnySlotStates seen }
     ensures bootable { (s : ServerState) (seen stopped : Device) (port : Port) (state : PortState) (result : Recovered)
         (token : Stopped) → InCallInvariant s
         → probe_result_of s.probe_results port.0 ≡ Unready state → state ≢ Dead
-        → IsSimulated (IsEventAccess port) AnySlotStates s.device seen
+        → IsSimulated (IsPxisSstsOrOwnIsAccess port) AnySlotStates s.device seen
         → StopsOrSticksForReset port 0 true result seen stopped → result.next ≡ Restart token
         → (token.port ≡ port) × IsOnWithPortMemoryAndFreeSlots port stopped × IsStopped (stopped.port port.0) }
     ensures probe_is_a_turn { (s new : ServerState) (port : Port) → SettledInvariant s
         → (probes : ProbesPort port s new)
-        → (probes.state ≢ Dead → IsSimulated (IsEventAccess port) AnySlotStates s.device probes.device_after_look)
+        → (probes.state ≢ Dead
+        → IsSimulated (IsPxisSstsOrOwnIsAccess port) AnySlotStates s.device probes.device_after_look)
         → ProbesUnready port s new
         × SettledInvariant new }
 {
@@ -382,7 +386,7 @@ pub fn law_aging_keeps_invariant()
 /// A tick adds an event: requests get older, and ready ports have their turns one after another.
 pub fn law_ticks_extend_history()
     ensures { (s new : ServerState) (replies : List Reply) → SettledInvariant s → Ticks replies s new
-        → ExtendsSettled s new Tick (Replied replies) }
+        → ExtendsToSettled s new Tick (Replied replies) }
 {
     law_history_prerequisites();
 }

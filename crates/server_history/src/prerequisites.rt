@@ -5,27 +5,27 @@ use adapter::laws::law_accesses_compose;
 use adapter::laws::law_decoding_is_unique;
 use adapter::laws::law_port_register_accesses;
 use adapter::laws::law_step_lists_keep_what_steps_keep;
-use adapter::laws::law_steps_never_switch_on;
+use adapter::laws::law_steps_never_switch_adapter_on;
 use block_machine::laws::law_a_name_is_of_one_row;
+use block_machine::laws::law_acceptable_and_accessible_frames_are_owned;
 use block_machine::laws::law_accepted_is_granted;
 use block_machine::laws::law_due_depends_on_own_port;
 use block_machine::laws::law_due_in_turn;
 use block_machine::laws::law_due_list_is_exact;
 use block_machine::laws::law_ended_is_issued;
-use block_machine::laws::law_frame_holder_was_accepted;
-use block_machine::laws::law_frames_are_their_clients;
 use block_machine::laws::law_kept_is_not_in_book;
-use block_machine::laws::law_lent_frame_is_its_own;
+use block_machine::laws::law_lent_frame_is_of_its_request;
 use block_machine::laws::law_limits_hold;
 use block_machine::laws::law_one_id_is_in_the_book_once;
 use block_machine::laws::law_one_id_is_one_request;
 use block_machine::laws::law_other_ports_requests_stay;
 use block_machine::laws::law_ready_ports_are_served;
+use block_machine::laws::law_request_in_book_or_kept_was_accepted;
 use block_machine::laws::law_rows_shrink_and_owners_stay;
 use block_machine::laws::law_step_lists_compose;
 use commands::laws::law_batch_issues_come_last;
 use commands::laws::law_calls_are_of_one_port;
-use commands::laws::law_reading_done_is_simulated;
+use commands::laws::law_mask_reading_is_simulated;
 use driver_history::laws::law_a_turns_evidence_is_the_calls;
 use driver_history::laws::law_driver_invariant_holds;
 use driver_history::laws::law_histories_reach_their_machines;
@@ -35,22 +35,22 @@ use driver_history::troubles::law_a_turn_that_probes_a_disk_is_the_calls;
 use driver_history::troubles::law_a_turns_errors_are_the_calls;
 use driver_history::troubles::law_ordinary_accesses_lose_no_error;
 use driver_history::troubles::law_st_of_a_stopped_port_was_set_since;
-use driver_history::troubles::law_what_is_untroubled_since_st_was_set_is_calm;
+use driver_history::troubles::law_untroubled_since_st_is_undisturbed;
 use error_recovery::laws::law_recovery_is_of_its_port;
 use error_recovery::laws::law_what_stands_behind_a_fault_stays;
-use host_boot::laws::law_what_was_booted_again_may_be_served;
+use host_boot::laws::law_reboot_is_of_port_and_backs_result;
 use host_boot::laws::law_what_was_found_still_stands;
 use port_boot::laws::law_a_boot_is_of_its_port;
 use port_boot::laws::law_a_port_runs_on;
 use port_boot::laws::law_shown_disk_is_in_is_kept;
 use port_control::events::laws::law_errors_are_seen;
-use port_control::events::laws::law_failures_are_found;
 use port_control::events::laws::law_looks_and_services_hide_no_error;
 use port_control::events::laws::law_looks_are_of_one_port;
 use port_control::events::laws::law_looks_are_services;
-use port_control::events::laws::law_port_events_tell;
+use port_control::events::laws::law_port_event_tells_bits_read;
 use port_control::events::laws::law_services_keep_ports_running;
 use port_control::events::laws::law_services_spare_registers;
+use port_control::events::laws::law_task_file_error_means_halted;
 use port_control::events::prerequisites::law_prerequisites;
 use port_control::laws::law_what_is_told_of_engines_stays;
 use refinement::access_kinds::law_fragment_prerequisites;
@@ -63,37 +63,37 @@ use refinement::giving_up::law_slots_are_given_up;
 use refinement::laws::law_accepting_agrees;
 use refinement::laws::law_advances_compose;
 use refinement::laws::law_an_idle_device_agrees;
-use refinement::laws::law_answering_agrees;
+use refinement::laws::law_answering_slotless_request_agrees;
+use refinement::laws::law_answering_with_frames_kept_agrees;
 use refinement::laws::law_backing_composes;
 use refinement::laws::law_book_only_advances_over_device_steps;
-use refinement::laws::law_client_bytes_are_accessible;
 use refinement::laws::law_client_load_is_followed;
 use refinement::laws::law_client_store_is_followed;
-use refinement::laws::law_device_steps_are_parts;
-use refinement::laws::law_disks_are_told;
-use refinement::laws::law_going_again_agrees;
-use refinement::laws::law_keeping_agrees;
+use refinement::laws::law_device_owns_no_unlent_client_bytes;
+use refinement::laws::law_device_steps_are_a_call_part;
 use refinement::laws::law_own_steps_are_backed;
-use refinement::laws::law_pages_come_when_asked;
+use refinement::laws::law_pages_come_only_for_own_commands;
 use refinement::laws::law_parking_agrees;
 use refinement::laws::law_parking_frees;
+use refinement::laws::law_plug_events_match_disk_changes;
 use refinement::laws::law_revoking_agrees;
 use refinement::laws::law_setting_changes_one_slot;
 use refinement::laws::law_slots_are_counted;
 use refinement::laws::law_ticking_agrees;
+use refinement::laws::law_wait_again_agrees;
 use refinement::laws::law_waiting_has_no_slot;
-use refinement::port_facts::law_disk_in_stays_shown;
+use refinement::port_facts::law_det_3_if_disk_present_stays;
 use refinement::port_facts::law_disk_stays_without_plug_events;
 use refinement::port_facts::law_ended_is_clear;
 use refinement::port_facts::law_errors_are_shown;
 use refinement::port_facts::law_notes_are_set;
 use refinement::port_facts::law_over_stays;
-use refinement::port_facts::law_plug_events_are_found;
+use refinement::port_facts::law_serr_n_shows_plug_events;
 use refinement::port_facts::law_undisturbed_has_no_error_or_plug;
 use refinement::port_facts::law_writing_ghc_switches_on;
 use refinement::readying::law_stored_stays;
 use refinement::readying::law_stored_stays_over_acts;
-use refinement::recovering::law_halts_are_of_taken_commands;
+use refinement::recovering::law_queued_halt_has_taken_command;
 use request_queue::laws::law_an_id_is_one_request;
 use request_queue::laws::law_answers_of_one_outcome_are_one_change;
 use request_queue::laws::law_book_stays_well_formed;
@@ -109,10 +109,10 @@ fn law_basics()
     ensures { BasicLaws }
 {
     law_step_lists_keep_what_steps_keep();
-    law_device_steps_are_parts();
+    law_device_steps_are_a_call_part();
     law_driver_invariant_holds();
     law_ready_ports_are_served();
-    law_steps_never_switch_on();
+    law_steps_never_switch_adapter_on();
     law_step_lists_compose();
     law_histories_reach_their_machines();
     law_one_id_is_in_the_book_once();
@@ -126,11 +126,11 @@ pub fn law_frame_holder_prerequisites()
     ensures { FrameHolderLaws }
 {
     law_limits_hold();
-    law_frame_holder_was_accepted();
+    law_request_in_book_or_kept_was_accepted();
     law_accepted_is_granted();
     law_rows_shrink_and_owners_stay();
     law_a_name_is_of_one_row();
-    law_lent_frame_is_its_own();
+    law_lent_frame_is_of_its_request();
     law_one_id_is_one_request();
     law_kept_is_not_in_book();
 }
@@ -144,11 +144,11 @@ fn law_slots()
     law_parking_agrees();
     law_parking_frees();
     law_ended_is_clear();
-    law_answering_agrees();
-    law_going_again_agrees();
-    law_keeping_agrees();
+    law_answering_slotless_request_agrees();
+    law_wait_again_agrees();
+    law_answering_with_frames_kept_agrees();
     law_acts_advance_driver();
-    law_pages_come_when_asked();
+    law_pages_come_only_for_own_commands();
     law_over_stays();
     law_slots_are_given_up();
     law_given_up_requests_are_parked();
@@ -177,12 +177,12 @@ fn law_looks()
 {
     law_port_register_accesses();
     law_notes_are_set();
-    law_disk_in_stays_shown();
+    law_det_3_if_disk_present_stays();
     law_fragment_prerequisites::<Brand>();
     law_other_ports_are_untouched();
-    law_failures_are_found();
+    law_task_file_error_means_halted();
     law_errors_are_seen();
-    law_port_events_tell();
+    law_port_event_tells_bits_read();
     law_looks_and_services_hide_no_error();
     law_looks_are_services();
     law_looks_are_of_one_port();
@@ -199,7 +199,7 @@ fn law_recoveries()
     law_setting_changes_one_slot();
     law_other_ports_are_untouched();
     law_shown_disk_is_in_is_kept();
-    law_what_was_booted_again_may_be_served();
+    law_reboot_is_of_port_and_backs_result();
     law_what_was_found_still_stands();
 }
 
@@ -208,10 +208,10 @@ fn law_port_errors()
     ensures { PortErrorLaws }
 {
     law_errors_are_shown();
-    law_plug_events_are_found();
+    law_serr_n_shows_plug_events();
     law_undisturbed_has_no_error_or_plug();
     law_disk_stays_without_plug_events();
-    law_halts_are_of_taken_commands();
+    law_queued_halt_has_taken_command();
 }
 
 /// What a port's turn is to the whole call.
@@ -225,7 +225,7 @@ fn law_calls()
     law_a_turn_that_probes_a_disk_is_the_calls();
     law_st_of_a_stopped_port_was_set_since();
     law_a_fatal_error_of_a_part_is_of_the_whole();
-    law_what_is_untroubled_since_st_was_set_is_calm();
+    law_untroubled_since_st_is_undisturbed();
 }
 
 /// The laws of the crates below that the proofs of this crate rest on.
@@ -257,7 +257,7 @@ pub fn law_history_prerequisites()
     law_prerequisites();
     law_batch_issues_come_last();
     law_calls_are_of_one_port();
-    law_reading_done_is_simulated();
+    law_mask_reading_is_simulated();
     law_writing_ghc_switches_on();
     law_other_ports_are_untouched();
     law_a_port_runs_on();
@@ -266,10 +266,10 @@ pub fn law_history_prerequisites()
     law_what_is_told_of_engines_stays();
     law_what_stands_behind_a_fault_stays();
     law_vacancy_stays_where_no_disk_comes();
-    law_disks_are_told();
+    law_plug_events_match_disk_changes();
     law_an_idle_device_agrees();
-    law_frames_are_their_clients();
+    law_acceptable_and_accessible_frames_are_owned();
     law_client_store_is_followed();
     law_client_load_is_followed();
-    law_client_bytes_are_accessible();
+    law_device_owns_no_unlent_client_bytes();
 }

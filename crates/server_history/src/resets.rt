@@ -2,12 +2,12 @@
 ghost use Rattle.std.specs.Prelude.{List, Some};
 ghost use Rattle.ata_types.specs.declared.request.Reply.{Reply};
 ghost use Rattle.block_machine.specs.Events.{Reset, WasReset};
-ghost use Rattle.server_history.specs.{ResetLaws.{ResetLaws}, Histories.{ExtendsSettled}, Resets.{IsReinitialized, IssuesOnEachReadyPort, MayResolve, ResetsServer, ResolvesEachPort}, ServerState.{InCallInvariant, SettledInvariant, ServerState}, StuckServer.{ServerInvariant}};
+ghost use Rattle.server_history.specs.{ResetLaws.{ResetLaws}, Histories.{ExtendsToSettled}, Resets.{IsReinitialized, IssuesOnEachReadyPort, MayResolve, ResetsServer, ResolvesEachPort}, ServerState.{InCallInvariant, SettledInvariant, ServerState}, StuckServer.{ServerInvariant}};
 
 use super::prerequisites::law_history_prerequisites;
-use block_machine::laws::law_lent_frame_is_its_own;
+use block_machine::laws::law_lent_frame_is_of_its_request;
 use host_boot::laws::law_what_was_taken_over_may_be_served;
-use refinement::laws::law_releasing_agrees;
+use refinement::laws::law_releasing_kept_frames_agrees;
 
 /// What the laws of a reset rest on.
 fn law_reset_prerequisites()
@@ -15,8 +15,8 @@ fn law_reset_prerequisites()
 {
     law_history_prerequisites();
     law_what_was_taken_over_may_be_served();
-    law_lent_frame_is_its_own();
-    law_releasing_agrees();
+    law_lent_frame_is_of_its_request();
+    law_releasing_kept_frames_agrees();
 }
 
 /// A server goes on once its adapter was taken over again and its requests were resolved; and once what is due was
@@ -36,9 +36,9 @@ pub fn law_reset_leads_to_settled()
 }
 
 /// A reset that ends adds an event.
-pub fn law_resets_extend_history()
+pub fn law_ended_resets_extend_history()
     ensures { (s new : ServerState) (replies : List Reply) → ServerInvariant s → ResetsServer replies s new
-        → ExtendsSettled s new Reset (WasReset (Some replies)) }
+        → ExtendsToSettled s new Reset (WasReset (Some replies)) }
 {
     law_reset_prerequisites();
 }

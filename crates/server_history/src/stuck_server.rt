@@ -5,7 +5,7 @@ ghost use Rattle.ata_types.specs.{declared.Port.{Port}, declared.request.ClientI
 ghost use Rattle.block_machine.specs.{Events.{Reset, RevokeOf, Replied, Service, Tick, WasReset, WasRevoked}, Refusals.{IsAcceptable}};
 ghost use Rattle.dma_frames.specs.Loan.{Lending};
 ghost use Rattle.request_queue.specs.BookEntries.{BookEntry};
-ghost use Rattle.server_history.specs.{Histories.{ExtendsStuck}, Revoking.{RevokesGrant}, Resets.{MayResolve, ResolvesEachPort, ResolvesPort}, ServerState.{DifferInRequest, InCallInvariant, IsLentOut, ServerState, quarantined_at, admission_context}, StuckServer.{ResetGetsStuck, ServerInvariant, StuckInvariant}};
+ghost use Rattle.server_history.specs.{Histories.{ExtendsToStuck}, Revoking.{RevokesGrant}, Resets.{MayResolve, ResolvesEachPort, ResolvesPort}, ServerState.{DifferInRequest, InCallInvariant, IsLentOut, ServerState, quarantined_at, admission_context}, StuckServer.{ResetGetsStuck, ServerInvariant, StuckInvariant}};
 
 use super::prerequisites::{law_frame_holder_prerequisites, law_history_prerequisites};
 
@@ -52,15 +52,15 @@ pub fn law_stuck_servers_admit_none()
 /// last one did. A tick changes nothing: no port is ready, so no request is issued that could get older. Where a
 /// client's grant is revoked, the requests that waited under it are answered. A service tells the requests of each dead
 /// port that it is dead, port by port.
-pub fn law_stuck_calls_extend_history()
+pub fn law_calls_that_end_stuck_extend_history()
     ensures resets { (s new : ServerState) → ServerInvariant s → ResetGetsStuck s new
-        → ExtendsStuck s new Reset (WasReset None) }
-    ensures ticks { (s : ServerState) → StuckInvariant s → ExtendsStuck s s Tick (Replied []) }
+        → ExtendsToStuck s new Reset (WasReset None) }
+    ensures ticks { (s : ServerState) → StuckInvariant s → ExtendsToStuck s s Tick (Replied []) }
     ensures revocations { (s new : ServerState) (client : ClientId) (number : ℕ) (replies : List Reply)
         → StuckInvariant s → RevokesGrant client number replies s new
-        → ExtendsStuck s new (RevokeOf client number) (WasRevoked (Some replies)) }
+        → ExtendsToStuck s new (RevokeOf client number) (WasRevoked (Some replies)) }
     ensures services { (s new : ServerState) (replies : List Reply) → StuckInvariant s
-        → ResolvesEachPort 0 s.probe_results replies s new → ExtendsStuck s new Service (Replied replies) }
+        → ResolvesEachPort 0 s.probe_results replies s new → ExtendsToStuck s new Service (Replied replies) }
 {
     law_history_prerequisites();
 }

@@ -9,7 +9,7 @@ use Rattle.adapter.specs.FirstRead.{no_notes, empty_port}
 use Rattle.adapter.specs.Guarded.{IsGuarded, PassesTest}
 use Rattle.adapter.specs.Idle.{IsIdle, HoldsBytesAndTellsDisks}
 use Rattle.adapter.specs.Memory.{patched, bytes_at}
-use Rattle.adapter.specs.Rules.{InUse, IsUnowned, MayRead, MayWrite}
+use Rattle.adapter.specs.Rules.{InUse, IsInMemoryNotOwnedByDevice, MayRead, MayWrite}
 use Rattle.adapter.specs.Steps.{DeviceTransition, Can, device_after, fault_entry}
 use Rattle.adapter.specs.declared.tape.Entry.{Entry}
 use Rattle.adapter.specs.Steps.DeviceTransition.{Fetch as Fetching, FetchFault as SenselessFetching, Move as Moving, Clear as Clearing, Done as Ending, Fault as Failing, Fatal as FailingFatally, Fall as Falling, FrFall as FallingSilent, LinkUp as Linking, Unplug as Unplugging, Plug as Plugging, ResetEnds as EndingReset, Scribble as Scribbling}
@@ -23,9 +23,9 @@ pub data AccessOrStep : Type 0 where
 abbrev pub IsAllowedAndShowsState : Access → Device → Type 0
 IsAllowedAndShowsState (Reading r v) d = MayRead r d × Shows r v d
 IsAllowedAndShowsState (Writing r v) d = MayWrite r v d
-IsAllowedAndShowsState (Loading at bytes) d = IsUnowned at (length bytes) d
+IsAllowedAndShowsState (Loading at bytes) d = IsInMemoryNotOwnedByDevice at (length bytes) d
     × (bytes ≡ bytes_at d.memory at (length bytes))
-IsAllowedAndShowsState (Storing at bytes) d = IsUnowned at (length bytes) d
+IsAllowedAndShowsState (Storing at bytes) d = IsInMemoryNotOwnedByDevice at (length bytes) d
 
 abbrev pub after_access : Access → Device → Device
 after_access (Reading r v) d = device_after_reading r v d
@@ -89,7 +89,7 @@ kind_of (Fetching port slot meaning places) = Fetch
 kind_of (SenselessFetching port slot queued kept_bits) = FetchFault
 kind_of (Moving port slot t bytes) = Move
 kind_of (Clearing port slot t first count) = Clear
-kind_of (Ending port slot flag t) = Done
+kind_of (Ending port slot cause_bit t) = Done
 kind_of (Failing port slot error kept_bits t) = Fault
 kind_of (FailingFatally port place) = Fatal
 kind_of (Falling port) = Fall

@@ -55,7 +55,7 @@ pub record FatalErrorIsAHistory : Type 0 where
   pub shows : ShowsFatal (fatal_step.device.port 0)
   pub ready : fatal_step.event.ports.state (port_at 0) ≡ Ready
   pub service : JointEvent Device DeviceStep
-  pub asks_for_service : (service.event.call ≡ Service)
+  pub service_replies_unplugged : (service.event.call ≡ Service)
       × (service.event.result ≡ Replied (record { id = first_id; client = asked.client; outcome = Unplugged } ∷ []))
   pub evidence : service.event.evidence ≡ fatal_evidence
   pub unfit : service.event.ports.state (port_at 0) ≡ Unfit 8

@@ -57,7 +57,7 @@ pub record LossIsAHistory : Type 0 where
   pub asked_is_read : asked.op ≡ Read
   pub submits : (submit.event.call ≡ Submit asked) × (submit.event.result ≡ Submitted (Ok first_id))
   pub service : JointEvent Device DeviceStep
-  pub asks_for_service : (service.event.call ≡ Service)
+  pub service_replies_ok : (service.event.call ≡ Service)
       × (service.event.result ≡ Replied (record { id = first_id; client = asked.client; outcome = outcome.Ok } ∷ []))
   pub between : Device
   pub completing_turn_is_made : DoesAll completing_turn submit.device between

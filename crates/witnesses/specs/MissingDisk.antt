@@ -18,8 +18,8 @@ use Rattle.witnesses.specs.AllowedAccesses.{AreAllowed}
 
 -- A look at an unfit port shows that a disk went (PRCS), and no device; the port is given up: it is stopped already. No
 -- device shows, so it isn't booted.
-abbrev pub missing_look_accesses : List Access
-missing_look_accesses =
+abbrev pub missing_disk_turn : List Access
+missing_disk_turn =
     Reading (Px (port_at 0) Is) 0x400000 ∷ Reading (Px (port_at 0) Ssts) 0 ∷ Reading (Px (port_at 0) Cmd) 0x4010
     ∷ Writing (Px (port_at 0) Cmd) 0x4010 ∷ Reading (Px (port_at 0) Cmd) 0x4010 ∷ Writing (Px (port_at 0) Serr)
     0xffffffff
@@ -41,14 +41,14 @@ pub record MissingDiskIsAHistory : Type 0 where
   pub disk_is_unplugged : (unplug.event.call ≡ Told (asked.Unplug (port_at 0))) × (unplug.event.result ≡ Stepped true)
   pub port_0_shows_unfit_still : unplug.event.ports.state (port_at 0) ≡ Unfit 8
   pub service : JointEvent Device DeviceStep
-  pub asks_for_service : (service.event.call ≡ Service) × (service.event.result ≡ Replied [])
+  pub service_has_no_replies : (service.event.call ≡ Service) × (service.event.result ≡ Replied [])
   pub port_0_becomes_absent : service.event.ports.state (port_at 0) ≡ Absent
   pub port_1_stays_unfit : service.event.ports.state (port_at 1) ≡ Unfit 8
-  pub service_makes_accesses : DoesAll (missing_look_accesses ++ unfit_look_accesses) unplug.device service.device
-  pub accesses_are_allowed : AreAllowed (missing_look_accesses ++ unfit_look_accesses) unplug.device service.device
+  pub service_makes_accesses : DoesAll (missing_disk_turn ++ unfit_look_accesses) unplug.device service.device
+  pub accesses_are_allowed : AreAllowed (missing_disk_turn ++ unfit_look_accesses) unplug.device service.device
       service_makes_accesses
   pub history : IsDriverHistory (Any ∷ Any ∷ []) initial_state (service ∷ unplug ∷ past)
-  pub accesses : history.2.accesses ≡ missing_look_accesses ++ unfit_look_accesses
+  pub accesses : history.2.accesses ≡ missing_disk_turn ++ unfit_look_accesses
   pub unplug_corresponds : (port : Port)
       → PortCorresponds (joint_state_after initial_state past) unplug history.0.2.accesses
       port

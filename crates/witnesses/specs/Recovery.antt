@@ -57,7 +57,7 @@ pub record RecoveryIsAHistory : Type 0 where
   pub submits : (submit.event.call ≡ Submit asked) × (submit.event.result ≡ Submitted (Ok first_id))
   pub ready : submit.event.ports.state (port_at 0) ≡ Ready
   pub service : JointEvent Device DeviceStep
-  pub asks_for_service : (service.event.call ≡ Service)
+  pub service_replies_device_error : (service.event.call ≡ Service)
       × (service.event.result ≡ Replied (record {
         id = first_id;
         client = asked.client;

@@ -21,13 +21,14 @@ use Rattle.port_control.specs.Ports.{programmed_bases}
 
 -- ---- disks
 
--- The page of a disk with 256 sectors: word 83 is 6400h, and word 100 is 0100h. Word 75 tells a queue depth less one,
--- and the high byte of word 76 whether commands are queued. All else is zero.
-abbrev pub page_from_word_83 : List ℕ
-page_from_word_83 = 0x64 ∷ (replicate 33 0 ++ (1 ∷ replicate 310 0))
+-- From byte 167 on, the page of a disk with 256 sectors: word 83 is 6400h, and word 100 is 0100h. All else is zero.
+abbrev pub page_from_byte_167 : List ℕ
+page_from_byte_167 = 0x64 ∷ (replicate 33 0 ++ (1 ∷ replicate 310 0))
 
+-- its page: word 75 is the queue depth less one, and the high byte of word 76 tells whether commands are queued
 abbrev pub identify_page : ℕ → ℕ → List ℕ
-identify_page depth queues = replicate 150 0 ++ (depth ∷ 0 ∷ 0 ∷ queues ∷ (replicate 13 0 ++ page_from_word_83))
+identify_page depth_less_one word_76_high_byte = replicate 150 0
+    ++ (depth_less_one ∷ 0 ∷ 0 ∷ word_76_high_byte ∷ (replicate 13 0 ++ page_from_byte_167))
 
 -- that of a disk with no queue, and that of one which queues 32 commands
 abbrev pub fit_page : List ℕ

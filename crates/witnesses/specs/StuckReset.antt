@@ -34,7 +34,7 @@ pub record StuckResetIsAHistory : Type 0 where
   pub resets : (reset.event.call ≡ Reset) × (reset.event.result ≡ WasReset None)
   pub both_become_dead : (reset.event.ports.state (port_at 0) ≡ Dead) × (reset.event.ports.state (port_at 1) ≡ Dead)
   pub service : JointEvent Device DeviceStep
-  pub asks_for_service : (service.event.call ≡ Service)
+  pub service_replies_port_dead : (service.event.call ≡ Service)
       × (service.event.result ≡ Replied (record { id = first_id; client = asked.client; outcome = PortDead } ∷ []))
   pub history : IsDriverHistory (Any ∷ Any ∷ []) initial_state (service ∷ reset ∷ submit ∷ [])
   pub kept : Pending

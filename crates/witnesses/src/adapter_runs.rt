@@ -37,13 +37,13 @@ pub fn law_a_command_fails_beside_another()
 }
 
 /// A reset of the adapter may be pending while two of its ports are in use.
-pub fn law_two_used_ports_are_reset()
+pub fn law_reset_may_be_pending_with_used_ports()
     ensures { ResetIsPendingWithTwoUsedPorts }
 {}
 
 /// A disk that was taken out may come back with each sector as it was when it last ended a flush, or else when it was
 /// first in, or as it was when it went: its cache may be lost, or a part of it (FLUSH CACHE EXT, ACS-3).
-pub fn law_a_cache_may_be_lost()
+pub fn law_replug_may_lose_cache()
     ensures { (d : Device) (port : ℕ) (last lasting told : ℕ → List ℕ) → (d.port port).present ≡ false
         → (d.port port).disk.sectors ≡ Some last → (d.port port).lasting.sectors ≡ Some lasting
         → ((k : ℕ) → (told k ≡ last k) ⊎ (told k ≡ lasting k))

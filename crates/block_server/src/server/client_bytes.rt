@@ -5,12 +5,13 @@ use super::Server;
 use adapter::Adapter;
 use ata_types::{ClientId, FRAME_BYTES, Frame, MemFault};
 use server_history::laws::{
-    law_client_bytes_extend_history, law_open_frames_are_accessible, law_refusals_extend_history,
+    law_client_bytes_extend_history, law_device_never_owns_accessible_frames,
+    law_refusals_extend_history,
 };
 use server_history::stuck_server::law_in_call_gives_server_invariant;
 
 impl<A: Adapter> Server<A> {
-    ghost use Rattle.adapter.specs.{AccessBounds.{MakesAtMost}, Rules.{IsStable, IsUnowned}};
+    ghost use Rattle.adapter.specs.{AccessBounds.{MakesAtMost}, Rules.{IsStable, IsInMemoryNotOwnedByDevice}};
     ghost use Rattle.block_machine.specs.{Events.{LoadAt, StoreAt}, Refusals.{IsFirstMemFault, MayAccessFrame}};
     ghost use Rattle.block_server.specs.{Calls.{LoadsFrame, StoresFrame}, ServerView.{server_of}};
     ghost use Rattle.dma_frames.specs.FrameTables.{lent_to, owner_of};
@@ -29,7 +30,7 @@ impl<A: Adapter> Server<A> {
         ensures ok { IfOk result (λ address. MayAccessFrame (owner_of self.now.table)
             (lent_to self.now.table) client frame
             offset count × (address ≡ FRAME_BYTES * frame.0 + offset)) }
-        ensures accessible { IfOk result (λ address. IsStable (IsUnowned address count)
+        ensures accessible { IfOk result (λ address. IsStable (IsInMemoryNotOwnedByDevice address count)
             (A.device self.now.adapter)) }
         ensures err { IfErr result (IsFirstMemFault (owner_of self.now.table) (lent_to self.now.table) client frame
             offset count) }
@@ -42,7 +43,7 @@ impl<A: Adapter> Server<A> {
     {
         law_refusals_extend_history();
         law_in_call_gives_server_invariant();
-        law_open_frames_are_accessible();
+        law_device_never_owns_accessible_frames();
         if self.shared.table.owner(frame) != Some(client) {
             return Err(MemFault::FrameForeign);
         }

@@ -9,7 +9,7 @@ use server_history::laws::{
     law_refusals_extend_history, law_requests_preserve_invariant, law_revocations_extend_history,
 };
 use server_history::stuck_server::{
-    law_in_call_gives_server_invariant, law_stuck_calls_extend_history,
+    law_calls_that_end_stuck_extend_history, law_in_call_gives_server_invariant,
 };
 
 impl<A: Adapter> Server<A> {
@@ -67,7 +67,7 @@ impl<A: Adapter> Server<A> {
         law_in_call_gives_server_invariant();
         law_requests_preserve_invariant();
         law_revocations_extend_history();
-        law_stuck_calls_extend_history();
+        law_calls_that_end_stuck_extend_history();
         law_refusals_extend_history();
         replies.clear();
         let Some(row) = self.grants.revoke(client, number) else {

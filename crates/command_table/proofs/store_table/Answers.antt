@@ -2,15 +2,15 @@ use Rattle.std.proofs.Common.{ℕ, List, ◌≡◌, ◌+◌, ◌*◌, ◌≤◌,
 use Rattle.std.proofs.lemmas.List.{length-take}
 use Rattle.ata_types.specs.declared.memory.TheConstants.{PRD_BYTES, TABLE_HEAD_BYTES}
 use Rattle.adapter.specs.Device.{Device}
-use Rattle.adapter.specs.Rules.{IsUnowned, IsStable}
+use Rattle.adapter.specs.Rules.{IsInMemoryNotOwnedByDevice, IsStable}
 use Rattle.command_table.proofs.Zeros.{zero_of}
 use Rattle.command_table.proofs.store_table.Goals as goal
 
 -- the place is free for as many bytes as are stored
-front_free : (d : Device) (at n : ℕ) (bytes : List ℕ) → n ≤ length bytes → IsStable (IsUnowned at n) d → IsStable (IsUnowned at (length (take n bytes))) d
+front_free : (d : Device) (at n : ℕ) (bytes : List ℕ) → n ≤ length bytes → IsStable (IsInMemoryNotOwnedByDevice at n) d → IsStable (IsInMemoryNotOwnedByDevice at (length (take n bytes))) d
 front_free d at n bytes fits free =
     let same : length (take n bytes) ≡ n = let size = length-take n bytes in omega (arith, size, fits) in
-    let Free : ℕ → Type 0 = λ k. IsStable (IsUnowned at k) d in
+    let Free : ℕ → Type 0 = λ k. IsStable (IsInMemoryNotOwnedByDevice at k) d in
     subst Free (sym same) free
 
 pub fill_table-requires-clause-zeros : goal.fill_table-requires-clause-zeros

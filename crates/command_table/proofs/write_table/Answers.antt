@@ -7,7 +7,7 @@ use Rattle.adapter.specs.Access.{Stores}
 use Rattle.adapter.specs.Access.Access.{Storing}
 use Rattle.adapter.specs.Device.{Device}
 use Rattle.adapter.specs.Memory.{bytes_at}
-use Rattle.adapter.specs.Rules.{IsUnowned, IsStable}
+use Rattle.adapter.specs.Rules.{IsInMemoryNotOwnedByDevice, IsStable}
 use Rattle.adapter.specs.Encoding.{EncodesHeader}
 use Rattle.refinement.specs.MemoryLayout.{command_list_address, command_table_address}
 use Rattle.command_table.specs.Laws.AccessPurpose.{Tables}
@@ -40,8 +40,8 @@ pub store_table-requires-clause-free : goal.store_table-requires-clause-free
 store_table-requires-clause-free g c =
     let r = c.requires in
     let n : ℕ = length c.args.prds.now in
-    let F : ℕ → ℕ → Type 0 = λ p s. IsStable (IsUnowned (DRIVER_BYTES_PER_PORT * p + TABLES_OFFSET + TABLE_BYTES * s) (TABLE_HEAD_BYTES + PRD_BYTES * length c.args.prds.now)) (g.A.Adapter.device c.args.adapter.now) in
-    let Free : ℕ → Type 0 = λ k. IsStable (IsUnowned (command_table_address c.args.port.0 c.args.slot.0) k) (g.A.Adapter.device c.args.adapter.now) in
+    let F : ℕ → ℕ → Type 0 = λ p s. IsStable (IsInMemoryNotOwnedByDevice (DRIVER_BYTES_PER_PORT * p + TABLES_OFFSET + TABLE_BYTES * s) (TABLE_HEAD_BYTES + PRD_BYTES * length c.args.prds.now)) (g.A.Adapter.device c.args.adapter.now) in
+    let Free : ℕ → Type 0 = λ k. IsStable (IsInMemoryNotOwnedByDevice (command_table_address c.args.port.0 c.args.slot.0) k) (g.A.Adapter.device c.args.adapter.now) in
     at_places F c.from-list.result c.from.result c.args.port.0 c.args.slot.0 (sym c.from-list.ensures) (sym c.from.ensures)
     (subst Free (length-replicate {A = ℕ} (TABLE_HEAD_BYTES + PRD_BYTES * n) 0)
     (store_free c.law_prerequisites.ensures r.may.machine_is_related.0 _ c.args.port.0 c.args.slot.0 _ _ r.may.machine_is_related.2 r.may.driver_memory_fits r.may.port_in_range r.fits.slot_in_range r.may.machine_is_related.1 (table_room c.args.port.0 c.args.slot.0 n r.fits.prd_count_is_allowed)))
@@ -53,7 +53,7 @@ store-requires g c =
     let here = table_bounds c.args.port.0 c.args.slot.0 (length c.args.prds.now) c.store_table.ensures.stores.bytes r.fits.prd_count_is_allowed in
     let size = store_size c.law_prerequisites.ensures c.args.port.0 c.args.slot.0 r.may.port_in_range r.fits.slot_in_range _ _ _ _ here first in
     let room : DRIVER_BYTES ≤ (g.A.Adapter.device c.store_table.new.adapter).memory_size = let had = r.may.driver_memory_fits in omega (arith, size, had) in
-    let F : ℕ → ℕ → Type 0 = λ p s. IsStable (IsUnowned (DRIVER_BYTES_PER_PORT * p + 32 * s) (length c.header-head.result)) (g.A.Adapter.device c.store_table.new.adapter) in
+    let F : ℕ → ℕ → Type 0 = λ p s. IsStable (IsInMemoryNotOwnedByDevice (DRIVER_BYTES_PER_PORT * p + 32 * s) (length c.header-head.result)) (g.A.Adapter.device c.store_table.new.adapter) in
     at_places F c.from-list.result c.from-2.result c.args.port.0 c.args.slot.0 (sym c.from-list.ensures) (sym c.from-2.ensures)
     (store_free c.law_prerequisites.ensures r.may.machine_is_related.0 _ c.args.port.0 c.args.slot.0 _ _ (store_agrees c.law_prerequisites.ensures c.args.port.0 c.args.slot.0 r.may.port_in_range r.fits.slot_in_range _ _ _ _ here first r.may.adapter_is_on r.may.machine_is_related.0 r.may.machine_is_related.1 r.may.machine_is_related.2) room r.may.port_in_range r.fits.slot_in_range r.may.machine_is_related.1
     (header_bounds c.args.port.0 c.args.slot.0 c.header-head.result c.header-head.ensures.says.size c.header-head.ensures.none_moved))

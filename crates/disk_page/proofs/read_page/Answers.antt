@@ -1,6 +1,6 @@
 use Rattle.std.proofs.Common.{ℕ, ◌≡◌, ◌*◌, sym, ◌∙◌, subst, arith}
 use Rattle.adapter.specs.Access.{Loads}
-use Rattle.adapter.specs.Rules.{IsUnowned, IsStable}
+use Rattle.adapter.specs.Rules.{IsInMemoryNotOwnedByDevice, IsStable}
 use Rattle.refinement.specs.MemoryLayout.{scratch_frame_address}
 use Rattle.refinement.specs.Slots.{Own, set_slot_state}
 use Rattle.disk_page.specs.PageRequests.{page_operation}
@@ -15,7 +15,7 @@ load-requires g c =
     let asked = c.ask.ensures.asks.page_is_awaited r.machine_is_related.0 r.machine_is_related.1 r.machine_is_related.2 in
     let waiting = c.wait.ensures.waiting _ _ _ _ asked in
     let clear = c.wait.ensures.over c.if-not-wait.false _ _ _ _ asked in
-    let F : ℕ → Type 0 = λ place. IsStable (IsUnowned place 512) (g.A.Adapter.device c.wait.new.adapter) in
+    let F : ℕ → Type 0 = λ place. IsStable (IsInMemoryNotOwnedByDevice place 512) (g.A.Adapter.device c.wait.new.adapter) in
     subst F (sym at) (page_free c.law_prerequisites.ensures c.args.port _ _ _ _ _ r.has_port.0 waiting clear)
 
 pub returns-clause-on : goal.returns-clause-on

@@ -25,7 +25,7 @@ returns-in_default-clause-asks g c =
     record {
       reads = inl c.in_default.ensures.gets.reads;
       leaves = c.in_default.ensures.gets.leaves_running;
-      is_not_halted = tt;
+      is_not_halted_if_named = tt;
       no_identify_moves = c.in_default.ensures.gets.no_other_page_moves Identify refl (λ (e : Identify ≡ ReadLog). absurd (cc));
     }
 
@@ -34,7 +34,7 @@ returns-in_default-parse_log-clause-asks g c =
     record {
       reads = inr (_, c.in-Some.ensures.gets.reads, inl (c.in_default-parse_log.ensures.no_failure_is_named.0 refl));
       leaves = c.in-Some.ensures.gets.leaves_running;
-      is_not_halted = tt;
+      is_not_halted_if_named = tt;
       no_identify_moves = c.in-Some.ensures.gets.no_other_page_moves Identify refl (λ (e : Identify ≡ ReadLog). absurd (cc));
     }
 
@@ -44,7 +44,7 @@ returns-then-is_set-clause-asks g c =
     record {
       reads = (_, c.in-Some.ensures.gets.reads, told, ap (λ (n : ℕ). bit c.args.outstanding n) (sym c.from.ensures) ∙ (sym c.is_set.ensures ∙ c.if-is_set.true));
       leaves = c.in-Some.ensures.gets.leaves_running;
-      is_not_halted = c.in-Some.ensures.gets.page_ends_halt c.requires.some_machine_agrees;
+      is_not_halted_if_named = c.in-Some.ensures.gets.page_ends_halt c.requires.some_machine_agrees;
       no_identify_moves = c.in-Some.ensures.gets.no_other_page_moves Identify refl (λ (e : Identify ≡ ReadLog). absurd (cc));
     }
 
@@ -64,6 +64,6 @@ returns-else-is_set-clause-asks g c =
         }),
       );
       leaves = c.in-Some.ensures.gets.leaves_running;
-      is_not_halted = tt;
+      is_not_halted_if_named = tt;
       no_identify_moves = c.in-Some.ensures.gets.no_other_page_moves Identify refl (λ (e : Identify ≡ ReadLog). absurd (cc));
     }

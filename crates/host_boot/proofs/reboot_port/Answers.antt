@@ -1,5 +1,5 @@
 use Rattle.std.proofs.Common.{sym, subst}
-use Rattle.host_boot.specs.Reboots.{BootsStopped}
+use Rattle.host_boot.specs.Reboots.{EndsReadyOrUnready}
 use Rattle.host_boot.specs.declared.ProbeResult.{ProbeResult}
 use Rattle.host_boot.proofs.Booting.{asked_bootable, asked_boots, asked_stopped}
 use Rattle.host_boot.proofs.Leaving.{cap_leaves}
@@ -17,5 +17,5 @@ pub returns-clause-boots : goal.returns-clause-boots
 returns-clause-boots g c =
     let port = c.args.stopped.port in
     let device = g.A.Adapter.device in
-    let boots = subst (λ (f : ProbeResult). BootsStopped c.args.wanted.now port f (device c.read.new.self) (device c.boot_stopped-found.new.adapter)) (sym c.booted_with.ensures.found) c.boot_stopped-found.ensures.boots in
+    let boots = subst (λ (f : ProbeResult). EndsReadyOrUnready c.args.wanted.now port f (device c.read.new.self) (device c.boot_stopped-found.new.adapter)) (sym c.booted_with.ensures.found) c.boot_stopped-found.ensures.boots in
     asked_boots c.law_prerequisites.ensures _ _ _ c.read.ensures.does port _ c.args.wanted.now _ boots c.booted_with.ensures.slots c.booted_with.ensures.queued

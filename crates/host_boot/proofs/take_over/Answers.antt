@@ -3,7 +3,7 @@ use Rattle.hba_regs.specs.Bits.{bit, field}
 use Rattle.ata_types.specs.declared.Port.{Port}
 use Rattle.adapter.specs.Device.{Device}
 use Rattle.refinement.specs.PreservedParts.{SameAdapter}
-use Rattle.host_boot.specs.TakeOver.{IsHostAccess}
+use Rattle.host_boot.specs.TakeOver.{ReadsCapOrPiOrSetsAe}
 use Rattle.host_boot.proofs.Taking.{IsUnderway, begins, boots_same, ends, next}
 use Rattle.host_boot.proofs.Ways.{IsOnWay, way_more, way_over}
 use Rattle.host_boot.proofs.take_over.Goals as goal
@@ -37,7 +37,7 @@ boot_port-requires g c =
       may = record {
         adapter_is_on = u.on;
         port_in_range = c.loop-number-test.true;
-        implemented_is_pi = c.loop-number.invariant.there;
+        implemented_is_pi_of_device = c.loop-number.invariant.there;
         driver_memory_fits = let same = u.same.memory_size in let room = c.requires.driver_memory_fits in omega (arith, same, room);
         machine_is_related = (u.uses, λ slot. u.free c.loop-number.number slot (omega arith), u.agreed);
         idle = u.idle c.loop-number.number (omega arith);
@@ -67,7 +67,7 @@ returns g c =
     let d : Device = g.A.Adapter.device c.loop-number.adapter in
     let new : Device = g.A.Adapter.device c.enable_interrupts.new.adapter in
     let four : c.loop-number.number ≡ 4 = omega (arith, c.loop-number-test.false, c.loop-number.auto.number-end) in
-    let same : SameAdapter d new = same_over c.law_prerequisites.ensures IsHostAccess d new c.enable_interrupts.ensures.followed.is_driven in
+    let same : SameAdapter d new = same_over c.law_prerequisites.ensures ReadsCapOrPiOrSetsAe d new c.enable_interrupts.ensures.followed.is_driven in
     let cap : c.survey-implemented.result.0.0 ≡ new.cap = c.loop-number.invariant.capable ∙ sym same.cap in
     record {
       takes_over = ends c.law_prerequisites.ensures c.args.wanted.now (g.A.Adapter.device c.args.adapter.now) c.loop-number.ports d new

@@ -1,4 +1,4 @@
-use Rattle.port_control.specs.Laws.RegisterSet.{Clearing}
+use Rattle.port_control.specs.Laws.RegisterSet.{ClearingErrors}
 use Rattle.port_control.proofs.Using.{usable_after}
 use Rattle.port_control.proofs.Clearing.{forgets, forgets_followed, forgets_on}
 use Rattle.port_control.proofs.clear_error_state.Goals as goal
@@ -8,7 +8,7 @@ clear_errors-requires-clause-usable g c = record { adapter_is_on = c.requires.ma
 
 pub read-requires : goal.read-requires
 read-requires g c =
-    let u = usable_after c.law_prerequisites.ensures Clearing c.args.port _ _ (record { adapter_is_on = c.requires.may.adapter_is_on; has_port = c.requires.may.has_port; machine_is_related = c.requires.may.machine_is_related }) c.clear_errors.ensures.followed in
+    let u = usable_after c.law_prerequisites.ensures ClearingErrors c.args.port _ _ (record { adapter_is_on = c.requires.may.adapter_is_on; has_port = c.requires.may.has_port; machine_is_related = c.requires.may.machine_is_related }) c.clear_errors.ensures.followed in
     (u.adapter_is_on, u.has_port)
 
 pub returns-clause-followed : goal.returns-clause-followed

@@ -3,10 +3,10 @@ use Rattle.port_control.specs.Ports.{FindsSignature, SeesResetFault}
 use Rattle.port_control.proofs.Using.{usable_after}
 use Rattle.port_control.proofs.Resetting.{looked, reset_on, both_followed, both_on, both_coming, both_found}
 use Rattle.port_control.proofs.comreset.Goals as goal
-use Rattle.port_control.specs.Laws.RegisterSet.{Resetting}
+use Rattle.port_control.specs.Laws.RegisterSet.{ResettingLink}
 
 pub look-requires-clause-usable : goal.look-requires-clause-usable
-look-requires-clause-usable g c = usable_after c.law_prerequisites.ensures Resetting c.args.receiving.port _ _ (record { adapter_is_on = c.requires.may.adapter_is_on; has_port = c.requires.may.has_port; machine_is_related = c.requires.may.machine_is_related }) c.send_comreset.ensures.followed
+look-requires-clause-usable g c = usable_after c.law_prerequisites.ensures ResettingLink c.args.receiving.port _ _ (record { adapter_is_on = c.requires.may.adapter_is_on; has_port = c.requires.may.has_port; machine_is_related = c.requires.may.machine_is_related }) c.send_comreset.ensures.followed
 
 pub returns-in-Ok-clause-followed : goal.returns-in-Ok-clause-followed
 returns-in-Ok-clause-followed g c = both_followed c.law_prerequisites.ensures c.args.receiving.port _ _ _ (record { adapter_is_on = c.requires.may.adapter_is_on; has_port = c.requires.may.has_port; machine_is_related = c.requires.may.machine_is_related }) c.send_comreset.ensures.followed c.look.ensures.followed
@@ -26,7 +26,7 @@ returns-in-Ok-clause-finds g c = (
   record {
     comreset_is_sent = reset_on c.args.receiving.port (FindsSignature c.args.receiving.port 0x101) _ _ _ c.send_comreset.ensures.sends.comreset_is_sent c.in-Ok.ensures.sees.finds_signature (looked c.law_prerequisites.ensures c.args.receiving.port _ _ _ (record { adapter_is_on = c.requires.may.adapter_is_on; has_port = c.requires.may.has_port; machine_is_related = c.requires.may.machine_is_related }) c.send_comreset.ensures.followed c.look.ensures.followed);
     disk_is_seen = c.in-Ok.ensures.sees.disk_is_seen;
-    device_is_found = both_found c.law_prerequisites.ensures c.args.receiving.port _ _ _ (record { adapter_is_on = c.requires.may.adapter_is_on; has_port = c.requires.may.has_port; machine_is_related = c.requires.may.machine_is_related }) c.send_comreset.ensures.followed c.look.ensures.followed c.send_comreset.ensures.sends.link_is_up_if_shown_unless_disk_comes c.send_comreset.ensures.sends.shows_drq_till_link c.in-Ok.ensures.sees.device_is_found;
+    is_clear_and_up_unless_plug_events = both_found c.law_prerequisites.ensures c.args.receiving.port _ _ _ (record { adapter_is_on = c.requires.may.adapter_is_on; has_port = c.requires.may.has_port; machine_is_related = c.requires.may.machine_is_related }) c.send_comreset.ensures.followed c.look.ensures.followed c.send_comreset.ensures.sends.link_is_up_if_shown_unless_disk_comes c.send_comreset.ensures.sends.shows_drq_till_link c.in-Ok.ensures.sees.is_clear_and_up_if_stopped_unless_plug_events;
     signature_is_shown = c.in-Ok.ensures.sees.signature_is_shown;
   },
 )
@@ -49,7 +49,7 @@ returns-in-Err-clause-fault g c = (
   record {
     comreset_is_sent = reset_on c.args.receiving.port (SeesResetFault c.args.receiving.port c.in-Err.fault) _ _ _ c.send_comreset.ensures.sends.comreset_is_sent c.in-Err.ensures.fault.sees_reset_fault (looked c.law_prerequisites.ensures c.args.receiving.port _ _ _ (record { adapter_is_on = c.requires.may.adapter_is_on; has_port = c.requires.may.has_port; machine_is_related = c.requires.may.machine_is_related }) c.send_comreset.ensures.followed c.look.ensures.followed);
     fault_is_backed = c.in-Err.ensures.fault.fault_is_backed;
-    device_is_found = λ other. both_found c.law_prerequisites.ensures c.args.receiving.port _ _ _ (record { adapter_is_on = c.requires.may.adapter_is_on; has_port = c.requires.may.has_port; machine_is_related = c.requires.may.machine_is_related }) c.send_comreset.ensures.followed c.look.ensures.followed c.send_comreset.ensures.sends.link_is_up_if_shown_unless_disk_comes c.send_comreset.ensures.sends.shows_drq_till_link (c.in-Err.ensures.fault.device_is_found other);
+    is_clear_and_up_unless_plug_events = λ other. both_found c.law_prerequisites.ensures c.args.receiving.port _ _ _ (record { adapter_is_on = c.requires.may.adapter_is_on; has_port = c.requires.may.has_port; machine_is_related = c.requires.may.machine_is_related }) c.send_comreset.ensures.followed c.look.ensures.followed c.send_comreset.ensures.sends.link_is_up_if_shown_unless_disk_comes c.send_comreset.ensures.sends.shows_drq_till_link (c.in-Err.ensures.fault.is_clear_and_up_if_stopped_unless_plug_events other);
     signature_is_shown = c.in-Err.ensures.fault.signature_is_shown;
   },
 )

@@ -7,7 +7,7 @@ use Rattle.hba_regs.specs.declared.reg.PortReg.{PortReg}
 use Rattle.adapter.specs.Access.{Access}
 use Rattle.adapter.specs.Access.Access.{Reading, Writing, Loading, Storing}
 use Rattle.refinement.specs.Fragments.{SparesOtherPorts}
-use Rattle.port_control.specs.PortEvents.{IsEventAccess}
+use Rattle.port_control.specs.PortEvents.{IsPxisSstsOrOwnIsAccess}
 
 module _ (port : Port) where
   -- a register of the port is read, or written
@@ -17,7 +17,7 @@ module _ (port : Port) where
   writing_own : (r : PortReg) (at : Reg) (v : ℕ) → at ≡ Px port r → SparesOtherPorts port (Writing at v)
   writing_own r at v e = subst (λ (w : Reg). SparesOtherPorts port (Writing w v)) (sym e) refl
 
-  pub looking_of : (access : Access) → IsEventAccess port access → SparesOtherPorts port access
+  pub looking_of : (access : Access) → IsPxisSstsOrOwnIsAccess port access → SparesOtherPorts port access
   looking_of (Reading r v) (inl e) = reading_own _ r v e
   looking_of (Reading r v) (inr e) = reading_own _ r v e
   looking_of (Writing r v) (inl e) = writing_own _ r v e

@@ -19,7 +19,7 @@ use Rattle.refinement.specs.PortFacts.{IsFaultOf}
 use Rattle.refinement.specs.PreservedParts.{LinkIsSameOrComesUp, NoPlugEvents, DoesNotWrite}
 use Rattle.port_control.specs.EventLaws.{Laws}
 use Rattle.port_control.specs.PortEvents.{TakesEvent}
-use Rattle.port_control.specs.ServiceAccesses.{LinkChangedOrMissing, IsServiceAccess, IsServiceButPxIs, HidesNoPlugEvent, HidesNoFatal, HidesNoFault, ShowsNoFatal}
+use Rattle.port_control.specs.ServiceAccesses.{OldShowsChangeOrNoDeviceOrPlugEventComes, WritesOnlyHbaIsPxIsCiOrSact, WritesOnlyHbaIsCiSactOrOtherPxIs, HidesNoPlugEvent, HidesNoFatal, HidesNoFault, ShowsNoFatal}
 use Rattle.port_control.specs.declared.events.PortEvent.{PortEvent}
 use Rattle.port_control.specs.declared.events.PortEvent.TheVariants.{LinkChanged}
 use Rattle.port_control.proofs.looks.Seeing.{cleared_on, left_set, rest, seen_on}
@@ -52,10 +52,10 @@ module _ (laws : Laws) (Clear : DevicePort → Type 0) (None : ℕ → Device �
       let early = p late.0 in
       (early.0, more port.0 a b c early.1 late.1)
 
-  module _ (over : (access : Access) (old new : Device) → IsOn old → IsServiceButPxIs port access → Does access old new → Shown old new) where
-    ordinary_over : (old new : Device) → IsOn old → IsDrivenBy (IsServiceButPxIs port) old new → Shown old new
+  module _ (over : (access : Access) (old new : Device) → IsOn old → WritesOnlyHbaIsCiSactOrOtherPxIs port access → Does access old new → Shown old new) where
+    ordinary_over : (old new : Device) → IsOn old → IsDrivenBy (WritesOnlyHbaIsCiSactOrOtherPxIs port) old new → Shown old new
     ordinary_over old new on a =
-        (kept_on laws Shown (λ d clear. (clear, none port.0 d)) shown_more (IsServiceButPxIs port) (λ access is. spares_ghc access is.0) (λ access x y here is does. over access x y here is does) old new on a).0
+        (kept_on laws Shown (λ d clear. (clear, none port.0 d)) shown_more (WritesOnlyHbaIsCiSactOrOtherPxIs port) (λ access is. spares_ghc access is.0) (λ access x y here is does. over access x y here is does) old new on a).0
 
     look_over : (result : PortEvent) (old new : Device) (l : TakesEvent port result old new) → IsOn old → Shown l.after_is_read l.cleared → Shown old new
     look_over result old new l on write =
@@ -70,7 +70,7 @@ module _ (laws : Laws) (Clear : DevicePort → Type 0) (None : ℕ → Device �
       (early.0, more port.0 old w.at_access new early.1 (ends (sym (ap (λ (d : Device). d.tape) w.effect))))
 
 -- neither PxIS nor PxSERR is among the registers that are written
-ordinary_spares : (port : Port) (access : Access) → IsServiceButPxIs port access → DoesNotWrite (Px port Serr) access
+ordinary_spares : (port : Port) (access : Access) → WritesOnlyHbaIsCiSactOrOtherPxIs port access → DoesNotWrite (Px port Serr) access
 ordinary_spares port access is = spares_port port Serr (λ e. cc) (λ e. cc) (λ e. cc) access is.0
 
 module _ (laws : Laws) where
@@ -85,7 +85,7 @@ module _ (laws : Laws) where
         q.1 parts.1 x.0 x.1,
   )
 
-  service_linked : (port : Port) (access : Access) (old new : Device) → IsOn old → IsServiceAccess access → Does access old new → StaysLinked port.0 old new
+  service_linked : (port : Port) (access : Access) (old new : Device) → IsOn old → WritesOnlyHbaIsPxIsCiOrSact access → Does access old new → StaysLinked port.0 old new
   service_linked port access old new on is does =
       let spares = spares_port port Sctl (λ e. cc) (λ e. cc) (λ e. cc) access is in (
         laws.tape.access_grows access old new does,
@@ -97,13 +97,13 @@ module _ (laws : Laws) where
 
   -- ---- what isn't shown hasn't come
 
-  fault_over : (port : Port) (access : Access) (old new : Device) → IsOn old → IsServiceButPxIs port access → Does access old new → HidesNoFault port.0 old new
+  fault_over : (port : Port) (access : Access) (old new : Device) → IsOn old → WritesOnlyHbaIsCiSactOrOtherPxIs port access → Does access old new → HidesNoFault port.0 old new
   fault_over port access old new on is does = laws.access_hides_no_fault port access old new on.no_reset is.1 does
 
-  fatal_over : (port : Port) (access : Access) (old new : Device) → IsOn old → IsServiceButPxIs port access → Does access old new → HidesNoFatal port.0 old new
+  fatal_over : (port : Port) (access : Access) (old new : Device) → IsOn old → WritesOnlyHbaIsCiSactOrOtherPxIs port access → Does access old new → HidesNoFatal port.0 old new
   fatal_over port access old new on is does = laws.access_hides_no_fatal port access old new on.no_reset is.1 does
 
-  disk_over : (port : Port) (access : Access) (old new : Device) → IsOn old → IsServiceButPxIs port access → Does access old new → HidesNoPlugEvent port.0 old new
+  disk_over : (port : Port) (access : Access) (old new : Device) → IsOn old → WritesOnlyHbaIsCiSactOrOtherPxIs port access → Does access old new → HidesNoPlugEvent port.0 old new
   disk_over port access old new on is does = laws.access_hides_no_plug_event port access old new on.no_reset (ordinary_spares port access is) does
 
   abbrev Tfes : DevicePort → Type 0
@@ -112,13 +112,13 @@ module _ (laws : Laws) where
   abbrev Change : DevicePort → Type 0
   Change p = p.serr_n ≡ false
 
-  pub ordinary_shows : (port : Port) (old new : Device) → IsOn old → IsDrivenBy (IsServiceButPxIs port) old new → HidesNoFault port.0 old new
+  pub ordinary_shows : (port : Port) (old new : Device) → IsOn old → IsDrivenBy (WritesOnlyHbaIsCiSactOrOtherPxIs port) old new → HidesNoFault port.0 old new
   ordinary_shows port = ordinary_over laws Tfes NoFaults laws.tape.no_faults_reflexive laws.tape.no_faults_transitive port (fault_over port)
 
-  pub ordinary_fatals : (port : Port) (old new : Device) → IsOn old → IsDrivenBy (IsServiceButPxIs port) old new → HidesNoFatal port.0 old new
+  pub ordinary_fatals : (port : Port) (old new : Device) → IsOn old → IsDrivenBy (WritesOnlyHbaIsCiSactOrOtherPxIs port) old new → HidesNoFatal port.0 old new
   ordinary_fatals port = ordinary_over laws ShowsNoFatal NoFatalErrors laws.tape.no_fatal_errors_reflexive laws.tape.no_fatal_errors_transitive port (fatal_over port)
 
-  pub ordinary_disks : (port : Port) (old new : Device) → IsOn old → IsDrivenBy (IsServiceButPxIs port) old new → HidesNoPlugEvent port.0 old new
+  pub ordinary_disks : (port : Port) (old new : Device) → IsOn old → IsDrivenBy (WritesOnlyHbaIsCiSactOrOtherPxIs port) old new → HidesNoPlugEvent port.0 old new
   ordinary_disks port = ordinary_over laws Change NoPlugEvents laws.tape.no_plug_events_reflexive laws.tape.no_plug_events_transitive port (disk_over port)
 
   -- a bit that is clear after a write that leaves it was clear
@@ -155,17 +155,17 @@ module _ (laws : Laws) where
         (laws.access_hides_no_plug_event port (Writing (Px port Is) l.causes) l.after_is_read l.cleared off (λ e. absurd (let z : Px port Is ≡ Px port Serr = e in cc)) l.clears)
 
     -- what comes before PxSSTS is read
-    early : IsDrivenBy IsServiceAccess old l.acknowledged
+    early : IsDrivenBy WritesOnlyHbaIsPxIsCiOrSact old l.acknowledged
     early = record {
       accesses = Reading (Px port Is) l.causes ∷ Writing (Px port Is) l.causes ∷ Writing reg.Is l.port_mask ∷ [];
       all_are_done = (l.after_is_read, l.reads, (l.cleared, l.clears, (l.acknowledged, l.acknowledges, refl)));
-      accesses_are_of_kind = All-cons IsServiceAccess (Reading (Px port Is) l.causes) (Writing (Px port Is) l.causes ∷ Writing reg.Is l.port_mask ∷ []) tt
-          (All-cons IsServiceAccess (Writing (Px port Is) l.causes) (Writing reg.Is l.port_mask ∷ []) (inr (port, inl refl))
-          (All-cons IsServiceAccess (Writing reg.Is l.port_mask) [] (inl refl) (All-nil IsServiceAccess)));
+      accesses_are_of_kind = All-cons WritesOnlyHbaIsPxIsCiOrSact (Reading (Px port Is) l.causes) (Writing (Px port Is) l.causes ∷ Writing reg.Is l.port_mask ∷ []) tt
+          (All-cons WritesOnlyHbaIsPxIsCiOrSact (Writing (Px port Is) l.causes) (Writing reg.Is l.port_mask ∷ []) (inr (port, inl refl))
+          (All-cons WritesOnlyHbaIsPxIsCiOrSact (Writing reg.Is l.port_mask) [] (inl refl) (All-nil WritesOnlyHbaIsPxIsCiOrSact)));
     }
 
     -- It told a loss: so it had one to tell when it began, or a disk went or came meanwhile.
-    pub tells_loss : (old.port port.0).link_due ≡ false → result ≡ LinkChanged → LinkChangedOrMissing port.0 old new
+    pub tells_loss : (old.port port.0).link_due ≡ false → result ≡ LinkChanged → OldShowsChangeOrNoDeviceOrPlugEventComes port.0 old new
     tells_loss undue is = ⊎_elim
         (λ x. by_change (inr x))
         (λ more. ⊎_elim (λ n. by_change (inl n)) by_link more)
@@ -189,13 +189,13 @@ module _ (laws : Laws) where
         parts : NoPlugEvents port.0 old new → NoPlugEvents port.0 old l.acknowledged × NoPlugEvents port.0 l.acknowledged new
         parts = laws.tape.no_plug_events_in_parts port.0 old l.acknowledged new linked.0.0.0 showing.0 linked.0.0.1 showing.1
 
-        by_change : (bit l.causes 22 ≡ true) ⊎ (bit l.causes 6 ≡ true) → LinkChangedOrMissing port.0 old new
+        by_change : (bit l.causes 22 ≡ true) ⊎ (bit l.causes 6 ≡ true) → OldShowsChangeOrNoDeviceOrPlugEventComes port.0 old new
         by_change told = ⊎_elim
             (λ n. inl (inl n))
             (λ more. ⊎_elim (λ x. inl (inr x)) (λ came. inr (inr (λ none. came (laws.tape.no_plug_events_in_parts port.0 old l.after_is_read new reading.0 later.0 reading.1 later.1 none).0))) more)
             (laws.change_read_has_cause port l.causes old l.after_is_read on.no_reset undue l.reads told)
 
-        by_link : l.status % 16 ≢ 3 → LinkChangedOrMissing port.0 old new
+        by_link : l.status % 16 ≢ 3 → OldShowsChangeOrNoDeviceOrPlugEventComes port.0 old new
         by_link other = ⊎_elim
             (λ (shows : (old.port port.0).ssts_det ≡ 3). inr (inr (λ none.
             let still = linked.0.1 (parts none).0 undue shows in

@@ -14,8 +14,8 @@ use Rattle.adapter.specs.Rules.{IsOn, HasPort, MayWrite, IsStable}
 use Rattle.refinement.specs.Fragments.{AnySlotStates, IsSoleBit, IsSimulated}
 use Rattle.refinement.specs.PreservedParts.{SameAdapter}
 use Rattle.port_control.specs.EventLaws.{Laws}
-use Rattle.port_control.specs.EventLaws.AccessPurpose.{Looking}
-use Rattle.port_control.specs.PortEvents.{port_event_of, IsEventAccess, TakesEvent}
+use Rattle.port_control.specs.EventLaws.AccessPurpose.{TakingEvents}
+use Rattle.port_control.specs.PortEvents.{port_event_of, IsPxisSstsOrOwnIsAccess, TakesEvent}
 use Rattle.port_control.specs.declared.events.PortEvent.{PortEvent}
 use Rattle.port_control.proofs.looks.Stretching.{spared_on}
 
@@ -37,8 +37,8 @@ bit_alone port place v same fits set others =
 
 module _ (laws : Laws) (port : Port) (d0 d1 : Device) (causes : ℕ) (on : IsOn d0) (there : HasPort d0 port.0) (first : Reads (Px port Is) causes d0 d1) where
   -- one stretch of the look after another
-  then : (old mid new : Device) → IsSimulated (IsEventAccess port) AnySlotStates old mid → IsSimulated (IsEventAccess port) AnySlotStates mid new → IsSimulated (IsEventAccess port) AnySlotStates old new
-  then old mid new a b = (laws.fragments.fragments_join (Looking port) (Looking port) (λ uses. uses) (λ uses. uses) (λ access may. may) (λ uses fits. fits) old mid new a b).is_simulated
+  then : (old mid new : Device) → IsSimulated (IsPxisSstsOrOwnIsAccess port) AnySlotStates old mid → IsSimulated (IsPxisSstsOrOwnIsAccess port) AnySlotStates mid new → IsSimulated (IsPxisSstsOrOwnIsAccess port) AnySlotStates old new
+  then old mid new a b = (laws.fragments.fragments_join (TakingEvents port) (TakingEvents port) (λ uses. uses) (λ uses. uses) (λ access may. may) (λ uses fits. fits) old mid new a b).is_simulated
 
   pub one_on : IsOn d1
   one_on = spared_on laws (Reading (Px port Is) causes) d0 d1 tt first on
@@ -51,10 +51,10 @@ module _ (laws : Laws) (port : Port) (d0 d1 : Device) (causes : ℕ) (on : IsOn 
     pub changing_on : IsOn d2
     changing_on = spared_on laws (Reading (Px port Ssts) status) d1 d2 tt second one_on
 
-    pub changing_followed : IsSimulated (IsEventAccess port) AnySlotStates d0 d2
+    pub changing_followed : IsSimulated (IsPxisSstsOrOwnIsAccess port) AnySlotStates d0 d2
     changing_followed =
-        then d0 d1 d2 (laws.fragments.reads (Looking port) (Px port Is) causes d0 d1 (inl refl) first).is_simulated
-        (laws.fragments.reads (Looking port) (Px port Ssts) status d1 d2 (inr refl) second).is_simulated
+        then d0 d1 d2 (laws.fragments.reads (TakingEvents port) (Px port Is) causes d0 d1 (inl refl) first).is_simulated
+        (laws.fragments.reads (TakingEvents port) (Px port Ssts) status d1 d2 (inr refl) second).is_simulated
 
   pub clearing_may : (v : ℕ) → IsStable (MayWrite (Px port Is) v) d1
   clearing_may v = laws.write_stays (Px port Is) v d1 (λ p e. cc) (one_on, one_there, tt)
@@ -85,12 +85,12 @@ module _ (laws : Laws) (port : Port) (d0 d1 : Device) (causes : ℕ) (on : IsOn 
         pub looking_on : IsOn d4
         looking_on = spared_on laws (Reading (Px port Ssts) status) d3 d4 tt fourth three_on
 
-        pub looking_followed : IsSimulated (IsEventAccess port) AnySlotStates d0 d4
+        pub looking_followed : IsSimulated (IsPxisSstsOrOwnIsAccess port) AnySlotStates d0 d4
         looking_followed =
-            then d0 d1 d4 (laws.fragments.reads (Looking port) (Px port Is) causes d0 d1 (inl refl) first).is_simulated
-            (then d1 d2 d4 (laws.fragments.writes (Looking port) (Px port Is) v d1 d2 (inl refl) (clearing_may v) (λ uses is. tt) second).is_simulated
-            (then d2 d3 d4 (laws.fragments.writes (Looking port) reg.Is own d2 d3 (inr (refl, alone)) (acknowledging_may own alone) (λ uses is. tt) third).is_simulated
-            (laws.fragments.reads (Looking port) (Px port Ssts) status d3 d4 (inr refl) fourth).is_simulated))
+            then d0 d1 d4 (laws.fragments.reads (TakingEvents port) (Px port Is) causes d0 d1 (inl refl) first).is_simulated
+            (then d1 d2 d4 (laws.fragments.writes (TakingEvents port) (Px port Is) v d1 d2 (inl refl) (clearing_may v) (λ uses is. tt) second).is_simulated
+            (then d2 d3 d4 (laws.fragments.writes (TakingEvents port) reg.Is own d2 d3 (inr (refl, alone)) (acknowledging_may own alone) (λ uses is. tt) third).is_simulated
+            (laws.fragments.reads (TakingEvents port) (Px port Ssts) status d3 d4 (inr refl) fourth).is_simulated))
 
 -- where what was read is written back, it was a look
 pub looked : (port : Port) (result : PortEvent) (d0 d1 d2 d3 d4 : Device) (causes own status : ℕ) → IsSoleBit port.0 own → Reads (Px port Is) causes d0 d1 → Writes (Px port Is) causes d1 d2 →

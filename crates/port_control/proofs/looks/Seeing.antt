@@ -15,8 +15,8 @@ use Rattle.refinement.specs.Fragments.{TapeGrows, IsDrivenBy}
 use Rattle.refinement.specs.Errors.{KeepsSetBitsOfPxisAndSerrNX, NoDiskComes}
 use Rattle.refinement.specs.PortFacts.{RunsWell, ShowsNoTrouble, Undisturbed}
 use Rattle.port_control.specs.EventLaws.{Laws}
-use Rattle.port_control.specs.PortEvents.{IsEventAccess, TakesEvent}
-use Rattle.port_control.specs.ServiceAccesses.{IsServiceAccess, IsServiceButPxIs, SerrNXStaySet}
+use Rattle.port_control.specs.PortEvents.{IsPxisSstsOrOwnIsAccess, TakesEvent}
+use Rattle.port_control.specs.ServiceAccesses.{WritesOnlyHbaIsPxIsCiOrSact, WritesOnlyHbaIsCiSactOrOtherPxIs, SerrNXStaySet}
 use Rattle.port_control.specs.declared.events.PortEvent.{PortEvent}
 use Rattle.port_control.specs.declared.events.PortEvent.TheVariants as look
 use Rattle.port_control.proofs.looks.Serving.{looking_service, spares_port, services_keep, calm_parts, services_well, errors_stay}
@@ -40,23 +40,23 @@ module _ (port : Port) (result : PortEvent) (old new : Device) (l : TakesEvent p
   abbrev clears_causes : List Access
   clears_causes = Writing (Px port Is) l.causes ∷ clears_own
 
-  pub look_driven : IsDrivenBy (IsEventAccess port) old new
+  pub look_driven : IsDrivenBy (IsPxisSstsOrOwnIsAccess port) old new
   look_driven = record {
     accesses = Reading (Px port Is) l.causes ∷ clears_causes;
     all_are_done = (l.after_is_read, l.reads, (l.cleared, l.clears, (l.acknowledged, l.acknowledges, (new, l.reads_status, refl))));
-    accesses_are_of_kind = All-cons (IsEventAccess port) (Reading (Px port Is) l.causes) clears_causes (inl refl)
-        (All-cons (IsEventAccess port) (Writing (Px port Is) l.causes) clears_own (inl refl)
-        (All-cons (IsEventAccess port) (Writing reg.Is l.port_mask) shows (inr (refl, l.is_sole_bit))
-        (All-cons (IsEventAccess port) (Reading (Px port Ssts) l.status) [] (inr refl) (All-nil (IsEventAccess port)))));
+    accesses_are_of_kind = All-cons (IsPxisSstsOrOwnIsAccess port) (Reading (Px port Is) l.causes) clears_causes (inl refl)
+        (All-cons (IsPxisSstsOrOwnIsAccess port) (Writing (Px port Is) l.causes) clears_own (inl refl)
+        (All-cons (IsPxisSstsOrOwnIsAccess port) (Writing reg.Is l.port_mask) shows (inr (refl, l.is_sole_bit))
+        (All-cons (IsPxisSstsOrOwnIsAccess port) (Reading (Px port Ssts) l.status) [] (inr refl) (All-nil (IsPxisSstsOrOwnIsAccess port)))));
   }
 
   -- what comes once PxIS is cleared
-  pub rest : IsDrivenBy (IsServiceButPxIs port) l.cleared new
+  pub rest : IsDrivenBy (WritesOnlyHbaIsCiSactOrOtherPxIs port) l.cleared new
   rest = record {
     accesses = clears_own;
     all_are_done = (l.acknowledged, l.acknowledges, (new, l.reads_status, refl));
-    accesses_are_of_kind = All-cons (IsServiceButPxIs port) (Writing reg.Is l.port_mask) shows (inl refl, λ e. let z : reg.Is ≡ Px port Is = e in cc)
-        (All-cons (IsServiceButPxIs port) (Reading (Px port Ssts) l.status) [] (tt, tt) (All-nil (IsServiceButPxIs port)));
+    accesses_are_of_kind = All-cons (WritesOnlyHbaIsCiSactOrOtherPxIs port) (Writing reg.Is l.port_mask) shows (inl refl, λ e. let z : reg.Is ≡ Px port Is = e in cc)
+        (All-cons (WritesOnlyHbaIsCiSactOrOtherPxIs port) (Reading (Px port Ssts) l.status) [] (tt, tt) (All-nil (WritesOnlyHbaIsCiSactOrOtherPxIs port)));
   }
 
 module _ (laws : Laws) where
@@ -71,7 +71,7 @@ module _ (laws : Laws) where
         (y.0, λ none up. let parts = laws.tape.no_disk_comes_in_parts port a b c p.0.0 q.0.0 p.0.1 q.0.1 none in x.1 parts.0 (y.1 parts.1 up)),
   )
 
-  service_unlinks : (port : Port) (access : Access) (old new : Device) → IsOn old → IsServiceAccess access → Does access old new → Unlinks port.0 old new
+  service_unlinks : (port : Port) (access : Access) (old new : Device) → IsOn old → WritesOnlyHbaIsPxIsCiOrSact access → Does access old new → Unlinks port.0 old new
   service_unlinks port access old new on is does = (
     laws.tape.access_grows access old new does,
     λ undue. (
@@ -80,7 +80,7 @@ module _ (laws : Laws) where
     ),
   )
 
-  unlinked_stays : (port : Port) (old new : Device) → IsOn old → IsDrivenBy IsServiceAccess old new → Unlinks port.0 old new
+  unlinked_stays : (port : Port) (old new : Device) → IsOn old → IsDrivenBy WritesOnlyHbaIsPxIsCiOrSact old new → Unlinks port.0 old new
   unlinked_stays port old new on a =
       (services_keep laws (Unlinks port.0) (λ d. (laws.tape.growth_is_reflexive d, λ undue. (undue, λ none up. up))) (unlinks_more port.0) (λ access x y ready is does. service_unlinks port access x y ready is does) old new on a).0
 
@@ -105,8 +105,8 @@ module _ (laws : Laws) where
     acknowledged_on : IsOn l.acknowledged
     acknowledged_on = spared_on laws (Writing reg.Is l.port_mask) l.cleared l.acknowledged (λ e. cc) l.acknowledges cleared_on
 
-    as_services : IsDrivenBy IsServiceAccess old new
-    as_services = driven_as (IsEventAccess port) IsServiceAccess old new (looking_service port) (look_driven port result old new l)
+    as_services : IsDrivenBy WritesOnlyHbaIsPxIsCiOrSact old new
+    as_services = driven_as (IsPxisSstsOrOwnIsAccess port) WritesOnlyHbaIsPxIsCiOrSact old new (looking_service port) (look_driven port result old new l)
 
     -- what PxSSTS shows, the port has
     shown : l.status % 16 ≡ (new.port port.0).ssts_det

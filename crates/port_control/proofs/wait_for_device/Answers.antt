@@ -4,13 +4,13 @@ use Rattle.hba_regs.specs.declared.reg.PortReg.TheVariants.{Ssts}
 use Rattle.port_control.proofs.Looking.{missing_followed, device_seen, device_up, sees_device, without_none, missing_still}
 use Rattle.port_control.specs.Ports.{HasLink, ReadsInVain}
 use Rattle.port_control.proofs.wait_for_device.Goals as goal
-use Rattle.port_control.specs.Laws.RegisterSet.{Clearing}
+use Rattle.port_control.specs.Laws.RegisterSet.{ClearingErrors}
 use Rattle.port_control.specs.Laws.AccessPurpose.{Controlling}
 
 pub loop-reading-init : goal.loop-reading-init
 loop-reading-init g c = record {
   known = record {
-    followed = (c.law_prerequisites.ensures.fragments.empty_fragment_is_simulated (Controlling Clearing c.args.port) _).is_simulated;
+    followed = (c.law_prerequisites.ensures.fragments.empty_fragment_is_simulated (Controlling ClearingErrors c.args.port) _).is_simulated;
     usable = c.requires.usable;
     on = c.requires.usable;
     det = c.requires.det;

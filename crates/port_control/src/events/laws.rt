@@ -3,25 +3,27 @@ ghost use Rattle.std.specs.Prelude.{ℕ, true, false, ◌≡◌, ◌≢◌, ◌�
 ghost use Rattle.ata_types.specs.declared.Port.{Port};
 ghost use Rattle.hba_regs.specs.{Bits.{bit}, declared.reg.PortReg.{PortReg}, declared.reg.PortReg.TheVariants.{Ci, Is, Sact, Ssts}, declared.reg.Reg.TheVariants.{Ghc, Px}};
 ghost use Rattle.adapter.specs.{Access.{Access, Reads}, Device.{Device}, Rules.{IsOn}};
-ghost use Rattle.refinement.specs.{Fragments.{SameSlotStates, SomeMachineAgrees, IsDrivenBy, IsSimulated, SparesOtherPorts}, Errors.{KeepsSetBitsOfPxisAndSerrNX, NoDiskComes}, PortFacts.{IsFaulted, RecordsFaultsIfSt, RunsWell, ShowsNoTrouble, PxisValueTellsNoTrouble, Undisturbed}, PreservedParts.{SameAdapter, DoesNotWrite}, Slots.{SlotStates}};
-ghost use Rattle.port_control.specs.{PortEvents.{port_event_of, IsEventAccess, TakesEvent}, ServiceAccesses.{LinkChangedOrMissing, IsServiceAccess, IsServiceButPxIs, SerrNXStaySet, HidesNoPlugEvent, HidesNoFatal, HidesNoFault}, declared.events.PortEvent.{PortEvent}};
+ghost use Rattle.refinement.specs.{Fragments.{SameSlotStates, SomeMachineAgrees, IsDrivenBy, IsSimulated, SparesOtherPorts}, Errors.{KeepsSetBitsOfPxisAndSerrNX, NoDiskComes}, PortFacts.{IsHaltedPlainOrQueued, RecordsFaultsIfSt, RunsWell, ShowsNoTrouble, PxisValueTellsNoTrouble, Undisturbed}, PreservedParts.{SameAdapter, DoesNotWrite}, Slots.{SlotStates}};
+ghost use Rattle.port_control.specs.{PortEvents.{port_event_of, IsPxisSstsOrOwnIsAccess, TakesEvent}, ServiceAccesses.{OldShowsChangeOrNoDeviceOrPlugEventComes, WritesOnlyHbaIsPxIsCiOrSact, WritesOnlyHbaIsCiSactOrOtherPxIs, SerrNXStaySet, HidesNoPlugEvent, HidesNoFatal, HidesNoFault}, declared.events.PortEvent.{PortEvent}};
 ghost use Rattle.port_control.specs.declared.events.PortEvent.TheVariants as look;
 
 use super::prerequisites::law_prerequisites;
 
 /// The accesses of a look serve ports, and are ordinary for each other port.
 pub fn law_looks_are_services()
-    ensures is_service_access { (port : Port) (access : Access) → IsEventAccess port access → IsServiceAccess access }
-    ensures leaves_other_px_is { (port other : Port) (access : Access) → port.0 ≢ other.0 → IsEventAccess port access
-        → IsServiceButPxIs other access }
+    ensures is_service_access { (port : Port) (access : Access) → IsPxisSstsOrOwnIsAccess port access
+        → WritesOnlyHbaIsPxIsCiOrSact access }
+    ensures leaves_other_px_is { (port other : Port) (access : Access) → port.0 ≢ other.0
+        → IsPxisSstsOrOwnIsAccess port access
+        → WritesOnlyHbaIsCiSactOrOtherPxIs other access }
     ensures look_is_driven { (port : Port) (result : PortEvent) (old new : Device) → TakesEvent port result old new
-        → IsDrivenBy (IsEventAccess port) old new }
+        → IsDrivenBy (IsPxisSstsOrOwnIsAccess port) old new }
 {}
 
 /// A look touches no register of another port, nor another port's bit of IS: so what is said of such accesses
 /// (`SparesOtherPorts`) is so of each.
 pub fn law_looks_are_of_one_port()
-    ensures { (port : Port) (access : Access) → IsEventAccess port access → SparesOtherPorts port access }
+    ensures { (port : Port) (access : Access) → IsPxisSstsOrOwnIsAccess port access → SparesOtherPorts port access }
 {}
 
 /// What serving ports leaves: the adapter, which stays on; ST and the command list of each port; DET of each port's
@@ -29,22 +31,27 @@ pub fn law_looks_are_of_one_port()
 /// the record of each port's faults; and bits of PxSACT that are clear. So a machine that agrees goes on, too, where
 /// the fragment is followed.
 pub fn law_services_keep_ports_running()
-    ensures stays_on { (old new : Device) → IsOn old → IsDrivenBy IsServiceAccess old new → IsOn new }
-    ensures adapter_is_kept { (old new : Device) → IsDrivenBy IsServiceAccess old new → SameAdapter old new }
-    ensures start_and_list_are_kept { (port : Port) (old new : Device) → IsOn old → IsDrivenBy IsServiceAccess old new
+    ensures stays_on { (old new : Device) → IsOn old → IsDrivenBy WritesOnlyHbaIsPxIsCiOrSact old new → IsOn new }
+    ensures adapter_is_kept { (old new : Device) → IsDrivenBy WritesOnlyHbaIsPxIsCiOrSact old new
+        → SameAdapter old new }
+    ensures start_and_list_are_kept { (port : Port) (old new : Device) → IsOn old
+        → IsDrivenBy WritesOnlyHbaIsPxIsCiOrSact old new
         → ((new.port port.0).st ≡ (old.port port.0).st) × ((new.port port.0).bases.clb ≡ (old.port port.0).bases.clb) }
-    ensures controls_are_kept { (port : ℕ) (old new : Device) → IsOn old → IsDrivenBy IsServiceAccess old new
+    ensures controls_are_kept { (port : ℕ) (old new : Device) → IsOn old
+        → IsDrivenBy WritesOnlyHbaIsPxIsCiOrSact old new
         → ((new.port port).sctl_det ≡ (old.port port).sctl_det) × ((new.port port).ie ≡ (old.port port).ie)
         × ((new.port port).notes.sctl_written_at ≡ (old.port port).notes.sctl_written_at)
         × ((new.port port).notes.st_set_at ≡ (old.port port).notes.st_set_at) }
-    ensures ports_run_well { (port : Port) (old new : Device) → IsOn old → IsDrivenBy IsServiceAccess old new
+    ensures ports_run_well { (port : Port) (old new : Device) → IsOn old
+        → IsDrivenBy WritesOnlyHbaIsPxIsCiOrSact old new
         → Undisturbed port.0 old new → RunsWell (old.port port.0) → RunsWell (new.port port.0) }
-    ensures faults_stay_on_record { (port : ℕ) (old new : Device) → IsDrivenBy IsServiceAccess old new
+    ensures faults_stay_on_record { (port : ℕ) (old new : Device) → IsDrivenBy WritesOnlyHbaIsPxIsCiOrSact old new
         → RecordsFaultsIfSt old.tape (old.port port) port → RecordsFaultsIfSt new.tape (new.port port) port }
-    ensures sact_stays_clear { (port : Port) (q slot : ℕ) (old new : Device) → IsDrivenBy (IsEventAccess port) old new
+    ensures sact_stays_clear { (port : Port) (q slot : ℕ) (old new : Device)
+        → IsDrivenBy (IsPxisSstsOrOwnIsAccess port) old new
         → (old.port q).sact slot ≡ false → (new.port q).sact slot ≡ false }
     ensures relation_is_kept { (uses : SlotStates) (old new : Device)
-        → IsSimulated IsServiceAccess (SameSlotStates uses) old new
+        → IsSimulated WritesOnlyHbaIsPxIsCiOrSact (SameSlotStates uses) old new
         → SomeMachineAgrees uses old
         → SomeMachineAgrees uses new }
 {
@@ -53,14 +60,14 @@ pub fn law_services_keep_ports_running()
 
 /// Accesses that serve ports write of each port PxIS, PxCI and PxSACT alone, and not GHC.
 pub fn law_services_spare_registers()
-    ensures ghc_is_unwritten { (access : Access) → IsServiceAccess access → DoesNotWrite Ghc access }
+    ensures ghc_is_unwritten { (access : Access) → WritesOnlyHbaIsPxIsCiOrSact access → DoesNotWrite Ghc access }
     ensures port_register_is_unwritten { (port : Port) (r : PortReg) → r ≢ Is → r ≢ Ci → r ≢ Sact → (access : Access)
-        → IsServiceAccess access
+        → WritesOnlyHbaIsPxIsCiOrSact access
         → DoesNotWrite (Px port r) access }
 {}
 
 /// What each answer of a look says of what was read.
-pub fn law_port_events_tell()
+pub fn law_port_event_tells_bits_read()
     ensures link_changed { (causes status : ℕ) → port_event_of causes status ≡ look.LinkChanged
         → (bit causes 6 ≡ true) ⊎ (bit causes 22 ≡ true) ⊎ (status % 16 ≢ 3) }
     ensures fatal_error { (causes status : ℕ) → port_event_of causes status ≡ look.FatalError
@@ -99,9 +106,9 @@ pub fn law_errors_are_seen()
 /// What tells of trouble isn't hidden. Ordinary accesses leave each bit of the port's PxIS, and N and X of its PxSERR,
 /// set where they are set. So does a look with N and X; and with each bit of PxIS that it hasn't read, also one that is
 /// set between the reading and the write.
-pub fn law_errors_stay_told()
+pub fn law_set_error_bits_stay_set()
     ensures services_keep_errors { (port : Port) (old new : Device) → IsOn old
-        → IsDrivenBy (IsServiceButPxIs port) old new
+        → IsDrivenBy (WritesOnlyHbaIsCiSactOrOtherPxIs port) old new
         → KeepsSetBitsOfPxisAndSerrNX (old.port port.0) (new.port port.0) }
     ensures look_keeps_serr_changes { (port : Port) (result : PortEvent) (old new : Device) → IsOn old
         → TakesEvent port result old new
@@ -116,15 +123,15 @@ pub fn law_errors_stay_told()
 
 /// A look that tells of a command that failed finds a fault that has halted the port, and a device with a link. Other
 /// readings of the port leave both.
-pub fn law_failures_are_found()
+pub fn law_task_file_error_means_halted()
     ensures look_finds_fault { (port : Port) (old new : Device) → IsOn old → TakesEvent port look.TaskFileError old new
         → (old.port port.0).st ≡ true → RecordsFaultsIfSt old.tape (old.port port.0) port.0
-        → IsFaulted (new.port port.0).halt
+        → IsHaltedPlainOrQueued (new.port port.0).halt
         × ((new.port port.0).notes.last_ssts % 16 ≡ 3) }
     ensures reads_keep_fault { (port : Port) (r : PortReg) (v : ℕ) (old new : Device) → IsOn old
         → Reads (Px port r) v old new
         → r ≢ Ssts → (old.port port.0).st ≡ true → RecordsFaultsIfSt old.tape (old.port port.0) port.0
-        → IsFaulted (old.port port.0).halt → IsFaulted (new.port port.0).halt
+        → IsHaltedPlainOrQueued (old.port port.0).halt → IsHaltedPlainOrQueued (new.port port.0).halt
         × ((new.port port.0).notes.last_ssts ≡ (old.port port.0).notes.last_ssts) }
 {
     law_prerequisites();
@@ -144,17 +151,17 @@ pub fn law_looks_and_services_hide_no_error()
         → TakesEvent port result old new
         → HidesNoPlugEvent port.0 old new }
     ensures services_hide_no_fault { (port : Port) (old new : Device) → IsOn old
-        → IsDrivenBy (IsServiceButPxIs port) old new
+        → IsDrivenBy (WritesOnlyHbaIsCiSactOrOtherPxIs port) old new
         → HidesNoFault port.0 old new }
     ensures services_hide_no_fatal { (port : Port) (old new : Device) → IsOn old
-        → IsDrivenBy (IsServiceButPxIs port) old new
+        → IsDrivenBy (WritesOnlyHbaIsCiSactOrOtherPxIs port) old new
         → HidesNoFatal port.0 old new }
     ensures services_hide_no_plug_event { (port : Port) (old new : Device) → IsOn old
-        → IsDrivenBy (IsServiceButPxIs port) old new
+        → IsDrivenBy (WritesOnlyHbaIsCiSactOrOtherPxIs port) old new
         → HidesNoPlugEvent port.0 old new }
     ensures link_change_is_backed { (port : Port) (old new : Device) → IsOn old
         → TakesEvent port look.LinkChanged old new
-        → (old.port port.0).link_due ≡ false → LinkChangedOrMissing port.0 old new }
+        → (old.port port.0).link_due ≡ false → OldShowsChangeOrNoDeviceOrPlugEventComes port.0 old new }
 {
     law_prerequisites();
 }

@@ -13,7 +13,7 @@ use Rattle.adapter.specs.Steps.{DeviceTransition, Can, device_after, Steps}
 use Rattle.adapter.specs.Steps.DeviceTransition.{Fetch, FetchFault, Move, Clear, Done, Fault, Fatal, Fall, FrFall, LinkUp, Unplug, Plug, ResetEnds, Scribble}
 use Rattle.refinement.specs.StepLaws.{StepLaws}
 use Rattle.refinement.specs.Errors.{IsLeftByReset, ShowsResetStateUntilSerrX}
-use Rattle.refinement.specs.PortFacts.{IsStoppedWithDrqWhileLinkAwaited}
+use Rattle.refinement.specs.PortFacts.{WhileLinkAwaitedCrIsClearAndDrqSet}
 use Rattle.refinement.proofs.device.AwaitedLink.{leads_keep, steps_awaited}
 use Rattle.refinement.proofs.device.HaltedPort.{reset_left, reset_read}
 use Rattle.refinement.proofs.device.HealthyPort.{at_port}
@@ -83,16 +83,16 @@ reset_clears v old new on call clear port =
     let i : Idles (new.port port) = leads_keep Idles step_idles port s.1.steps (device_after ResetEnds s.0) new s.1.lead (refl, λ place. refl, refl, λ clear. (refl, refl, refl)) in
     record { pxis_is_clear = i.1; sctl_det = i.2; shows_no_link_until_x = i.3 }
 
-pub reset_awaits : (v : ℕ) (old new : Device) → old.hr ≡ true → Reads Ghc v old new → bit v 0 ≡ false → (port : ℕ) → IsStoppedWithDrqWhileLinkAwaited (new.port port)
+pub reset_awaits : (v : ℕ) (old new : Device) → old.hr ≡ true → Reads Ghc v old new → bit v 0 ≡ false → (port : ℕ) → WhileLinkAwaitedCrIsClearAndDrqSet (new.port port)
 reset_awaits v old new on call clear port =
     let s = reset_read v old new on call clear in
     steps_awaited port (device_after ResetEnds s.0) new s.1 (λ due. (refl, refl))
 
 -- ---- the link is awaited where none is due
 
-pub undue_awaited : (p : DevicePort) → p.link_due ≡ false → p.sctl_det ≢ 1 → IsStoppedWithDrqWhileLinkAwaited p
+pub undue_awaited : (p : DevicePort) → p.link_due ≡ false → p.sctl_det ≢ 1 → WhileLinkAwaitedCrIsClearAndDrqSet p
 undue_awaited p undue other = λ due. ⊎_elim (λ (e : p.link_due ≡ true). absurd (both_ways _ undue e)) (λ (e : p.sctl_det ≡ 1). absurd (other e)) due
 
-pub first_awaited : IsStoppedWithDrqWhileLinkAwaited (first_read_device.port 0)
+pub first_awaited : WhileLinkAwaitedCrIsClearAndDrqSet (first_read_device.port 0)
 unfolding changed
 first_awaited = undue_awaited (first_read_device.port 0) refl (λ (e : 0 ≡ 1). omega (arith, e))

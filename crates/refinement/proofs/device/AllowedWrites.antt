@@ -11,7 +11,7 @@ use Rattle.hba_regs.specs.declared.reg.PortReg.{PortReg}
 use Rattle.hba_regs.specs.declared.reg.PortReg.TheVariants.{Clb, Clbu, Fb, Fbu, Is, Ie, Cmd, Tfd, Sig, Ssts, Sctl, Serr, Sact, Ci}
 use Rattle.adapter.specs.Access.{Writes}
 use Rattle.adapter.specs.Device.{Bases, Notes, DevicePort, Device}
-use Rattle.adapter.specs.KeptBySteps.{KeepsOverSteps, KeepsOutsideReset, PortBitsOnlyFall, KeepsControlsFlagsRise}
+use Rattle.adapter.specs.KeptBySteps.{KeepsOverSteps, KeepsOutsideReset, PortBitsOnlyFallFreeSlotsStay, KeepsControlsFlagsRise}
 use Rattle.adapter.specs.Rules.{IsOn, HasPort, MayStart, MaySetFre, MayStopReceiving, MayWriteCmd, MayWritePort, MayWrite, IsStable}
 use Rattle.adapter.proofs.Calls.{PortRegisterWritten, put, on_after, on_stays}
 use Rattle.adapter.proofs.KeptLemmas.{law_step_lists_keep_what_steps_keep}
@@ -23,7 +23,7 @@ use Rattle.refinement.proofs.device.StartConditions.{steps_quiet}
 
 -- ---- a port
 
-module _ (p q : DevicePort) (k : PortBitsOnlyFall p q) (c : KeepsControlsFlagsRise p q) (notes : q.notes ≡ p.notes) where
+module _ (p q : DevicePort) (k : PortBitsOnlyFallFreeSlotsStay p q) (c : KeepsControlsFlagsRise p q) (notes : q.notes ≡ p.notes) where
   same_base : {A : Type 0} (f : Bases → A) → f q.bases ≡ f p.bases
   same_base f = ap f k.bases_are_kept
 

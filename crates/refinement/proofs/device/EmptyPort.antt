@@ -17,7 +17,7 @@ use Rattle.adapter.specs.declared.tape.Entry.{Entry}
 use Rattle.adapter.proofs.Changed.{changed_same}
 use Rattle.refinement.specs.StepLaws.{StepLaws}
 use Rattle.refinement.specs.Errors.{IsDiskComing, NoDiskComes}
-use Rattle.refinement.specs.PreservedParts.{ShowsDiskIfIn}
+use Rattle.refinement.specs.PreservedParts.{HasDet3IfDiskPresent}
 use Rattle.refinement.proofs.device.FactsOverAccesses.{access_steps, effect_keeps}
 use Rattle.refinement.proofs.device.ErrorBits.{comes_parts, comes_before, command_beside}
 use Rattle.refinement.proofs.device.TapeGains.{NoneOf, gained_none}
@@ -190,7 +190,7 @@ fresh_comreset port v old new one call =
     subst HasFirstFisIfShown (sym (ap (λ (d : Device). d.port port.0) call.effect ∙ changed_same call.at_access.port port.0 _))
     (subst (λ (n : ℕ). HasFirstFisIfShown (port_after_det_write n (length call.at_access.tape) (call.at_access.port port.0))) (sym one) (λ z. not_three z))
 
-pub device_shown : (port : Port) (v : ℕ) (old new : Device) → Reads (Px port Ssts) v old new → v % 16 ≡ 3 → ShowsDiskIfIn (new.port port.0)
+pub device_shown : (port : Port) (v : ℕ) (old new : Device) → Reads (Px port Ssts) v old new → v % 16 ≡ 3 → HasDet3IfDiskPresent (new.port port.0)
 device_shown port v old new call three =
     inl (ap (λ (d : Device). (d.port port.0).ssts_det) call.effect ∙ (ap (λ (p : DevicePort). p.ssts_det) (changed_same call.at_access.port port.0 _) ∙ (sym call.shows ∙ three)))
 

@@ -11,7 +11,7 @@ use Rattle.hba_regs.specs.declared.reg.PortReg.TheVariants.{Cmd}
 use Rattle.adapter.specs.Access.{Reads, Writes, notes_after_reading, port_after_write, port_after_st_write, port_after_fre_write, port_after_hba_is_write}
 use Rattle.adapter.specs.Device.{FetchedCommand, DevicePort, Device}
 use Rattle.adapter.specs.Idle.{IsIdlePort}
-use Rattle.adapter.specs.KeptBySteps.{PortBitsOnlyFall}
+use Rattle.adapter.specs.KeptBySteps.{PortBitsOnlyFallFreeSlotsStay}
 use Rattle.adapter.specs.Rules.{MayWrite, MayWritePort, IsStable}
 use Rattle.adapter.specs.Steps.{DeviceTransition, Can, device_after, TransitionsLead, Steps}
 use Rattle.adapter.specs.Steps.DeviceTransition.{Fetch, FetchFault, Move, Clear, Done, Fault, Fatal, Fall, FrFall, LinkUp, Unplug, Plug, ResetEnds, Scribble}
@@ -23,17 +23,17 @@ use Rattle.refinement.specs.StepLaws.{StepLaws}
 use Rattle.refinement.specs.Relation.{StateRelation, port_at}
 use Rattle.refinement.specs.PortFacts.{IsEngineStopped, IsQuiescentPort}
 use Rattle.refinement.specs.Simulation.{SimulatesSteps}
-use Rattle.refinement.specs.Slots.{SlotState, Free, Own, Serves, SlotStates, IsInSomeStage, OwnAwaitsFetch, OwnIsTaken, OwnIsOver, IsOver, RelatesSlot, Armed}
+use Rattle.refinement.specs.Slots.{SlotState, Free, Own, Serves, SlotStates, IsInSomeStage, OwnAwaitsFetch, OwnIsTaken, OwnIsOverWithPageIfSt, IsOver, RelatesSlot, Armed}
 use Rattle.refinement.proofs.device.FactsOverAccesses.{noted_on, written_on}
 use Rattle.refinement.proofs.steps.FollowedSteps.{steps_follow}
 use Rattle.refinement.proofs.device.ClearSactBits.{if_false}
 
 -- ---- it stays so
 
-pub halted_on : {old new : DevicePort} → PortBitsOnlyFall old new → IsEngineStopped old → IsEngineStopped new
+pub halted_on : {old new : DevicePort} → PortBitsOnlyFallFreeSlotsStay old new → IsEngineStopped old → IsEngineStopped new
 halted_on k h = record { st_is_clear = k.st_stays_clear h.st_is_clear; cr_is_clear = k.cr_stays_clear h.cr_is_clear; no_command_is_issued = λ s. k.ci_stays_clear s (h.no_command_is_issued s); no_command_is_taken = k.none_stays_taken_while_cr_is_clear h.cr_is_clear h.no_command_is_taken }
 
-pub reset_on : {old new : DevicePort} → PortBitsOnlyFall old new → IsQuiescentPort old → IsQuiescentPort new
+pub reset_on : {old new : DevicePort} → PortBitsOnlyFallFreeSlotsStay old new → IsQuiescentPort old → IsQuiescentPort new
 reset_on k h = record { engine_is_stopped = halted_on k h.engine_is_stopped; sact_is_clear = λ s. k.sact_stays_clear s (h.sact_is_clear s); fre_is_clear = k.fre_stays_clear h.fre_is_clear; fr_is_clear = k.fr_stays_clear h.fr_is_clear }
 
 pub law_stopped_engine_stays : StepLaws → (port : ℕ) (old new : Device) → Steps old new → IsEngineStopped (old.port port) → IsEngineStopped (new.port port)
@@ -154,7 +154,7 @@ over_of m d port slot Free st cr h = record { is_not_issued = h.is_not_issued; i
 over_of m d port slot Armed st cr h = record { is_not_issued = h.is_not_issued; is_not_taken = h.is_not_taken }
 over_of m d port slot (Own o) st cr h = of h.stage
   where
-    of : OwnAwaitsFetch (d.port port) slot ⊎ (OwnIsTaken d.memory d.tape (d.port port) port slot h.command ⊎ OwnIsOver d.memory d.tape (d.port port) port slot h.command) → IsOver (d.port port) slot
+    of : OwnAwaitsFetch (d.port port) slot ⊎ (OwnIsTaken d.memory d.tape (d.port port) port slot h.command ⊎ OwnIsOverWithPageIfSt d.memory d.tape (d.port port) port slot h.command) → IsOver (d.port port) slot
     of (inl w) = absurd (both_ways _ st w.started)
     of (inr (inl t)) = absurd (both_ways _ cr t.running)
     of (inr (inr x)) = x.over
@@ -175,7 +175,7 @@ pub law_stopped_engine_is_read : StepLaws → (uses : SlotStates) (m : Machine) 
     (old.port port.0).st ≡ false → Reads (Px port Cmd) v old new → bit v 15 ≡ false → IsEngineStopped (new.port port.0)
 law_stopped_engine_is_read laws uses m port v old new reached a st call clear =
     let f : SimulatesSteps uses m old call.at_access = steps_follow uses m old call.at_access reached a call.steps in
-    let k : PortBitsOnlyFall (old.port port.0) (call.at_access.port port.0) = (laws.steps_keep _ _ call.steps).port_bits_only_fall port.0 in
+    let k : PortBitsOnlyFallFreeSlotsStay (old.port port.0) (call.at_access.port port.0) = (laws.steps_keep _ _ call.steps).port_bits_only_fall port.0 in
     let h : IsEngineStopped (call.at_access.port port.0) = stopped_halts uses (left.after m f.steps) call.at_access port.0 f.state_relation (k.st_stays_clear st) (sym call.shows.3 ∙ clear) in
     let is : new.port port.0 ≡ record (call.at_access.port port.0) { notes = notes_after_reading Cmd v (call.at_access.port port.0) } = ap (λ (d : Device). d.port port.0) call.effect ∙ changed_same call.at_access.port port.0 _ in
     subst IsEngineStopped (sym is) (record { st_is_clear = h.st_is_clear; cr_is_clear = h.cr_is_clear; no_command_is_issued = h.no_command_is_issued; no_command_is_taken = h.no_command_is_taken })

@@ -18,7 +18,7 @@ use Rattle.adapter.proofs.Changed.{changed_same}
 use Rattle.refinement.specs.StepLaws.{StepLaws}
 use Rattle.refinement.specs.Errors.{NoFatalErrors, IsFatalErrorOf}
 use Rattle.refinement.specs.PreservedParts.{DoesNotWrite, NoPlugEvents, KeepsDisk, SameLink, ComesUp, LinkIsSameOrComesUp, IsPlugEvent}
-use Rattle.refinement.specs.StartedPort.{IsUpForStart, IsStarted, ClearsNoStart}
+use Rattle.refinement.specs.StartedPort.{IsUpForStart, IsStarted, WritesCmdOnlyWithStSet}
 use Rattle.refinement.proofs.device.FactsOverAccesses.{access_steps, effect_keeps}
 use Rattle.refinement.proofs.device.FaultlessStretches.{fatal_parts}
 use Rattle.refinement.proofs.device.TapeGains.{NoneOf, gained_none}
@@ -112,7 +112,7 @@ written_runs _ v tape p on other h = h
 fatal_before : (port : ℕ) (old mid new : Device) → new.tape ≡ mid.tape → NoFatalErrors port old new → NoFatalErrors port old mid
 fatal_before port old mid new same h = record { new_entries = h.new_entries; tape_is = sym same ∙ h.tape_is; no_such_entry = h.no_such_entry }
 
-pub access_runs : StepLaws → (port : Port) (access : Access) (old new : Device) → old.hr ≡ false → ClearsNoStart port access → DoesNotWrite (Px port Sctl) access → NoPlugEvents port.0 old new → NoFatalErrors port.0 old new → Does access old new →
+pub access_runs : StepLaws → (port : Port) (access : Access) (old new : Device) → old.hr ≡ false → WritesCmdOnlyWithStSet port access → DoesNotWrite (Px port Sctl) access → NoPlugEvents port.0 old new → NoFatalErrors port.0 old new → Does access old new →
     RunsLinked (old.port port.0) → RunsLinked (new.port port.0)
 access_runs laws port access old new off keeps spares none calm x h =
     let s = access_steps access old new x in

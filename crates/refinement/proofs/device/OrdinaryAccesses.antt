@@ -9,7 +9,7 @@ use Rattle.hba_regs.specs.declared.reg.PortReg.TheVariants.{Clb, Clbu, Fb, Fbu, 
 use Rattle.adapter.specs.Access.{Access, Does, port_after_write}
 use Rattle.adapter.specs.Device.{DevicePort, Device}
 use Rattle.adapter.specs.declared.tape.Entry.{Entry}
-use Rattle.refinement.specs.PortFacts.{IsStoppedWithDrqWhileLinkAwaited, RecordsFaultsIfSt}
+use Rattle.refinement.specs.PortFacts.{WhileLinkAwaitedCrIsClearAndDrqSet, RecordsFaultsIfSt}
 use Rattle.refinement.specs.PreservedParts.{DoesNotWrite}
 use Rattle.refinement.proofs.steps.AdapterCalls.{note_times}
 use Rattle.refinement.proofs.device.AwaitedLink.{steps_awaited}
@@ -19,16 +19,16 @@ use Rattle.refinement.proofs.device.RecordedFaults.{SameRecord, same_with, recor
 
 -- ---- the link
 
-written_awaits : (r : PortReg) (v tape : ℕ) (p : DevicePort) → (r ≡ Cmd → ⊥) → (r ≡ Sctl → ⊥) → IsStoppedWithDrqWhileLinkAwaited p → IsStoppedWithDrqWhileLinkAwaited (port_after_write r v tape p)
+written_awaits : (r : PortReg) (v tape : ℕ) (p : DevicePort) → (r ≡ Cmd → ⊥) → (r ≡ Sctl → ⊥) → WhileLinkAwaitedCrIsClearAndDrqSet p → WhileLinkAwaitedCrIsClearAndDrqSet (port_after_write r v tape p)
 written_awaits Cmd v tape p command control h = absurd (command refl)
 written_awaits Sctl v tape p command control h = absurd (control refl)
 written_awaits _ v tape p command control h = h
 
 pub access_awaited : (port : Port) (access : Access) (old new : Device) → DoesNotWrite (Px port Cmd) access → DoesNotWrite (Px port Sctl) access → Does access old new →
-    IsStoppedWithDrqWhileLinkAwaited (old.port port.0) → IsStoppedWithDrqWhileLinkAwaited (new.port port.0)
+    WhileLinkAwaitedCrIsClearAndDrqSet (old.port port.0) → WhileLinkAwaitedCrIsClearAndDrqSet (new.port port.0)
 access_awaited port access old new command control x h =
     let s = access_steps access old new x in
-    effect_keeps IsStoppedWithDrqWhileLinkAwaited port (λ p r v y. y) (λ p y. y) access old new x
+    effect_keeps WhileLinkAwaitedCrIsClearAndDrqSet port (λ p r v y. y) (λ p y. y) access old new x
     (λ r v mid is steps y. written_awaits r v (length mid.tape) (mid.port port.0) (spared port r Cmd access v command is) (spared port r Sctl access v control is) y)
     (steps_awaited port.0 old s.0 s.1 h)
 

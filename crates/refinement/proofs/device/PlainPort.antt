@@ -24,7 +24,7 @@ use Rattle.refinement.specs.PortFacts.{RunsWell, PxisValueTellsNoTrouble}
 use Rattle.refinement.specs.Simulation.{SimulatesSteps}
 use Rattle.refinement.specs.PreservedParts.{DoesNotWrite}
 use Rattle.refinement.specs.MemoryLayout.{scratch_frame_address}
-use Rattle.refinement.specs.Slots.{SlotState, Free, Armed, Own, Serves, SlotStates, IsInSomeStage, OwnAwaitsFetch, OwnIsTaken, OwnIsOver, RelatesSlot, client_operation_of}
+use Rattle.refinement.specs.Slots.{SlotState, Free, Armed, Own, Serves, SlotStates, IsInSomeStage, OwnAwaitsFetch, OwnIsTaken, OwnIsOverWithPageIfSt, RelatesSlot, client_operation_of}
 use Rattle.refinement.specs.StartedPort.{IsUpForStart}
 use Rattle.refinement.proofs.relation.OneSlot.{changed_at}
 use Rattle.refinement.proofs.device.BootedPort.{well_is_found}
@@ -82,7 +82,7 @@ taken_plain uses m d port slot t a st clear is = by (uses port slot) (a.relates_
     by Armed h = absurd (none-some _ (sym h.is_not_taken ∙ is))
     by (Own o) h = of h.stage
       where
-        of : OwnAwaitsFetch (d.port port) slot ⊎ (OwnIsTaken d.memory d.tape (d.port port) port slot h.command ⊎ OwnIsOver d.memory d.tape (d.port port) port slot h.command) → is_queued t.meaning.operation ≡ false
+        of : OwnAwaitsFetch (d.port port) slot ⊎ (OwnIsTaken d.memory d.tape (d.port port) port slot h.command ⊎ OwnIsOverWithPageIfSt d.memory d.tape (d.port port) port slot h.command) → is_queued t.meaning.operation ≡ false
         of (inl w) = absurd (none-some _ (sym w.is_not_taken ∙ is))
         of (inr (inl x)) = own_plain t.meaning.operation (ap (λ (w : Meaning). client_operation_of w.operation) (here x.command h.command x.taken x.meaning) ∙ ap client_operation_of h.operation_is ∙ h.operation_is_drivers_own)
         of (inr (inr x)) = absurd (none-some _ (sym x.over.is_not_taken ∙ is))

@@ -55,10 +55,10 @@ undisturbed_plugs port old new u = record { new_entries = u.new_entries; tape_is
 -- ---- the disk
 
 disk_refl : (p : DevicePort) → KeepsDisk p p
-disk_refl p = record { present = refl; plugged_so_far = refl; name = refl; size = refl }
+disk_refl p = record { present = refl; plug_history = refl; name = refl; size = refl }
 
 disk_on : (p q new : DevicePort) → new.present ≡ q.present → new.plug_history ≡ q.plug_history → new.disk.name ≡ q.disk.name → new.disk.sector_count ≡ q.disk.sector_count → KeepsDisk p q → KeepsDisk p new
-disk_on p q new present plugged name size h = record { present = present ∙ h.present; plugged_so_far = plugged ∙ h.plugged_so_far; name = name ∙ h.name; size = size ∙ h.size }
+disk_on p q new present plugged name size h = record { present = present ∙ h.present; plug_history = plugged ∙ h.plug_history; name = name ∙ h.name; size = size ∙ h.size }
 
 -- a move changes sectors alone
 moved_disk : (o : Operation) (disk : Disk) (sector : ℕ) (bytes : List ℕ) → ((disk_after o disk sector bytes).name ≡ disk.name) × ((disk_after o disk sector bytes).sector_count ≡ disk.sector_count)

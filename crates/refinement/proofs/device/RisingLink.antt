@@ -11,7 +11,7 @@ use Rattle.adapter.specs.Access.{Access, Does, Reads, Writes, port_after_write, 
 use Rattle.adapter.specs.Access.Access.{Reading, Writing}
 use Rattle.adapter.specs.Device.{DevicePort, Device}
 use Rattle.adapter.specs.Device.Halt.{NotHalted}
-use Rattle.adapter.specs.KeptBySteps.{KeepsOverSteps, PortBitsOnlyFall}
+use Rattle.adapter.specs.KeptBySteps.{KeepsOverSteps, PortBitsOnlyFallFreeSlotsStay}
 use Rattle.adapter.specs.Steps.{DeviceTransition, Can, device_after, TransitionsLead, Steps, halt_after_start}
 use Rattle.adapter.specs.Steps.DeviceTransition.{Fetch, FetchFault, Move, Clear, Done, Fault, Fatal, Fall, FrFall, LinkUp, Unplug, Plug, ResetEnds, Scribble}
 use Rattle.adapter.specs.declared.tape.Entry.{Entry}
@@ -19,7 +19,7 @@ use Rattle.adapter.proofs.Changed.{changed_same}
 use Rattle.refinement.specs.StepLaws.{StepLaws}
 use Rattle.refinement.specs.Errors.{IsDiskComing, NoDiskComes}
 use Rattle.refinement.specs.PreservedParts.{DoesNotWrite, NoPlugEvents, SameLink, ComesUp}
-use Rattle.refinement.specs.StartedPort.{IsUpForStart, IsStoppedAndUpForStartIfShown, SetsNoStart}
+use Rattle.refinement.specs.StartedPort.{IsUpForStart, IsStoppedAndUpForStartIfShown, WritesCmdOnlyWithStClear}
 use Rattle.refinement.proofs.device.FactsOverAccesses.{access_steps, effect_keeps}
 use Rattle.refinement.proofs.device.ErrorBits.{comes_parts, comes_before, plugs_come}
 use Rattle.refinement.proofs.device.TapeGains.{NoneOf, gained_none}
@@ -119,7 +119,7 @@ written_coming Cmd v tape p off h = command_coming v tape p (off refl) h
 written_coming Sctl v tape p off h = control_coming v tape p (v % 16) h
 written_coming _ v tape p off h = h
 
-module _ (laws : StepLaws) (port : Port) (access : Access) (old new : Device) (off : SetsNoStart port access) (x : Does access old new) where
+module _ (laws : StepLaws) (port : Port) (access : Access) (old new : Device) (off : WritesCmdOnlyWithStClear port access) (x : Does access old new) where
   pub access_coming : NoDiskComes port.0 old new → IsStoppedAndUpForStartIfShown (old.port port.0) → IsStoppedAndUpForStartIfShown (new.port port.0)
   access_coming none h =
       let s = access_steps access old new x in
@@ -132,7 +132,7 @@ module _ (laws : StepLaws) (port : Port) (access : Access) (old new : Device) (o
 
 pub comreset_comes : StepLaws → (port : Port) (v : ℕ) (old new : Device) → (old.port port.0).cr ≡ false → v % 16 ≡ 1 → Writes (Px port Sctl) v old new → IsStoppedAndUpForStartIfShown (new.port port.0)
 comreset_comes laws port v old new stands one call =
-    let k : PortBitsOnlyFall (old.port port.0) (call.at_access.port port.0) = (laws.steps_keep _ _ call.steps).port_bits_only_fall port.0 in
+    let k : PortBitsOnlyFallFreeSlotsStay (old.port port.0) (call.at_access.port port.0) = (laws.steps_keep _ _ call.steps).port_bits_only_fall port.0 in
     subst IsStoppedAndUpForStartIfShown (sym (ap (λ (d : Device). d.port port.0) call.effect ∙ changed_same call.at_access.port port.0 _))
     (is_coming _ (subst (λ (n : ℕ). Coming (port_after_det_write n (length call.at_access.tape) (call.at_access.port port.0))) (sym one) (k.cr_stays_clear stands, λ det. not_three det)))
 
@@ -162,7 +162,7 @@ steps_up laws port old new off stands none s u =
     (steps_coming laws port old new (plugs_come port old new none) s (record { cr_is_clear = stands; is_up_if_shown = λ _. u })).is_up_if_shown
     (still_three (old.port port) (new.port port) u.det_is_3 (steps_link laws port old new off s none))
 
-pub access_up : StepLaws → (port : Port) (access : Access) (old new : Device) → old.hr ≡ false → (old.port port.0).cr ≡ false → SetsNoStart port access → DoesNotWrite (Px port Sctl) access → NoPlugEvents port.0 old new → Does access old new →
+pub access_up : StepLaws → (port : Port) (access : Access) (old new : Device) → old.hr ≡ false → (old.port port.0).cr ≡ false → WritesCmdOnlyWithStClear port access → DoesNotWrite (Px port Sctl) access → NoPlugEvents port.0 old new → Does access old new →
     IsUpForStart (old.port port.0) → IsUpForStart (new.port port.0)
 access_up laws port access old new off stands sets spares none x u =
     (access_coming laws port access old new sets x (plugs_come port.0 old new none) (record { cr_is_clear = stands; is_up_if_shown = λ _. u })).is_up_if_shown

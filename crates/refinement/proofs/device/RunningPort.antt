@@ -20,7 +20,7 @@ use Rattle.refinement.specs.Relation.{port_at}
 use Rattle.refinement.specs.Errors.{LinkErrorsRiseByDisks, ErrorBitsStayClear}
 use Rattle.refinement.specs.PortFacts.{RunsWell, IsDisturbance, Undisturbed, ShowsNoTrouble}
 use Rattle.refinement.specs.PreservedParts.{DoesNotWrite}
-use Rattle.refinement.specs.StartedPort.{IsStarted, ClearsNoStart}
+use Rattle.refinement.specs.StartedPort.{IsStarted, WritesCmdOnlyWithStSet}
 use Rattle.refinement.proofs.device.FactsOverAccesses.{access_steps, effect_keeps}
 use Rattle.refinement.proofs.device.ErrorBits.{plugs_come, steps_change, access_change}
 use Rattle.refinement.proofs.device.TapeGains.{NoneOf, gained_none}
@@ -107,7 +107,7 @@ written_started Cmd v tape p on other h = command_started v tape p (on refl) h
 written_started Sctl v tape p on other h = absurd (other refl)
 written_started _ v tape p on other h = h
 
-pub access_started : StepLaws → (port : Port) (access : Access) (old new : Device) → old.hr ≡ false → ClearsNoStart port access → DoesNotWrite (Px port Sctl) access → Undisturbed port.0 old new → Does access old new →
+pub access_started : StepLaws → (port : Port) (access : Access) (old new : Device) → old.hr ≡ false → WritesCmdOnlyWithStSet port access → DoesNotWrite (Px port Sctl) access → Undisturbed port.0 old new → Does access old new →
     IsStarted (old.port port.0) → IsStarted (new.port port.0)
 access_started laws port access old new off keeps spares u x h =
     let s = access_steps access old new x in
@@ -167,14 +167,14 @@ law_running_well_stays_if_undisturbed laws port old new off s u h =
     well_of (new.port port) (steps_started laws port old new off u s (started_well (old.port port) h))
     (shows_still (old.port port) (new.port port) (steps_clear laws port old new off h.no_link_is_due u s) h.shows_no_trouble)
 
-healthy_access : StepLaws → (port : Port) (access : Access) (old new : Device) → old.hr ≡ false → ClearsNoStart port access → DoesNotWrite (Px port Sctl) access → Undisturbed port.0 old new → Does access old new →
+healthy_access : StepLaws → (port : Port) (access : Access) (old new : Device) → old.hr ≡ false → WritesCmdOnlyWithStSet port access → DoesNotWrite (Px port Sctl) access → Undisturbed port.0 old new → Does access old new →
     RunsWell (old.port port.0) → RunsWell (new.port port.0)
 healthy_access laws port access old new off keeps spares u x h =
     well_of (new.port port.0) (access_started laws port access old new off keeps spares u x (started_well (old.port port.0) h))
     (shows_still (old.port port.0) (new.port port.0) (access_clear laws port access old new off h.no_link_is_due u x) h.shows_no_trouble)
 
 -- a reading writes nothing
-pub reading_clears : (port : Port) (r : Reg) (v : ℕ) → ClearsNoStart port (Reading r v)
+pub reading_clears : (port : Port) (r : Reg) (v : ℕ) → WritesCmdOnlyWithStSet port (Reading r v)
 reading_clears port r v w e = absurd (let z : Reading r v ≡ Writing (Px port Cmd) w = e in cc)
 
 pub healthy_reads : StepLaws → (port : ℕ) (r : Reg) (v : ℕ) (old new : Device) → old.hr ≡ false → Reads r v old new → Undisturbed port old new → RunsWell (old.port port) → RunsWell (new.port port)

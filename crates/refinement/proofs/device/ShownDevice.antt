@@ -10,14 +10,14 @@ use Rattle.adapter.specs.Device.{DevicePort, Device}
 use Rattle.adapter.specs.Steps.{DeviceTransition, Can, device_after, TransitionsLead, Steps}
 use Rattle.adapter.specs.Steps.DeviceTransition.{Fetch, FetchFault, Move, Clear, Done, Fault, Fatal, Fall, FrFall, LinkUp, Unplug, Plug, ResetEnds, Scribble}
 use Rattle.refinement.specs.StepLaws.{StepLaws}
-use Rattle.refinement.specs.PreservedParts.{DoesNotWrite, ShowsDiskIfIn}
+use Rattle.refinement.specs.PreservedParts.{DoesNotWrite, HasDet3IfDiskPresent}
 use Rattle.refinement.proofs.device.FactsOverAccesses.{access_steps, effect_keeps}
 use Rattle.refinement.proofs.device.ErrorBits.{command_beside}
 use Rattle.refinement.proofs.device.HealthyPort.{at_port}
 use Rattle.refinement.proofs.device.PortControls.{spared}
 
 abbrev Shown : DevicePort → Type 0
-Shown p = ShowsDiskIfIn p
+Shown p = HasDet3IfDiskPresent p
 
 step_shown : (port : ℕ) (d : Device) (step : DeviceTransition) → d.hr ≡ false → Can step d → Shown (d.port port) → Shown ((device_after step d).port port)
 step_shown port d (Fetch p slot c places) off can h = at_port Shown Shown d p port _ h (λ e x. x) (λ ne x. x)
@@ -40,7 +40,7 @@ leads_shown laws port [] old new off e h = subst (λ (d : Device). Shown (d.port
 leads_shown laws port (step ∷ steps) old new off (can, lead) h =
     leads_shown laws port steps (device_after step old) new ((laws.one_step_keeps step _ can).keeps_outside_reset off).no_reset lead (step_shown port old step off can h)
 
-pub steps_shown : StepLaws → (port : ℕ) (old new : Device) → old.hr ≡ false → Steps old new → ShowsDiskIfIn (old.port port) → ShowsDiskIfIn (new.port port)
+pub steps_shown : StepLaws → (port : ℕ) (old new : Device) → old.hr ≡ false → Steps old new → HasDet3IfDiskPresent (old.port port) → HasDet3IfDiskPresent (new.port port)
 steps_shown laws port old new off s h = leads_shown laws port s.steps old new off s.lead h
 
 written_shown : (r : PortReg) (v tape : ℕ) (p : DevicePort) → r ≢ Sctl → Shown p → Shown (port_after_write r v tape p)
@@ -50,7 +50,7 @@ written_shown Cmd v tape p other h =
     ⊎_elim (λ (up : p.ssts_det ≡ 3). inl (c.3 ∙ up)) (λ (out : p.present ≡ false). inr (c.6 ∙ out)) h
 written_shown _ v tape p other h = h
 
-pub access_shown : StepLaws → (port : Port) (access : Access) (old new : Device) → old.hr ≡ false → DoesNotWrite (Px port Sctl) access → Does access old new → ShowsDiskIfIn (old.port port.0) → ShowsDiskIfIn (new.port port.0)
+pub access_shown : StepLaws → (port : Port) (access : Access) (old new : Device) → old.hr ≡ false → DoesNotWrite (Px port Sctl) access → Does access old new → HasDet3IfDiskPresent (old.port port.0) → HasDet3IfDiskPresent (new.port port.0)
 access_shown laws port access old new off spares x h =
     let s = access_steps access old new x in
     effect_keeps Shown port (λ p r v y. y) (λ p y. y) access old new x

@@ -13,7 +13,7 @@ use Rattle.adapter.specs.Steps.DeviceTransition.{Fetch, FetchFault, Move, Clear,
 use Rattle.adapter.specs.declared.tape.Entry.{Entry}
 use Rattle.refinement.specs.StepLaws.{StepLaws}
 use Rattle.refinement.specs.Relation.{port_at}
-use Rattle.refinement.specs.Errors.{IsDiskComing, NoDiskComes, IsEngineWork}
+use Rattle.refinement.specs.Errors.{IsDiskComing, NoDiskComes, IsEngineWorkOrErrorOf}
 use Rattle.refinement.proofs.device.FactsOverAccesses.{access_steps, effect_keeps}
 use Rattle.refinement.proofs.device.ErrorBits.{comes_parts, comes_before, command_beside}
 use Rattle.refinement.proofs.device.TapeGains.{NoneOf, GainsNone, gains_nothing, gains_more, gained_none}
@@ -26,40 +26,40 @@ module _ (port : ℕ) (d : Device) (cr : (d.port port).cr ≡ false) where
   stands p on e = absurd (both_ways _ cr (subst (λ (k : ℕ). (d.port k).cr ≡ true) e on))
 
   -- the tape gains one entry, or none
-  one : (e : Entry) → (IsEngineWork port e → ⊥) → NoneOf (IsEngineWork port) (e ∷ [])
-  one e other = All-cons (λ e. IsEngineWork port e → ⊥) e [] other (All-nil (λ e. IsEngineWork port e → ⊥))
+  one : (e : Entry) → (IsEngineWorkOrErrorOf port e → ⊥) → NoneOf (IsEngineWorkOrErrorOf port) (e ∷ [])
+  one e other = All-cons (λ e. IsEngineWorkOrErrorOf port e → ⊥) e [] other (All-nil (λ e. IsEngineWorkOrErrorOf port e → ⊥))
 
   no_entry : d.tape ≡ d.tape ++ []
   no_entry = sym (append-nil d.tape)
 
-  step_silent : (step : DeviceTransition) → Can step d → GainsNone (IsEngineWork port) d (device_after step d)
-  step_silent (Fetch p slot c places) can = ([], no_entry, All-nil (λ e. IsEngineWork port e → ⊥))
+  step_silent : (step : DeviceTransition) → Can step d → GainsNone (IsEngineWorkOrErrorOf port) d (device_after step d)
+  step_silent (Fetch p slot c places) can = ([], no_entry, All-nil (λ e. IsEngineWorkOrErrorOf port e → ⊥))
   step_silent (FetchFault p slot queued kept_bits) can = (_, refl, one _ (stands p can.working.cr_is_set))
   step_silent (Move p slot t bytes) can = (_, refl, one _ (stands p can.works.working.cr_is_set))
   step_silent (Clear p slot t first count) can = (_, refl, one _ (stands p can.works.working.cr_is_set))
   step_silent (Done p slot flag t) can = (_, refl, one _ (stands p can.works.working.cr_is_set))
   step_silent (Fault p slot error kept_bits t) can = (_, refl, one _ (stands p can.cr_is_set))
   step_silent (Fatal p place) can = (_, refl, one _ (stands p can.0))
-  step_silent (Fall p) can = ([], no_entry, All-nil (λ e. IsEngineWork port e → ⊥))
-  step_silent (FrFall p) can = ([], no_entry, All-nil (λ e. IsEngineWork port e → ⊥))
-  step_silent (LinkUp p sig n) can = ([], no_entry, All-nil (λ e. IsEngineWork port e → ⊥))
+  step_silent (Fall p) can = ([], no_entry, All-nil (λ e. IsEngineWorkOrErrorOf port e → ⊥))
+  step_silent (FrFall p) can = ([], no_entry, All-nil (λ e. IsEngineWorkOrErrorOf port e → ⊥))
+  step_silent (LinkUp p sig n) can = ([], no_entry, All-nil (λ e. IsEngineWorkOrErrorOf port e → ⊥))
   step_silent (Unplug p) can = (_, refl, one _ (λ x. x))
   step_silent (Plug p disk) can = (_, refl, one _ (λ x. x))
-  step_silent ResetEnds can = ([], no_entry, All-nil (λ e. IsEngineWork port e → ⊥))
-  step_silent (Scribble p slot at bytes) can = ([], no_entry, All-nil (λ e. IsEngineWork port e → ⊥))
+  step_silent ResetEnds can = ([], no_entry, All-nil (λ e. IsEngineWorkOrErrorOf port e → ⊥))
+  step_silent (Scribble p slot at bytes) can = ([], no_entry, All-nil (λ e. IsEngineWorkOrErrorOf port e → ⊥))
 
-leads_silent : StepLaws → (port : ℕ) (steps : List DeviceTransition) (old new : Device) → (old.port port).cr ≡ false → TransitionsLead steps old new → GainsNone (IsEngineWork port) old new
-leads_silent laws port [] old new cr e = subst (GainsNone (IsEngineWork port) old) (sym e) (gains_nothing (IsEngineWork port) old)
+leads_silent : StepLaws → (port : ℕ) (steps : List DeviceTransition) (old new : Device) → (old.port port).cr ≡ false → TransitionsLead steps old new → GainsNone (IsEngineWorkOrErrorOf port) old new
+leads_silent laws port [] old new cr e = subst (GainsNone (IsEngineWorkOrErrorOf port) old) (sym e) (gains_nothing (IsEngineWorkOrErrorOf port) old)
 leads_silent laws port (step ∷ steps) old new cr (can, lead) =
     let k : KeepsOverSteps old (device_after step old) = laws.one_step_keeps step _ can in
-    gains_more (IsEngineWork port) old (device_after step old) new (step_silent port old cr step can) (leads_silent laws port steps (device_after step old) new ((k.port_bits_only_fall port).cr_stays_clear cr) lead)
+    gains_more (IsEngineWorkOrErrorOf port) old (device_after step old) new (step_silent port old cr step can) (leads_silent laws port steps (device_after step old) new ((k.port_bits_only_fall port).cr_stays_clear cr) lead)
 
-pub steps_silent : StepLaws → (port : ℕ) (old new : Device) (gained : List Entry) → (old.port port).cr ≡ false → Steps old new → new.tape ≡ old.tape ++ gained → NoneOf (IsEngineWork port) gained
+pub steps_silent : StepLaws → (port : ℕ) (old new : Device) (gained : List Entry) → (old.port port).cr ≡ false → Steps old new → new.tape ≡ old.tape ++ gained → NoneOf (IsEngineWorkOrErrorOf port) gained
 steps_silent laws port old new gained cr s is =
     let g = leads_silent laws port s.steps old new cr s.lead in
-    subst (NoneOf (IsEngineWork port)) (append_cancel_left old.tape g.0 gained (sym g.1 ∙ is)) g.2
+    subst (NoneOf (IsEngineWorkOrErrorOf port)) (append_cancel_left old.tape g.0 gained (sym g.1 ∙ is)) g.2
 
-pub access_silent : StepLaws → (port : ℕ) (access : Access) (old new : Device) (gained : List Entry) → (old.port port).cr ≡ false → Does access old new → new.tape ≡ old.tape ++ gained → NoneOf (IsEngineWork port) gained
+pub access_silent : StepLaws → (port : ℕ) (access : Access) (old new : Device) (gained : List Entry) → (old.port port).cr ≡ false → Does access old new → new.tape ≡ old.tape ++ gained → NoneOf (IsEngineWorkOrErrorOf port) gained
 access_silent laws port access old new gained cr x is = let s = access_steps access old new x in steps_silent laws port old s.0 gained cr s.1 (sym s.2 ∙ is)
 
 -- ---- its disk

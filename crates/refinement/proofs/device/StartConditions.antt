@@ -12,13 +12,13 @@ use Rattle.hba_regs.specs.declared.reg.PortReg.{PortReg}
 use Rattle.hba_regs.specs.declared.reg.PortReg.TheVariants.{Clb, Clbu, Fb, Fbu, Is, Ie, Cmd, Tfd, Sig, Ssts, Sctl, Serr, Sact, Ci}
 use Rattle.adapter.specs.Access.{Reads, Writes, port_after_write, port_after_st_write, port_after_fre_write, notes_after_reading}
 use Rattle.adapter.specs.Device.{DevicePort, Device}
-use Rattle.adapter.specs.KeptBySteps.{PortBitsOnlyFall}
+use Rattle.adapter.specs.KeptBySteps.{PortBitsOnlyFallFreeSlotsStay}
 use Rattle.adapter.specs.Steps.{DeviceTransition, Can, device_after, Steps}
 use Rattle.adapter.specs.Steps.DeviceTransition.{Fetch, FetchFault, Move, Clear, Done, Fault, Fatal, Fall, FrFall, LinkUp, Unplug, Plug, ResetEnds, Scribble}
 use Rattle.adapter.proofs.Changed.{changed_same}
 use Rattle.refinement.specs.StepLaws.{StepLaws}
 use Rattle.refinement.specs.Relation.{port_at}
-use Rattle.refinement.specs.PortFacts.{IsStoppedWithDrqWhileLinkAwaited, CrAndTfesAreClear, IsCleanToStart}
+use Rattle.refinement.specs.PortFacts.{WhileLinkAwaitedCrIsClearAndDrqSet, CrAndTfesAreClear, IsCleanToStart}
 use Rattle.refinement.proofs.device.FactsOverAccesses.{noted_on, written_on}
 use Rattle.refinement.proofs.device.AwaitedLink.{leads_keep, steps_awaited, steps_unflagged}
 use Rattle.refinement.proofs.device.HealthyPort.{at_port}
@@ -68,7 +68,7 @@ reads_unflagged port r v old new x h =
 -- PxIS is written with bit 30
 pub clearing_unflags : StepLaws → (port : Port) (v : ℕ) (old new : Device) → (old.port port.0).cr ≡ false → bit v 30 ≡ true → Writes (Px port Is) v old new → CrAndTfesAreClear (new.port port.0)
 clearing_unflags laws port v old new cr set call =
-    let k : PortBitsOnlyFall (old.port port.0) (call.at_access.port port.0) = (laws.steps_keep _ _ call.steps).port_bits_only_fall port.0 in
+    let k : PortBitsOnlyFallFreeSlotsStay (old.port port.0) (call.at_access.port port.0) = (laws.steps_keep _ _ call.steps).port_bits_only_fall port.0 in
     subst CrAndTfesAreClear (sym (ap (λ (d : Device). d.port port.0) call.effect ∙ changed_same call.at_access.port port.0 _))
     (k.cr_stays_clear cr, and_right ((call.at_access.port port.0).is 30) (not (bit v 30)) (ap not set))
 
@@ -145,10 +145,10 @@ drq_read v tfd e = ap (λ (n : ℕ). n == 1) (ap (λ (n : ℕ). bit_at n 3) (sym
     low = omega arith
 
 -- without DRQ the link isn't awaited
-pub law_clean_to_start_is_found : (port : Port) (v : ℕ) (old new : Device) → IsStoppedWithDrqWhileLinkAwaited (old.port port.0) → CrAndTfesAreClear (old.port port.0) → Reads (Px port Tfd) v old new → bit v 3 ≡ false → IsCleanToStart (new.port port.0)
+pub law_clean_to_start_is_found : (port : Port) (v : ℕ) (old new : Device) → WhileLinkAwaitedCrIsClearAndDrqSet (old.port port.0) → CrAndTfesAreClear (old.port port.0) → Reads (Px port Tfd) v old new → bit v 3 ≡ false → IsCleanToStart (new.port port.0)
 law_clean_to_start_is_found port v old new awaited unflagged call clear =
     let u : CrAndTfesAreClear (call.at_access.port port.0) = steps_unflagged port.0 old call.at_access call.steps unflagged in
-    let w : IsStoppedWithDrqWhileLinkAwaited (call.at_access.port port.0) = steps_awaited port.0 old call.at_access call.steps awaited in
+    let w : WhileLinkAwaitedCrIsClearAndDrqSet (call.at_access.port port.0) = steps_awaited port.0 old call.at_access call.steps awaited in
     let none : ((call.at_access.port port.0).link_due ≡ true) ⊎ ((call.at_access.port port.0).sctl_det ≡ 1) → ⊥ = λ due. absurd (both_ways _ clear (sym (drq_read v (call.at_access.port port.0).tfd call.shows) ∙ (w due).1)) in
     let q : IsCleanToStart (call.at_access.port port.0) = record {
       is_stopped_tfes_clear = u;

@@ -14,7 +14,7 @@ use Rattle.block_machine.specs.State.{Machine}
 use Rattle.block_machine.specs.Steps.{Step}
 use Rattle.block_machine.proofs.EventLemmas.{after-append}
 use Rattle.refinement.specs.StepLaws.{StepLaws}
-use Rattle.refinement.specs.Acts.{Act, AccessLeads, IsActDone, AreActsDone, prepend_access, accesses_of, act_steps}
+use Rattle.refinement.specs.Acts.{Act, AccessIsDoneOrDeviceIsSame, IsActDone, AreActsDone, prepend_access, accesses_of, newest_first_steps_of_acts}
 use Rattle.refinement.specs.Fragments.{GainsNoMove}
 use Rattle.refinement.specs.Driver.{DriverState, DriverRelation, DriverAdvances}
 use Rattle.refinement.specs.PreservedParts.{DoesNotWrite}
@@ -35,33 +35,33 @@ accesses_append (act ∷ early) late = ap (prepend_access act.access) (accesses_
     with_append None first = refl
     with_append (Some access) first = refl
 
-pub steps_append : (early late : List Act) → act_steps (early ++ late) ≡ act_steps late ++ act_steps early
-steps_append [] late = sym (append-nil (act_steps late))
-steps_append (act ∷ early) late = ap (λ (steps : List Step). steps ++ act.steps) (steps_append early late) ∙ append_assoc (act_steps late) (act_steps early) act.steps
+pub steps_append : (early late : List Act) → newest_first_steps_of_acts (early ++ late) ≡ newest_first_steps_of_acts late ++ newest_first_steps_of_acts early
+steps_append [] late = sym (append-nil (newest_first_steps_of_acts late))
+steps_append (act ∷ early) late = ap (λ (steps : List Step). steps ++ act.steps) (steps_append early late) ∙ append_assoc (newest_first_steps_of_acts late) (newest_first_steps_of_acts early) act.steps
 
-pub done_more : (early late : List Act) (a b c : DriverState) (m : Machine) → AreActsDone early a m b → AreActsDone late b (left.after m (act_steps early)) c → AreActsDone (early ++ late) a m c
+pub done_more : (early late : List Act) (a b c : DriverState) (m : Machine) → AreActsDone early a m b → AreActsDone late b (left.after m (newest_first_steps_of_acts early)) c → AreActsDone (early ++ late) a m c
 done_more [] late a b c m x y = subst (λ (k : DriverState). AreActsDone late k m c) x y
 done_more (act ∷ early) late a b c m x y = (
   x.0,
-  done_more early late act.state_after b c (left.after m act.steps) x.1 (subst (λ (n : Machine). AreActsDone late b n c) (after-append m (act_steps early) act.steps) y),
+  done_more early late act.state_after b c (left.after m act.steps) x.1 (subst (λ (n : Machine). AreActsDone late b n c) (after-append m (newest_first_steps_of_acts early) act.steps) y),
 )
 
 -- ---- what they give
 
-pub done_goes : (acts : List Act) (k later : DriverState) (m : Machine) → DriverRelation m k → AreActsDone acts k m later → DriverAdvances k m (act_steps acts) later
+pub done_goes : (acts : List Act) (k later : DriverState) (m : Machine) → DriverRelation m k → AreActsDone acts k m later → DriverAdvances k m (newest_first_steps_of_acts acts) later
 done_goes [] k later m x done = subst (λ (end : DriverState). DriverAdvances k m [] end) (sym done) (goes_none k m x)
 done_goes (act ∷ acts) k later m x done =
-    goes_more k act.state_after later m act.steps (act_steps acts) done.0.driver_advances (done_goes acts act.state_after later (left.after m act.steps) done.0.driver_advances.driver_relation done.1)
+    goes_more k act.state_after later m act.steps (newest_first_steps_of_acts acts) done.0.driver_advances (done_goes acts act.state_after later (left.after m act.steps) done.0.driver_advances.driver_relation done.1)
 
 -- what the accesses are alone in, over acts without one
-leads_then : (access : Option Access) (rest : List Access) (old mid new : Device) → AccessLeads access old mid → DoesAll rest mid new → DoesAll (prepend_access access rest) old new
+leads_then : (access : Option Access) (rest : List Access) (old mid new : Device) → AccessIsDoneOrDeviceIsSame access old mid → DoesAll rest mid new → DoesAll (prepend_access access rest) old new
 leads_then None rest old mid new same all = subst (λ (d : Device). DoesAll rest d new) same all
 leads_then (Some access) rest old mid new does all = (mid, does, all)
 
 pub done_does : (acts : List Act) (k later : DriverState) (m : Machine) → AreActsDone acts k m later → DoesAll (accesses_of acts) k.device later.device
 done_does [] k later m done = ap (λ (x : DriverState). x.device) done
 done_does (act ∷ acts) k later m done =
-    leads_then act.access (accesses_of acts) k.device act.state_after.device later.device done.0.access_leads (done_does acts act.state_after later (left.after m act.steps) done.1)
+    leads_then act.access (accesses_of acts) k.device act.state_after.device later.device done.0.access_is_done_or_device_is_same (done_does acts act.state_after later (left.after m act.steps) done.1)
 
 -- What each act keeps, with a machine that agrees before it, all of them keep.
 pub done_keeps : (P : DriverState → Type 0) (Q : Act → Type 0) → ((k : DriverState) (m : Machine) (act : Act) → IsReachable m → DriverRelation m k → IsActDone k m act → Q act → P k → P act.state_after) →
@@ -98,9 +98,9 @@ acts_of_kind May (act ∷ acts) all = let x = apart act.access (accesses_of acts
 -- A port for whose disk slot 0 has no command of this operation, before any of the acts, is sent no page by it.
 module _ (laws : StepLaws) (port : ℕ) (o : Operation) (own : client_operation_of o ≡ None) where
   act_silent : (k : DriverState) (m : Machine) (act : Act) → IsReachable m → DriverRelation m k → IsActDone k m act → (k.slot_states port 0 ≡ Own o → ⊥) → GainsNoMove port o k.device act.state_after.device
-  act_silent k m act reached x done none = over act.access done.access_leads
+  act_silent k m act reached x done none = over act.access done.access_is_done_or_device_is_same
     where
-      over : (access : Option Access) → AccessLeads access k.device act.state_after.device → GainsNoMove port o k.device act.state_after.device
+      over : (access : Option Access) → AccessIsDoneOrDeviceIsSame access k.device act.state_after.device → GainsNoMove port o k.device act.state_after.device
       over None same = subst (λ (d : Device). GainsNoMove port o k.device d) (sym same) (gains_nothing (IsMove port o) k.device)
       over (Some access) does = access_sends_none laws k.slot_states m access k.device act.state_after.device port o reached x.state_relation does own none
 
@@ -117,9 +117,9 @@ module _ (laws : StepLaws) (port : ℕ) (o : Operation) (own : client_operation_
 pub done_plain : StepLaws → (acts : List Act) (k later : DriverState) (m : Machine) (port : Port) → IsReachable m → DriverRelation m k → All (DoesNotWrite (Px port Sact)) (accesses_of acts) → AreActsDone acts k m later →
     WorksOnUnqueuedCommandsOnly (k.device.port port.0) → WorksOnUnqueuedCommandsOnly (later.device.port port.0)
 done_plain laws acts k later m port reached x all done = done_keeps (λ (z : DriverState). WorksOnUnqueuedCommandsOnly (z.device.port port.0)) (λ act. IsOfKind (DoesNotWrite (Px port Sact)) act.access)
-    (λ z n act r knows is spares. over z n act r knows act.access is.access_leads spares) acts k later m reached x (acts_of_kind (DoesNotWrite (Px port Sact)) acts all) done
+    (λ z n act r knows is spares. over z n act r knows act.access is.access_is_done_or_device_is_same spares) acts k later m reached x (acts_of_kind (DoesNotWrite (Px port Sact)) acts all) done
   where
-    over : (z : DriverState) (n : Machine) (act : Act) → IsReachable n → DriverRelation n z → (access : Option Access) → AccessLeads access z.device act.state_after.device → IsOfKind (DoesNotWrite (Px port Sact)) access →
+    over : (z : DriverState) (n : Machine) (act : Act) → IsReachable n → DriverRelation n z → (access : Option Access) → AccessIsDoneOrDeviceIsSame access z.device act.state_after.device → IsOfKind (DoesNotWrite (Px port Sact)) access →
         WorksOnUnqueuedCommandsOnly (z.device.port port.0) → WorksOnUnqueuedCommandsOnly (act.state_after.device.port port.0)
     over z n act r knows None same spares here = subst (λ (d : Device). WorksOnUnqueuedCommandsOnly (d.port port.0)) (sym same) here
     over z n act r knows (Some access) does spares here = access_plain laws z.slot_states n port access z.device act.state_after.device r knows.state_relation spares does here

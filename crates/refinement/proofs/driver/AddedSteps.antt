@@ -15,7 +15,7 @@ use Rattle.block_machine.specs.Histories.{IsReachable, IsSimulatedBySteps}
 use Rattle.block_machine.proofs.EventLemmas.{after-append}
 use Rattle.refinement.specs.Slots.{SlotStates}
 use Rattle.refinement.specs.Relation.{StateRelation}
-use Rattle.refinement.specs.Driver.{MayStore, KeepsSlotStates, DriverState, DriverRelation, TapeBacksSteps, IsBackedByDeviceAlone}
+use Rattle.refinement.specs.Driver.{IsInMemoryOfFreeSlot, KeepsSlotStates, DriverState, DriverRelation, TapeBacksSteps, IsBackedByDeviceAlone}
 use Rattle.refinement.specs.Simulation.{SimulatesSteps}
 use Rattle.refinement.specs.Tape.{TellsEntry, TapeTells, TellsDeviceSteps, NoneByDevice}
 use Rattle.refinement.proofs.steps.AdapterCalls.{read_follows, load_follows, store_follows}
@@ -80,7 +80,7 @@ pub backed : (uses : SlotStates) (m : Machine) (old new : Device) → (f : Simul
 backed uses m old new f = record { telling_is_same = f.telling_is_same; new_entries = f.new_entries; tape_is = f.tape_is; tells_device_steps = tells_among m f.new_entries f.steps f.tape_tells_steps; steps_are_faithful = f.steps_are_faithful; plugged_disks_match_steps = f.plugged_disks_match_steps }
 
 pub told_then : (old mid new : Device) (m : Machine) (early late : List Step) → IsBackedByDeviceAlone old mid m early → IsBackedByDeviceAlone mid new (left.after m early) late → IsBackedByDeviceAlone old new m (late ++ early)
-told_then old mid new m early late a b = record { is_backed = backed_then old mid new m early late a.is_backed b.is_backed; all_steps_are_devices = device_append late early b.all_steps_are_devices a.all_steps_are_devices }
+told_then old mid new m early late a b = record { is_backed = backed_then old mid new m early late a.is_backed b.is_backed; all_steps_are_by_device = device_append late early b.all_steps_are_by_device a.all_steps_are_by_device }
 
 pub nothing_backed : (d : Device) (m : Machine) → TapeBacksSteps d d m []
 nothing_backed d m = record {
@@ -97,7 +97,7 @@ pub knowing_goes_on : (k : DriverState) (m : Machine) (new : Device) → DriverR
     DriverRelation (left.after m f.steps) (record k { device = new }) × IsBackedByDeviceAlone k.device new m f.steps
 knowing_goes_on k m new x f = (
   record { state_relation = f.state_relation; have_slots_unless_parked = λ port. follows_have k.slot_states m k.device new f port (k.awaiting_disposition port) (x.have_slots_unless_parked port) },
-  record { is_backed = backed k.slot_states m k.device new f; all_steps_are_devices = tells_device m f.new_entries f.steps f.tape_tells_steps },
+  record { is_backed = backed k.slot_states m k.device new f; all_steps_are_by_device = tells_device m f.new_entries f.steps f.tape_tells_steps },
 )
 
 -- what is followed, with the slots as they were used
@@ -106,7 +106,7 @@ pub follows_adds : (k : DriverState) (new : Device) → ((m : Machine) → IsRea
 follows_adds k new f = record {
   simulates = λ m r x.
       let y = f m r x.state_relation in
-      (y.steps, y.steps_are_enabled, record { state_relation = y.state_relation; have_slots_unless_parked = λ port. follows_have k.slot_states m k.device new y port (k.awaiting_disposition port) (x.have_slots_unless_parked port) }, record { is_backed = backed k.slot_states m k.device new y; all_steps_are_devices = tells_device m y.new_entries y.steps y.tape_tells_steps });
+      (y.steps, y.steps_are_enabled, record { state_relation = y.state_relation; have_slots_unless_parked = λ port. follows_have k.slot_states m k.device new y port (k.awaiting_disposition port) (x.have_slots_unless_parked port) }, record { is_backed = backed k.slot_states m k.device new y; all_steps_are_by_device = tells_device m y.new_entries y.steps y.tape_tells_steps });
 }
 
 pub device_adds : (k : DriverState) (new : Device) → Steps k.device new → IsSimulatedBySteps DriverRelation k (record k { device = new }) (IsBackedByDeviceAlone k.device new)
@@ -118,7 +118,7 @@ read_adds k r v new call = follows_adds k new (λ m reached a. read_follows k.sl
 pub load_adds : (k : DriverState) (at : ℕ) (bytes : List ℕ) (new : Device) → Loads at bytes k.device new → IsSimulatedBySteps DriverRelation k (record k { device = new }) (IsBackedByDeviceAlone k.device new)
 load_adds k at bytes new call = follows_adds k new (λ m reached a. load_follows k.slot_states m at bytes k.device new reached a call)
 
-pub store_adds : (k : DriverState) (at : ℕ) (bytes : List ℕ) (new : Device) → MayStore k.slot_states at (length bytes) → Stores at bytes k.device new → IsSimulatedBySteps DriverRelation k (record k { device = new }) (IsBackedByDeviceAlone k.device new)
+pub store_adds : (k : DriverState) (at : ℕ) (bytes : List ℕ) (new : Device) → IsInMemoryOfFreeSlot k.slot_states at (length bytes) → Stores at bytes k.device new → IsSimulatedBySteps DriverRelation k (record k { device = new }) (IsBackedByDeviceAlone k.device new)
 store_adds k at bytes new may call = follows_adds k new (λ m reached a. store_follows k.slot_states m at bytes k.device new reached a may call)
 
 pub write_adds : (k : DriverState) (r : Reg) (v : ℕ) (new : Device) → IsStable (MayWrite r v) k.device → KeepsSlotStates k.slot_states r v k.device → Writes r v k.device new → IsSimulatedBySteps DriverRelation k (record k { device = new }) (IsBackedByDeviceAlone k.device new)

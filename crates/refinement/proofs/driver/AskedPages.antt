@@ -8,7 +8,7 @@ use Rattle.std.proofs.lemmas.Option.{none-some, same_Some}
 use Rattle.adapter.specs.Access.{Access, Does}
 use Rattle.adapter.specs.Commands.{Meaning, is_queued}
 use Rattle.adapter.specs.Device.{FetchedCommand, DevicePort, Device}
-use Rattle.adapter.specs.KeptBySteps.{KeepsOverSteps, PortBitsOnlyFall}
+use Rattle.adapter.specs.KeptBySteps.{KeepsOverSteps, PortBitsOnlyFallFreeSlotsStay}
 use Rattle.adapter.specs.Memory.{changed}
 use Rattle.adapter.specs.Steps.{Can, device_after, TransitionsLead, Steps, MayMove, block_after, move_of}
 use Rattle.adapter.specs.Steps as steps
@@ -24,7 +24,7 @@ use Rattle.refinement.specs.StepLaws.{StepLaws}
 use Rattle.refinement.specs.Relation.{StateRelation}
 use Rattle.refinement.specs.Simulation.{SimulatesSteps}
 use Rattle.refinement.specs.MemoryLayout.{scratch_frame_address}
-use Rattle.refinement.specs.Slots.{SlotState, Free, Own, Serves, SlotStates, IsMove, OwnAwaitsFetch, OwnIsTaken, OwnIsOver, ServesOwn, IsOver, RelatesSlot, client_operation_of, Armed}
+use Rattle.refinement.specs.Slots.{SlotState, Free, Own, Serves, SlotStates, IsMove, OwnAwaitsFetch, OwnIsTaken, OwnIsOverWithPageIfSt, ServesOwn, IsOver, RelatesSlot, client_operation_of, Armed}
 use Rattle.refinement.specs.Tape.{OneAtMost}
 use Rattle.refinement.proofs.device.FactsOverAccesses.{access_steps}
 use Rattle.refinement.proofs.steps.EndedCommand.{own_clear}
@@ -54,7 +54,7 @@ module _ (laws : StepLaws) (uses : SlotStates) (m : Machine) (d : Device) (a : S
           none_op (sym own ∙ ap client_operation_of (sym x.1) ∙ ap (λ (c : Meaning). client_operation_of c.operation) known.meaning ∙ h.means.op_is)
       by (Own w) u h = of h.stage
         where
-          of : OwnAwaitsFetch (d.port p) slot ⊎ (OwnIsTaken d.memory d.tape (d.port p) p slot h.command ⊎ OwnIsOver d.memory d.tape (d.port p) p slot h.command) → (uses port 0 ≡ Own o) × (p ≡ port) × (slot ≡ 0)
+          of : OwnAwaitsFetch (d.port p) slot ⊎ (OwnIsTaken d.memory d.tape (d.port p) p slot h.command ⊎ OwnIsOverWithPageIfSt d.memory d.tape (d.port p) p slot h.command) → (uses port 0 ≡ Own o) × (p ≡ port) × (slot ≡ 0)
           of (inl y) = absurd (none-some _ (sym y.is_not_taken ∙ can.works.taken))
           of (inr (inr y)) = absurd (none-some _ (sym y.over.is_not_taken ∙ can.works.taken))
           of (inr (inl y)) =
@@ -90,7 +90,7 @@ module _ (laws : StepLaws) (uses : SlotStates) (m : Machine) (d : Device) (a : S
           let l = left in
           omega (arith, full, l)
 
-      of : OwnAwaitsFetch (d.port port) 0 ⊎ (OwnIsTaken d.memory d.tape (d.port port) port 0 served.command ⊎ OwnIsOver d.memory d.tape (d.port port) port 0 served.command) → IsSpent ((device_after (Move p slot t bytes) d).port port)
+      of : OwnAwaitsFetch (d.port port) 0 ⊎ (OwnIsTaken d.memory d.tape (d.port port) port 0 served.command ⊎ OwnIsOverWithPageIfSt d.memory d.tape (d.port port) port 0 served.command) → IsSpent ((device_after (Move p slot t bytes) d).port port)
       of (inl y) = absurd (none-some _ (sym y.is_not_taken ∙ taken))
       of (inr (inr y)) = absurd (none-some _ (sym y.over.is_not_taken ∙ taken))
       of (inr (inl y)) =
@@ -134,7 +134,7 @@ module _ (laws : StepLaws) (uses : SlotStates) (m : Machine) (d : Device) (a : S
   -- and it goes on having none
   step_spent : (uses port 0 ≡ Own o) → (step : steps.DeviceTransition) → Can step d → IsSpent (d.port port) → IsSpent ((device_after step d).port port)
   step_spent u step can (inl over) =
-      let k : PortBitsOnlyFall (d.port port) ((device_after step d).port port) = (laws.one_step_keeps step _ can).port_bits_only_fall port in
+      let k : PortBitsOnlyFallFreeSlotsStay (d.port port) ((device_after step d).port port) = (laws.one_step_keeps step _ can).port_bits_only_fall port in
       inl (record { is_not_issued = k.ci_stays_clear 0 over.is_not_issued; is_not_taken = k.slots_stay_free 0 over.is_not_issued over.is_not_taken })
   step_spent u step can (inr (t, is, all)) = by step can
     where
@@ -144,7 +144,7 @@ module _ (laws : StepLaws) (uses : SlotStates) (m : Machine) (d : Device) (a : S
       taken : OwnIsTaken d.memory d.tape (d.port port) port 0 served.command
       taken = of served.stage
         where
-          of : OwnAwaitsFetch (d.port port) 0 ⊎ (OwnIsTaken d.memory d.tape (d.port port) port 0 served.command ⊎ OwnIsOver d.memory d.tape (d.port port) port 0 served.command) → OwnIsTaken d.memory d.tape (d.port port) port 0 served.command
+          of : OwnAwaitsFetch (d.port port) 0 ⊎ (OwnIsTaken d.memory d.tape (d.port port) port 0 served.command ⊎ OwnIsOverWithPageIfSt d.memory d.tape (d.port port) port 0 served.command) → OwnIsTaken d.memory d.tape (d.port port) port 0 served.command
           of (inl y) = absurd (none-some _ (sym y.is_not_taken ∙ is))
           of (inr (inl y)) = y
           of (inr (inr y)) = absurd (none-some _ (sym y.over.is_not_taken ∙ is))
@@ -179,7 +179,7 @@ module _ (laws : StepLaws) (uses : SlotStates) (m : Machine) (d : Device) (a : S
           (cases_eq slot 0)
       by (Done p slot flag z) can = ⊎_elim
           (λ (f : slot ≡ 0). at_port (λ x. x.taken 0 ≡ Some t) IsSpent d p port _ is
-          (λ e x. inl (subst (λ (s : ℕ). IsOver (steps.port_with_lasting_after_operation (steps.port_after_done (d.port p) s flag z.meaning.operation) z.meaning.operation (length d.tape)) 0) (sym f) (record {
+          (λ e x. inl (subst (λ (s : ℕ). IsOver (steps.port_with_lasting_after_operation (steps.port_after_done_except_lasting (d.port p) s flag z.meaning.operation) z.meaning.operation (length d.tape)) 0) (sym f) (record {
             is_not_issued = own_clear (is_queued z.meaning.operation) (d.port p).ci 0 (subst (λ (y : FetchedCommand). is_queued y.meaning.operation ≡ false) (at_slot p slot z e f can.works.taken) plain);
             is_not_taken = changed_same (d.port p).taken 0 None;
           })))

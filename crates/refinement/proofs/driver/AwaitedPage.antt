@@ -30,12 +30,12 @@ use Rattle.block_machine.specs.State.{Machine}
 use Rattle.refinement.specs.StepLaws.{StepLaws}
 use Rattle.refinement.specs.Relation.{StateRelation}
 use Rattle.refinement.specs.AwaitedPage.{Slot0IsIssuedAndUnmoved, PageHasCome, AwaitsOrHasPage}
-use Rattle.refinement.specs.Driver.{IsOwnPrepared}
-use Rattle.refinement.specs.PortFacts.{FollowsAndHasPageSinceStart}
+use Rattle.refinement.specs.Driver.{IsOwnCommandPreparedInSlot0}
+use Rattle.refinement.specs.PortFacts.{FollowsAndHasPageSinceStSet}
 use Rattle.refinement.specs.Simulation.{SimulatesSteps}
 use Rattle.refinement.specs.MemoryLayout.{scratch_frame_address}
-use Rattle.refinement.specs.Slots.{SlotState, Own, SlotStates, set_slot_state, IsMove, IsOver, PageStandsInScratch, OwnAwaitsFetch, OwnIsTaken, OwnIsOver, ServesOwn, RelatesSlot, client_operation_of}
-use Rattle.refinement.specs.StartedPort.{ClearsNoStart}
+use Rattle.refinement.specs.Slots.{SlotState, Own, SlotStates, set_slot_state, IsMove, IsOver, PageCameSinceAndStandsInScratch, OwnAwaitsFetch, OwnIsTaken, OwnIsOverWithPageIfSt, ServesOwn, RelatesSlot, client_operation_of}
+use Rattle.refinement.specs.StartedPort.{WritesCmdOnlyWithStSet}
 use Rattle.refinement.proofs.driver.IssueWrite.{own_prepared_stays}
 use Rattle.refinement.proofs.device.FactsOverAccesses.{access_steps, effect_keeps}
 use Rattle.refinement.proofs.driver.EndedRequests.{page_is_read, page_is_loaded}
@@ -86,7 +86,7 @@ not_later IsKind (y ∷ before) last later (x ∷ early) e late same none is =
     omega (arith, less)
 
 -- so the page that stands in the scratch frame came since then
-brought_since : (memory : ℕ → ℕ) (tape : List Entry) (port : ℕ) (o : Operation) (since n : ℕ) → PageHasCome tape port o since → (b : PageStandsInScratch memory tape port o n) → (c : PageStandsInScratch memory tape port o since) × (c.move ≡ b.move)
+brought_since : (memory : ℕ → ℕ) (tape : List Entry) (port : ℕ) (o : Operation) (since n : ℕ) → PageHasCome tape port o since → (b : PageCameSinceAndStandsInScratch memory tape port o n) → (c : PageCameSinceAndStandsInScratch memory tape port o since) × (c.move ≡ b.move)
 brought_since memory tape port o since n h b = (
   record {
     before = b.before;
@@ -127,7 +127,7 @@ module _ (uses : SlotStates) (m : Machine) (d : Device) (a : StateRelation uses 
   taken_of : (t : FetchedCommand) → (d.port port).taken 0 ≡ Some t → (t.meaning ≡ served.command) × (t.places ≡ scratch_frame_address port ∷ [])
   taken_of t is = of served.stage
     where
-      of : OwnAwaitsFetch (d.port port) 0 ⊎ (OwnIsTaken d.memory d.tape (d.port port) port 0 served.command ⊎ OwnIsOver d.memory d.tape (d.port port) port 0 served.command) → (t.meaning ≡ served.command) × (t.places ≡ scratch_frame_address port ∷ [])
+      of : OwnAwaitsFetch (d.port port) 0 ⊎ (OwnIsTaken d.memory d.tape (d.port port) port 0 served.command ⊎ OwnIsOverWithPageIfSt d.memory d.tape (d.port port) port 0 served.command) → (t.meaning ≡ served.command) × (t.places ≡ scratch_frame_address port ∷ [])
       of (inl y) = absurd (none-some _ (sym y.is_not_taken ∙ is))
       of (inr (inl y)) =
           let same : y.command ≡ t = same_Some _ _ (sym y.taken ∙ is) in
@@ -266,7 +266,7 @@ written_un Cmd v tape p on h =
 written_un Ci v tape p on h = (or_left (p.ci 0) (bit v 0) h.0, h.1)
 written_un _ v tape p on h = h
 
-pub access_waits : StepLaws → (uses : SlotStates) (m : Machine) (port : Port) (o : Operation) (since : ℕ) (access : Access) (old new : Device) → IsReachable m → StateRelation uses m old → ClearsNoStart port access → new.hr ≡ false → Does access old new →
+pub access_waits : StepLaws → (uses : SlotStates) (m : Machine) (port : Port) (o : Operation) (since : ℕ) (access : Access) (old new : Device) → IsReachable m → StateRelation uses m old → WritesCmdOnlyWithStSet port access → new.hr ≡ false → Does access old new →
     AwaitsOrHasPage uses port.0 o since old → AwaitsOrHasPage uses port.0 o since new
 access_waits laws uses m port o since access old new r a keeps off x w =
     let s = access_steps access old new x in
@@ -288,11 +288,11 @@ access_waits laws uses m port o since access old new r a keeps off x w =
 
 -- ---- it is issued, found and loaded
 
-pub page_is_issued : StepLaws → (uses : SlotStates) (m : Machine) (port : Port) (o : Operation) (v : ℕ) (old new : Device) → IsReachable m → StateRelation uses m old → old.hr ≡ false → IsOwnPrepared uses old port.0 o v → Writes (Px port Ci) v old new →
+pub page_is_issued : StepLaws → (uses : SlotStates) (m : Machine) (port : Port) (o : Operation) (v : ℕ) (old new : Device) → IsReachable m → StateRelation uses m old → old.hr ≡ false → IsOwnCommandPreparedInSlot0 uses old port.0 o v → Writes (Px port Ci) v old new →
     AwaitsOrHasPage (set_slot_state uses port.0 0 (Own o)) port.0 o (length new.tape) new
 page_is_issued laws uses m port o v old new r a off x call =
     let f : SimulatesSteps uses m old call.at_access = steps_follow uses m old call.at_access r a call.steps in
-    let y : IsOwnPrepared uses call.at_access port.0 o v = own_prepared_stays uses m old call.at_access port.0 o v r a off call.steps x in
+    let y : IsOwnCommandPreparedInSlot0 uses call.at_access port.0 o v = own_prepared_stays uses m old call.at_access port.0 o v r a off call.steps x in
     let over : IsOver (call.at_access.port port.0) 0 = own_over uses (left.after m f.steps) call.at_access f.state_relation port.0 o v y in
     let is : new.port port.0 ≡ issued_port (call.at_access.port port.0) v = ap (λ (d : Device). d.port port.0) call.effect ∙ changed_same call.at_access.port port.0 _ in
     record {
@@ -311,19 +311,19 @@ come_of : (uses : SlotStates) (port : ℕ) (o : Operation) (since : ℕ) (d : De
 come_of uses port o since d w clear = ⊎_elim (λ (x : Slot0IsIssuedAndUnmoved (d.port port)). absurd (both_ways _ clear x.issued)) (λ (x : PageHasCome d.tape port o since). x) w.page_is_awaited_or_came
 
 pub law_page_is_awaited : StepLaws → (uses : SlotStates) (m : Machine) (port : Port) (o : Operation) (since v : ℕ) (old new : Device) → IsReachable m → StateRelation uses m old → AwaitsOrHasPage uses port.0 o since old → Reads (Px port Ci) v old new → bit v 0 ≡ false →
-    FollowsAndHasPageSinceStart uses m port.0 o old new × PageStandsInScratch new.memory new.tape port.0 o since
+    FollowsAndHasPageSinceStSet uses m port.0 o old new × PageCameSinceAndStandsInScratch new.memory new.tape port.0 o since
 law_page_is_awaited laws uses m port o since v old new r a w call clear =
-    let page : FollowsAndHasPageSinceStart uses m port.0 o old new = page_is_read laws uses m port o v old new r a w.hr_is_clear w.st_is_set w.slot_0_has_own_command call clear in
+    let page : FollowsAndHasPageSinceStSet uses m port.0 o old new = page_is_read laws uses m port o v old new r a w.hr_is_clear w.st_is_set w.slot_0_has_own_command call clear in
     let y : AwaitsOrHasPage uses port.0 o since call.at_access = steps_wait laws uses m port.0 o since old call.at_access r a call.steps w in
     let come : PageHasCome call.at_access.tape port.0 o since = come_of uses port.0 o since call.at_access y (sym (call.shows 0 (omega arith)) ∙ clear) in
     let there : PageHasCome new.tape port.0 o since = subst (λ (t : List Entry). PageHasCome t port.0 o since) (sym (ap (λ (d : Device). d.tape) call.effect)) come in
-    (page, (brought_since new.memory new.tape port.0 o since (new.port port.0).notes.st_set_at there page.page_is_in_scratch).0)
+    (page, (brought_since new.memory new.tape port.0 o since (new.port port.0).notes.st_set_at there page.page_since_st_set_is_in_scratch).0)
 
 pub awaited_is_loaded : StepLaws → (uses : SlotStates) (m : Machine) (port : ℕ) (o : Operation) (since : ℕ) (bytes : List ℕ) (old new : Device) → IsReachable m → StateRelation uses m old → AwaitsOrHasPage uses port o since old → IsOver (old.port port) 0 →
-    Loads (scratch_frame_address port) bytes old new → length bytes ≡ 512 → (b : PageStandsInScratch new.memory new.tape port o since) × (bytes ≡ b.move.bytes.value)
+    Loads (scratch_frame_address port) bytes old new → length bytes ≡ 512 → (b : PageCameSinceAndStandsInScratch new.memory new.tape port o since) × (bytes ≡ b.move.bytes.value)
 awaited_is_loaded laws uses m port o since bytes old new r a w over call size =
     let page = page_is_loaded laws uses m port o bytes old new r a w.hr_is_clear w.st_is_set w.slot_0_has_own_command over call size in
     let y : AwaitsOrHasPage uses port o since new = steps_wait laws uses m port o since old new r a call.steps w in
     let come : PageHasCome new.tape port o since = come_of uses port o since new y (((laws.steps_keep _ _ call.steps).port_bits_only_fall port).ci_stays_clear 0 over.is_not_issued) in
-    let b = brought_since new.memory new.tape port o since (new.port port).notes.st_set_at come page.0.page_is_in_scratch in
+    let b = brought_since new.memory new.tape port o since (new.port port).notes.st_set_at come page.0.page_since_st_set_is_in_scratch in
     (b.0, page.1 ∙ ap (λ (x : tape_move.Move). x.bytes.value) (sym b.1))

@@ -76,7 +76,7 @@ client_stores laws k m client frame offset bytes new r knows may call =
     let all : TapeBacksSteps k.device call.at_access m (Store client frame offset bytes ∷ f.steps) = backed_then k.device call.at_access call.at_access m f.steps (Store client frame offset bytes ∷ []) first (own_backed call.at_access (left.after m f.steps) (Store client frame offset bytes) (λ z. z)) in
     record {
       steps = f.steps;
-      all_steps_are_devices = tells_device m f.new_entries f.steps f.tape_tells_steps;
+      all_steps_are_by_device = tells_device m f.new_entries f.steps f.tape_tells_steps;
       steps_are_enabled = (f.steps_are_enabled, opens);
       is_backed = subst (λ (d : Device). TapeBacksSteps k.device d m (Store client frame offset bytes ∷ f.steps)) (sym call.effect)
           (record { telling_is_same = all.telling_is_same; new_entries = all.new_entries; tape_is = all.tape_is; tells_device_steps = all.tells_device_steps; steps_are_faithful = all.steps_are_faithful; plugged_disks_match_steps = all.plugged_disks_match_steps });
@@ -99,7 +99,7 @@ client_loads laws k m client frame offset bytes new r knows may call =
     let first : TapeBacksSteps k.device new m f.steps = backed k.slot_states m k.device new f in
     record {
       steps = f.steps;
-      all_steps_are_devices = tells_device m f.new_entries f.steps f.tape_tells_steps;
+      all_steps_are_by_device = tells_device m f.new_entries f.steps f.tape_tells_steps;
       steps_are_enabled = (
         f.steps_are_enabled,
         (

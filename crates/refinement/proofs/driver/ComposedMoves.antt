@@ -43,7 +43,7 @@ pub goes_ending : (k later : DriverState) (m : Machine) (own : List Step) → (e
 goes_ending k later m own e = record { steps_are_enabled = e.steps_are_enabled; is_backed = e.is_backed; driver_relation = e.driver_relation }
 
 pub goes_access : (k later : DriverState) (m : Machine) → IsSimulatedBySteps DriverRelation k later (IsBackedByDeviceAlone k.device later.device) → IsReachable m → DriverRelation m k → (steps : List Step) × AllByDevice steps × DriverAdvances k m steps later
-goes_access k later m adds reached x = let y = adds.simulates m reached x in (y.0, y.3.all_steps_are_devices, goes_device k later m y.0 y.1 y.3 y.2)
+goes_access k later m adds reached x = let y = adds.simulates m reached x in (y.0, y.3.all_steps_are_by_device, goes_device k later m y.0 y.1 y.3 y.2)
 
 pub goes_part : (k later : DriverState) (m : Machine) → IsSimulatedBySteps DriverRelation k later (TapeBacksSteps k.device later.device) → IsReachable m → DriverRelation m k → (steps : List Step) × DriverAdvances k m steps later
 goes_part k later m adds reached x = let y = adds.simulates m reached x in (y.0, record { steps_are_enabled = y.1; is_backed = y.3; driver_relation = y.2 })

@@ -22,13 +22,13 @@ use Rattle.block_machine.specs.Expected as left
 use Rattle.block_machine.specs.State.{Machine}
 use Rattle.refinement.specs.StepLaws.{StepLaws}
 use Rattle.refinement.specs.Relation.{StateRelation}
-use Rattle.refinement.specs.Driver.{IsOwnPrepared}
+use Rattle.refinement.specs.Driver.{IsOwnCommandPreparedInSlot0}
 use Rattle.refinement.specs.PortFacts.{RunsWell, PxisValueTellsNoTrouble}
 use Rattle.refinement.specs.Simulation.{SimulatesSteps}
 use Rattle.refinement.specs.PreservedParts.{DoesNotWrite}
 use Rattle.refinement.proofs.device.ClearSactBits.{free_unarmed, steps_clear}
-use Rattle.refinement.specs.Slots.{SlotState, Free, Armed, Own, Serves, SlotStates, set_slot_state, IsInSomeStage, OwnAwaitsFetch, OwnIsTaken, OwnIsOver, IsEmptySlot, IsOver, RelatesSlot}
-use Rattle.refinement.specs.StartedPort.{ClearsNoStart}
+use Rattle.refinement.specs.Slots.{SlotState, Free, Armed, Own, Serves, SlotStates, set_slot_state, IsInSomeStage, OwnAwaitsFetch, OwnIsTaken, OwnIsOverWithPageIfSt, IsEmptySlot, IsOver, RelatesSlot}
+use Rattle.refinement.specs.StartedPort.{WritesCmdOnlyWithStSet}
 use Rattle.refinement.proofs.relation.OneSlot.{changed_at}
 use Rattle.refinement.proofs.device.BootedPort.{well_is_told}
 use Rattle.refinement.proofs.driver.IssueWrite.{own_prepared_stays}
@@ -58,7 +58,7 @@ taken_issued uses m d port slot t a st clear is = by (uses port slot) (a.relates
     by Armed h = absurd (none-some _ (sym h.is_not_taken ∙ is))
     by (Own o) h = of h.stage
       where
-        of : OwnAwaitsFetch (d.port port) slot ⊎ (OwnIsTaken d.memory d.tape (d.port port) port slot h.command ⊎ OwnIsOver d.memory d.tape (d.port port) port slot h.command) → (d.port port).ci slot ≡ true
+        of : OwnAwaitsFetch (d.port port) slot ⊎ (OwnIsTaken d.memory d.tape (d.port port) port slot h.command ⊎ OwnIsOverWithPageIfSt d.memory d.tape (d.port port) port slot h.command) → (d.port port).ci slot ≡ true
         of (inl w) = w.issued
         of (inr (inl x)) = x.issued ∙ st
         of (inr (inr x)) = absurd (none-some _ (sym x.over.is_not_taken ∙ is))
@@ -151,7 +151,7 @@ written_ends Sact v tape p on other h = absurd (other refl)
 written_ends Ci v tape p on other h = (h.0, h.1, ⊎_elim (λ (i : p.ci 0 ≡ true). inl (or_left (p.ci 0) (bit v 0) i)) (λ (r : p.halt ≡ NotHalted). inr r) h.2)
 written_ends _ v tape p on other h = h
 
-pub access_ends : StepLaws → (uses : SlotStates) (m : Machine) (port : Port) (access : Access) (old new : Device) → IsReachable m → StateRelation uses m old → ClearsNoStart port access → DoesNotWrite (Px port Sact) access → new.hr ≡ false → Does access old new →
+pub access_ends : StepLaws → (uses : SlotStates) (m : Machine) (port : Port) (access : Access) (old new : Device) → IsReachable m → StateRelation uses m old → WritesCmdOnlyWithStSet port access → DoesNotWrite (Px port Sact) access → new.hr ≡ false → Does access old new →
     PlainSlot0IsIssuedOrNotHalted uses port.0 old → PlainSlot0IsIssuedOrNotHalted uses port.0 new
 access_ends laws uses m port access old new r a keeps spares off x h =
     let s = access_steps access old new x in
@@ -169,9 +169,9 @@ or_set true c e = refl
 or_set false c e = e
 
 pub issued_ends : StepLaws → (uses : SlotStates) (m : Machine) (port : Port) (o : Operation) (v : ℕ) (old new : Device) → IsReachable m → StateRelation uses m old → old.hr ≡ false → ((slot : ℕ) → slot ≢ 0 → uses port.0 slot ≡ Free) →
-    IsOwnPrepared uses old port.0 o v → Writes (Px port Ci) v old new → PlainSlot0IsIssuedOrNotHalted (set_slot_state uses port.0 0 (Own o)) port.0 new
+    IsOwnCommandPreparedInSlot0 uses old port.0 o v → Writes (Px port Ci) v old new → PlainSlot0IsIssuedOrNotHalted (set_slot_state uses port.0 0 (Own o)) port.0 new
 issued_ends laws uses m port o v old new r a off alone x call =
-    let y : IsOwnPrepared uses call.at_access port.0 o v = own_prepared_stays uses m old call.at_access port.0 o v r a off call.steps x in
+    let y : IsOwnCommandPreparedInSlot0 uses call.at_access port.0 o v = own_prepared_stays uses m old call.at_access port.0 o v r a off call.steps x in
     let is : new.port port.0 ≡ port_after_write Ci v (length call.at_access.tape) (call.at_access.port port.0) = ap (λ (d : Device). d.port port.0) call.effect ∙ changed_same call.at_access.port port.0 _ in
     record {
       hr_is_clear = ap (λ (d : Device). d.hr) call.effect ∙ ((laws.steps_keep _ _ call.steps).keeps_outside_reset off).no_reset;

@@ -11,16 +11,16 @@ use Rattle.hba_regs.specs.declared.reg.PortReg.TheVariants.{Clb, Clbu, Fb, Fbu, 
 use Rattle.adapter.specs.Access.{Access, Does, port_after_write, port_after_st_write, port_after_fre_write}
 use Rattle.adapter.specs.Access.Access.{Writing}
 use Rattle.adapter.specs.Device.{DevicePort, Device}
-use Rattle.adapter.specs.KeptBySteps.{PortBitsOnlyFall}
+use Rattle.adapter.specs.KeptBySteps.{PortBitsOnlyFallFreeSlotsStay}
 use Rattle.adapter.specs.Steps.{Steps}
 use Rattle.block_machine.specs.Events.{AllByDevice}
 use Rattle.block_machine.specs.Expected.{after}
 use Rattle.block_machine.specs.State.{Accepted, Pending, Machine}
 use Rattle.block_machine.specs.Steps.{Step, MayStillMove, NoneKept}
 use Rattle.refinement.specs.StepLaws.{StepLaws}
-use Rattle.refinement.specs.PortFacts.{EndedIn, IsSlotClear}
+use Rattle.refinement.specs.PortFacts.{EndedOnPort, IsSlotClear}
 use Rattle.refinement.specs.Slots.{IsOver}
-use Rattle.refinement.specs.SparedBook.{IsAsFarOrFurther, KeepsLoansAndBookOnlyAdvances}
+use Rattle.refinement.specs.SparedBook.{IsAsFarOrFurther, KeepsLoansAndPendingsOnlyAdvance}
 use Rattle.refinement.proofs.device.FactsOverAccesses.{access_steps, effect_keeps}
 use Rattle.refinement.proofs.steps.SparedBook.{steps_spare, entry_is_found_in_later_book}
 use Rattle.refinement.proofs.device.ClearSactBits.{if_false}
@@ -30,7 +30,7 @@ use Rattle.refinement.proofs.steps.RegisterWrites.{or_false}
 
 pub steps_over : StepLaws → (port slot : ℕ) (old new : Device) → Steps old new → IsOver (old.port port) slot → IsOver (new.port port) slot
 steps_over laws port slot old new s h =
-    let k : PortBitsOnlyFall (old.port port) (new.port port) = (laws.steps_keep _ _ s).port_bits_only_fall port in
+    let k : PortBitsOnlyFallFreeSlotsStay (old.port port) (new.port port) = (laws.steps_keep _ _ s).port_bits_only_fall port in
     record { is_not_issued = k.ci_stays_clear slot h.is_not_issued; is_not_taken = k.slots_stay_free slot h.is_not_issued h.is_not_taken }
 
 pub steps_clear : StepLaws → (port slot : ℕ) (old new : Device) → Steps old new → IsSlotClear (old.port port) slot → IsSlotClear (new.port port) slot
@@ -94,13 +94,13 @@ access_clear laws port slot access old new ci sact x h =
 
 -- ---- its request
 
-pub ended_stays : (m : Machine) (steps : List Step) (port : Port) (id : RequestId) → AllByDevice steps → EndedIn m port id → EndedIn (after m steps) port id
+pub ended_stays : (m : Machine) (steps : List Step) (port : Port) (id : RequestId) → AllByDevice steps → EndedOnPort m port id → EndedOnPort (after m steps) port id
 ended_stays m steps port id is h = ⊎_elim booked kept h.may_still_move
   where
-    spares : KeepsLoansAndBookOnlyAdvances m (after m steps)
+    spares : KeepsLoansAndPendingsOnlyAdvance m (after m steps)
     spares = steps_spare m steps is
 
-    ended : (x : Pending) → IsAsFarOrFurther h.pending x → MayStillMove (after m steps) x → (NoneKept (after m steps) port → Contains (after m steps).book x) → EndedIn (after m steps) port id
+    ended : (x : Pending) → IsAsFarOrFurther h.pending x → MayStillMove (after m steps) x → (NoneKept (after m steps) port → Contains (after m steps).book x) → EndedOnPort (after m steps) port id
     ended x f moves booked = record {
       pending = x;
       may_still_move = moves;
@@ -108,15 +108,15 @@ ended_stays m steps port id is h = ⊎_elim booked kept h.may_still_move
       port_is = ap (λ (r : Accepted). r.port) f.request ∙ h.port_is;
       ended = f.ended h.ended;
       all_are_touched = λ i lt. f.touched i (h.all_are_touched i (subst (λ (r : Accepted). i < r.asked.count) f.request lt));
-      stands_in_book = booked;
+      in_book_if_none_kept = booked;
     }
 
-    booked : Contains m.book h.pending × (h.pending.issued ≡ true) → EndedIn (after m steps) port id
+    booked : Contains m.book h.pending × (h.pending.issued ≡ true) → EndedOnPort (after m steps) port id
     booked z =
         let q = entry_is_found_in_later_book m.book (after m steps).book h.pending spares.book z.0 in
         ended q.0 q.2 (inl (q.1, q.2.issued ∙ z.1)) (λ none. q.1)
 
-    kept : Contains m.kept h.pending → EndedIn (after m steps) port id
+    kept : Contains m.kept h.pending → EndedOnPort (after m steps) port id
     kept z =
         let q = entry_is_found_in_later_book m.kept (after m steps).kept h.pending spares.kept z in
         ended q.0 q.2 (inr q.1) (λ none. absurd (none q.0 q.1 (ap (λ (r : Accepted). r.port) q.2.request ∙ h.port_is)))

@@ -15,7 +15,7 @@ use Rattle.refinement.specs.Slots.{SlotState, Free, Armed, Own, Serves, SlotStat
 use Rattle.refinement.proofs.relation.OneSlot.{changed_at}
 use Rattle.refinement.proofs.driver.PutSlot.{serves_not_free, serves_same}
 use Rattle.refinement.proofs.device.ClearSactBits.{over_unarmed}
-use Rattle.refinement.specs.GivingUp.{AreSlotsOverAndUnarmedIfSt, prepend_slot_request, ids_in_slots, with_all_parked}
+use Rattle.refinement.specs.GivingUp.{AllOverAndNoArmedStateIfSt, prepend_slot_request, ids_in_slots, with_all_parked}
 
 -- ---- the requests that are served
 
@@ -100,7 +100,7 @@ module _ (k : DriverState) (port : ℕ) where
   pub parking_leaves_all : (id : RequestId) → HasNoSlot k.slot_states id → HasNoSlot (with_all_parked k port).slot_states id
   parking_leaves_all id none q s v = none q s (still q s id v).1
 
-  module _ (m : Machine) (over : AreSlotsOverAndUnarmedIfSt k.slot_states (k.device.port port) port) where
+  module _ (m : Machine) (over : AllOverAndNoArmedStateIfSt k.slot_states (k.device.port port) port) where
     is_free : StateRelation k.slot_states m k.device → (slot : ℕ) → IsEmptySlot (k.device.port port) slot
     is_free a slot = record { is_not_issued = (over slot).0.is_not_issued; is_not_taken = (over slot).0.is_not_taken; unarmed = by (k.slot_states port slot) refl (a.relates_slots port slot) }
       where
@@ -140,7 +140,7 @@ module _ (k : DriverState) (port : ℕ) where
             (λ (ne : q ≡ port → ⊥). inr (slot, ap (λ (f : ℕ → SlotState). f slot) (changed_other k.slot_states port (λ s. Free) q ne) ∙ u))
             (cases_eq q port)
 
-pub given_up_over : (k : DriverState) (m : Machine) (port : ℕ) → DriverRelation m k → AreSlotsOverAndUnarmedIfSt k.slot_states (k.device.port port) port → DriverRelation m (with_all_parked k port)
+pub given_up_over : (k : DriverState) (m : Machine) (port : ℕ) → DriverRelation m k → AllOverAndNoArmedStateIfSt k.slot_states (k.device.port port) port → DriverRelation m (with_all_parked k port)
 given_up_over k m port x over = all_given_up k port m over x
 
 pub given_up_halted : (k : DriverState) (m : Machine) (port : ℕ) → DriverRelation m k → IsEngineStopped (k.device.port port) → DriverRelation m (with_all_parked k port)

@@ -14,7 +14,7 @@ use Rattle.adapter.specs.declared.tape.Entry.{Entry}
 use Rattle.adapter.proofs.KeptLemmas.{law_step_lists_keep_what_steps_keep}
 use Rattle.block_machine.specs.declared.due.QueueMode.{QueueMode}
 use Rattle.block_machine.specs.State.{Pending, Machine}
-use Rattle.block_machine.specs.Steps.{Step, Accept, Issue, Touch, End, Age, WaitAgain, Answer, Revoke, Release, Unplug, Replace, Store, Load}
+use Rattle.block_machine.specs.Steps.{Step, Accept, Issue, Touch, End, Age, WaitAgain, Answer, Revoke, Release, Unplug, PlugDisk, Store, Load}
 use Rattle.block_machine.specs.Events.{IsByDevice}
 use Rattle.block_machine.specs.Expected as left
 use Rattle.block_machine.specs.Expected.{StepIsFaithful}
@@ -24,7 +24,7 @@ use Rattle.refinement.specs.MemoryLayout.{scratch_frame_address}
 use Rattle.refinement.specs.Slots.{SlotState, Free, Own, Serves, SlotStates, set_slot_state, Armed}
 use Rattle.refinement.specs.Relation.{StateRelation}
 use Rattle.refinement.specs.Fragments.{IsSoleBit}
-use Rattle.refinement.specs.Driver.{DriverState, DriverRelation, TapeBacksSteps, IsBackedByDeviceAlone, DriverAdvances, IsPrepared, IsOwnPrepared, with_slot_serving, KeepsTablesAndScratchUnlessOwn}
+use Rattle.refinement.specs.Driver.{DriverState, DriverRelation, TapeBacksSteps, IsBackedByDeviceAlone, DriverAdvances, IsRequestPreparedToIssue, IsOwnCommandPreparedInSlot0, with_slot_serving, KeepsTablesAndScratchUnlessOwn}
 use Rattle.refinement.specs.Simulation.{SimulatesSteps}
 use Rattle.refinement.proofs.driver.AddedSteps.{backed, nothing_backed}
 use Rattle.refinement.proofs.steps.FollowedSteps.{steps_follow}
@@ -36,7 +36,7 @@ use Rattle.refinement.proofs.steps.WaitingRequests.{follows_have, tells_device}
 use Rattle.refinement.proofs.steps.RegisterWrites.{write_effect}
 
 pub own_prepared_stays : (uses : SlotStates) (m : Machine) (old mid : Device) (port : ℕ) (o : Operation) (v : ℕ) → IsReachable m → StateRelation uses m old → old.hr ≡ false →
-    Steps old mid → IsOwnPrepared uses old port o v → IsOwnPrepared uses mid port o v
+    Steps old mid → IsOwnCommandPreparedInSlot0 uses old port o v → IsOwnCommandPreparedInSlot0 uses mid port o v
 own_prepared_stays uses m old mid port o v r a calm s x =
     let k : KeepsOverSteps old mid = law_step_lists_keep_what_steps_keep s in
     let c : KeepsOutsideReset old mid = k.keeps_outside_reset calm in
@@ -71,7 +71,7 @@ own_backed d m step own = record {
     told (Touch e i block) o = absurd (o tt)
     told (End e) o = tt
     told (Unplug port) o = tt
-    told (Replace port name size disk) o = absurd (o tt)
+    told (PlugDisk port name size disk) o = absurd (o tt)
     told (Accept r) o = tt
     told (Issue mode e) o = tt
     told (Age ready) o = tt
@@ -83,7 +83,7 @@ own_backed d m step own = record {
     told (Load client frame offset bytes) o = tt
 
     puts : (s : Step) → (IsByDevice s → ⊥) → (q : ℕ) → PutsInDisks q [] (s ∷ [])
-    puts (Replace port name size disk) o q = absurd (o tt)
+    puts (PlugDisk port name size disk) o q = absurd (o tt)
     puts (Touch e i block) o q = refl
     puts (End e) o q = refl
     puts (Unplug port) o q = refl
@@ -123,7 +123,7 @@ bit_arms k m port slot v knows free st sole = record {
 }
 
 -- a request is issued
-pub bit_issues : (k : DriverState) (m : Machine) (port : Port) (slot : ℕ) (mode : QueueMode) (e : Pending) (v : ℕ) → IsReachable m → DriverRelation m k → IsPrepared k.slot_states m k.device port.0 slot mode e v →
+pub bit_issues : (k : DriverState) (m : Machine) (port : Port) (slot : ℕ) (mode : QueueMode) (e : Pending) (v : ℕ) → IsReachable m → DriverRelation m k → IsRequestPreparedToIssue k.slot_states m k.device port.0 slot mode e v →
     DriverAdvances k m (Issue mode e ∷ []) (with_slot_serving k port.0 slot e.request.id (device_after_write (Px port px.Ci) v k.device))
 bit_issues k m port slot mode e v reached knows x = record {
   steps_are_enabled = (tt, x.issue_is_enabled);
@@ -137,12 +137,12 @@ bit_issues k m port slot mode e v reached knows x = record {
 -- ---- a command of the driver's own
 
 -- a command of the driver's own is issued: no step of the machine
-pub own_adds : (k : DriverState) (port : Port) (o : Operation) (v : ℕ) (new : Device) → k.device.hr ≡ false → IsOwnPrepared k.slot_states k.device port.0 o v → Writes (Px port px.Ci) v k.device new →
+pub own_adds : (k : DriverState) (port : Port) (o : Operation) (v : ℕ) (new : Device) → k.device.hr ≡ false → IsOwnCommandPreparedInSlot0 k.slot_states k.device port.0 o v → Writes (Px port px.Ci) v k.device new →
     IsSimulatedBySteps DriverRelation k (record k { slot_states = set_slot_state k.slot_states port.0 0 (Own o); device = new }) (IsBackedByDeviceAlone k.device new)
 own_adds k port o v new calm x call = record {
   simulates = λ m r knows.
       let f : SimulatesSteps k.slot_states m k.device call.at_access = steps_follow k.slot_states m k.device call.at_access r knows.state_relation call.steps in
-      let y : IsOwnPrepared k.slot_states call.at_access port.0 o v = own_prepared_stays k.slot_states m k.device call.at_access port.0 o v r knows.state_relation calm call.steps x in
+      let y : IsOwnCommandPreparedInSlot0 k.slot_states call.at_access port.0 o v = own_prepared_stays k.slot_states m k.device call.at_access port.0 o v r knows.state_relation calm call.steps x in
       let g : SimulatesSteps (set_slot_state k.slot_states port.0 0 (Own o)) m k.device new = write_effect k.slot_states (set_slot_state k.slot_states port.0 0 (Own o)) m (Px port px.Ci) v k.device new call f (own_agrees k.slot_states (left.after m f.steps) call.at_access f.state_relation port.0 o v y) in (
         g.steps,
         g.steps_are_enabled,
@@ -150,7 +150,7 @@ own_adds k port o v new calm x call = record {
           state_relation = g.state_relation;
           have_slots_unless_parked = λ q. follows_have (set_slot_state k.slot_states port.0 0 (Own o)) m k.device new g q (k.awaiting_disposition q) (put_have k.slot_states m port.0 0 (Own o) q (k.awaiting_disposition q) (λ id u. free_serves x.free u) (knows.have_slots_unless_parked q));
         },
-        record { is_backed = backed (set_slot_state k.slot_states port.0 0 (Own o)) m k.device new g; all_steps_are_devices = tells_device m g.new_entries g.steps g.tape_tells_steps },
+        record { is_backed = backed (set_slot_state k.slot_states port.0 0 (Own o)) m k.device new g; all_steps_are_by_device = tells_device m g.new_entries g.steps g.tape_tells_steps },
       );
 }
   where

@@ -7,7 +7,7 @@ use Rattle.ata_types.specs.declared.request.RequestId.{RequestId}
 use Rattle.block_machine.specs.State.{Pending, Machine}
 use Rattle.block_machine.specs.Steps.{Step, Accept, Issue, Touch, End, Age, WaitAgain, Answer, Release, NoneKept, after_step, newly_accepted, newly_issued, touch, mark_ended, aged_pending, requeued, is_kept_at_answer}
 use Rattle.block_machine.proofs.Members.{into_map, contains_there}
-use Rattle.refinement.specs.PortFacts.{EndedIn}
+use Rattle.refinement.specs.PortFacts.{EndedOnPort}
 use Rattle.refinement.specs.SparedBook.{IsNotStepOfPendingRequest}
 use Rattle.refinement.proofs.driver.OwnSteps.{older_is, without_into}
 use Rattle.refinement.proofs.relation.TouchesAndEnds.{into_other}
@@ -45,7 +45,7 @@ stays_aged : (m : Machine) (step : Step) (e : Pending) → IsNotStepOfPendingReq
 stays_aged m (Age ready) e other here = ((aged_pending ready e).age, subst (λ (y : Pending). Contains (map (aged_pending ready) m.book) y) (older_is ready e) (ages m ready e here))
 stays_aged m step e other here = (e.age, stays_booked m step e other (λ ready same. absurd cc) here)
 
-pub stays_ended : (m : Machine) (step : Step) (port : Port) (id : RequestId) → IsNotStepOfPendingRequest id step → step ≢ Release → EndedIn m port id → EndedIn (after_step m step) port id
+pub stays_ended : (m : Machine) (step : Step) (port : Port) (id : RequestId) → IsNotStepOfPendingRequest id step → step ≢ Release → EndedOnPort m port id → EndedOnPort (after_step m step) port id
 stays_ended m step port id other more h = ⊎_elim
     (λ (z : Contains m.book h.pending × (h.pending.issued ≡ true)).
     let q = stays_aged m step h.pending its z.0 in
@@ -56,7 +56,7 @@ stays_ended m step port id other more h = ⊎_elim
       port_is = h.port_is;
       ended = h.ended;
       all_are_touched = h.all_are_touched;
-      stands_in_book = λ none. q.1;
+      in_book_if_none_kept = λ none. q.1;
     })
     (λ (z : Contains m.kept h.pending).
     let k = stays_kept m step h.pending its more z in
@@ -67,14 +67,14 @@ stays_ended m step port id other more h = ⊎_elim
       port_is = h.port_is;
       ended = h.ended;
       all_are_touched = h.all_are_touched;
-      stands_in_book = λ none. absurd (none h.pending k h.port_is);
+      in_book_if_none_kept = λ none. absurd (none h.pending k h.port_is);
     })
     h.may_still_move
   where
     its : IsNotStepOfPendingRequest h.pending.request.id step
     its = subst (λ (i : RequestId). IsNotStepOfPendingRequest i step) (sym h.id_is) other
 
-pub ended_released : (m : Machine) (port : Port) (id : RequestId) → NoneKept m port → EndedIn m port id → EndedIn (after_step m Release) port id
+pub ended_released : (m : Machine) (port : Port) (id : RequestId) → NoneKept m port → EndedOnPort m port id → EndedOnPort (after_step m Release) port id
 ended_released m port id none h = record {
   pending = h.pending;
   may_still_move = ⊎_elim
@@ -85,5 +85,5 @@ ended_released m port id none h = record {
   port_is = h.port_is;
   ended = h.ended;
   all_are_touched = h.all_are_touched;
-  stands_in_book = λ _. h.stands_in_book none;
+  in_book_if_none_kept = λ _. h.in_book_if_none_kept none;
 }

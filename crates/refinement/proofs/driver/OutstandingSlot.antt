@@ -11,7 +11,7 @@ use Rattle.block_machine.specs.State.{Pending, Machine}
 use Rattle.block_machine.specs.Steps.{MayStillMove}
 use Rattle.refinement.specs.Relation.{StateRelation}
 use Rattle.refinement.specs.PortFacts.{ShowsFault}
-use Rattle.refinement.specs.Slots.{SlotState, Free, Armed, Own, Serves, SlotStates, IsInSomeStage, OwnAwaitsFetch, OwnIsTaken, OwnIsOver, IsOver, ServesRequest, RelatesSlot}
+use Rattle.refinement.specs.Slots.{SlotState, Free, Armed, Own, Serves, SlotStates, IsInSomeStage, OwnAwaitsFetch, OwnIsTaken, OwnIsOverWithPageIfSt, IsOver, ServesRequest, RelatesSlot}
 use Rattle.refinement.proofs.device.FaultedPort.{fault_has_a_use}
 use Rattle.refinement.proofs.steps.StillFrames.{over_unused}
 use Rattle.refinement.specs.GivingUp.{IsOutstanding}
@@ -37,7 +37,7 @@ module _ (uses : SlotStates) (m : Machine) (d : Device) (port slot : ℕ) (a : S
         bit_is_set_while_st = λ st. inl (of st h.stage);
       }
         where
-          of : (d.port port).st ≡ true → OwnAwaitsFetch (d.port port) slot ⊎ (OwnIsTaken d.memory d.tape (d.port port) port slot h.command ⊎ OwnIsOver d.memory d.tape (d.port port) port slot h.command) → (d.port port).ci slot ≡ true
+          of : (d.port port).st ≡ true → OwnAwaitsFetch (d.port port) slot ⊎ (OwnIsTaken d.memory d.tape (d.port port) port slot h.command ⊎ OwnIsOverWithPageIfSt d.memory d.tape (d.port port) port slot h.command) → (d.port port).ci slot ≡ true
           of st (inl w) = w.issued
           of st (inr (inl x)) = x.issued ∙ st
           of st (inr (inr x)) = unused x.over.is_not_issued x.over.is_not_taken
@@ -81,7 +81,7 @@ stopped_clear uses m d port slot a st = by (uses port slot) (a.relates_slots por
     by Armed h = (h.is_not_issued, h.armed ∙ st)
     by (Own o) h = (of h.stage, h.unqueued)
       where
-        of : OwnAwaitsFetch (d.port port) slot ⊎ (OwnIsTaken d.memory d.tape (d.port port) port slot h.command ⊎ OwnIsOver d.memory d.tape (d.port port) port slot h.command) → (d.port port).ci slot ≡ false
+        of : OwnAwaitsFetch (d.port port) slot ⊎ (OwnIsTaken d.memory d.tape (d.port port) port slot h.command ⊎ OwnIsOverWithPageIfSt d.memory d.tape (d.port port) port slot h.command) → (d.port port).ci slot ≡ false
         of (inl w) = absurd (both_ways _ st w.started)
         of (inr (inl t)) = t.issued ∙ st
         of (inr (inr x)) = x.over.is_not_issued

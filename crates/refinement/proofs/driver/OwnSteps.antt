@@ -22,7 +22,7 @@ use Rattle.block_machine.proofs.Sound.{Sound}
 use Rattle.block_machine.proofs.Standing.{standing}
 use Rattle.refinement.specs.Slots.{SlotState, Free, Own, Serves, SlotStates, set_slot_state, TouchedAsMoved, IsInSomeStage, IsOver, RelatesSlot, Armed, IsArmedIfSt}
 use Rattle.refinement.specs.Relation.{StateRelation, port_at}
-use Rattle.refinement.specs.Driver.{DriverState, DriverRelation, HasNoSlot, ForgetsAtMost, ForgetsAtMostKept, with_slot_freed_and_request_parked, with_slot_freed}
+use Rattle.refinement.specs.Driver.{DriverState, DriverRelation, HasNoSlot, OthersStayParked, ParkedStayUnlessKept, with_slot_freed_and_request_parked, with_slot_freed}
 use Rattle.refinement.proofs.relation.LastingSectors.{gains_none, keeps_same, lasting_on}
 use Rattle.refinement.proofs.relation.OneSlot.{sectors_on, changed_at}
 use Rattle.refinement.proofs.device.ClearSactBits.{over_unarmed}
@@ -178,7 +178,7 @@ record Leaves (m m' : Machine) (id : RequestId) : Type 0 where
   moves : (e : Pending) → e.request.id ≢ id → MayStillMove m e → MayStillMove m' e
   back : (e : Pending) → MayStillMove m' e → MayStillMove m e × (e.request.id ≢ id)
 
-leaves_knows : (k : DriverState) (m m' : Machine) (id : RequestId) (later : ℕ → List RequestId) → DriverRelation m k → HasNoSlot k.slot_states id → ForgetsAtMost id k.awaiting_disposition later → Leaves m m' id → DriverRelation m' (record k { awaiting_disposition = later })
+leaves_knows : (k : DriverState) (m m' : Machine) (id : RequestId) (later : ℕ → List RequestId) → DriverRelation m k → HasNoSlot k.slot_states id → OthersStayParked id k.awaiting_disposition later → Leaves m m' id → DriverRelation m' (record k { awaiting_disposition = later })
 leaves_knows k m m' id later x none forgets l = record {
   state_relation = agrees_on k.slot_states m m' k.device x.state_relation l.world
       (λ q s other u e is may. goes_on_same m m' e (l.moves e (λ same. none q s (u ∙ ap Serves (sym is ∙ same))) may));
@@ -225,12 +225,12 @@ again_leaves m e s here = record {
 }
 
 pub answer_knows : (k : DriverState) (m : Machine) (e : Pending) (outcome : Outcome) (later : ℕ → List RequestId) → IsReachable m → DriverRelation m k → Contains m.book e → is_kept_at_answer e outcome ≡ false →
-    HasNoSlot k.slot_states e.request.id → ForgetsAtMost e.request.id k.awaiting_disposition later → DriverRelation (after_step m (Answer e outcome)) (record k { awaiting_disposition = later })
+    HasNoSlot k.slot_states e.request.id → OthersStayParked e.request.id k.awaiting_disposition later → DriverRelation (after_step m (Answer e outcome)) (record k { awaiting_disposition = later })
 answer_knows k m e outcome later r x here gives none forgets =
     leaves_knows k m (after_step m (Answer e outcome)) e.request.id later x none forgets (answer_leaves m e outcome (standing m r).sound here gives)
 
 pub again_knows : (k : DriverState) (m : Machine) (e : Pending) (later : ℕ → List RequestId) → IsReachable m → DriverRelation m k → Contains m.book e →
-    HasNoSlot k.slot_states e.request.id → ForgetsAtMost e.request.id k.awaiting_disposition later → DriverRelation (after_step m (WaitAgain e)) (record k { awaiting_disposition = later })
+    HasNoSlot k.slot_states e.request.id → OthersStayParked e.request.id k.awaiting_disposition later → DriverRelation (after_step m (WaitAgain e)) (record k { awaiting_disposition = later })
 again_knows k m e later r x here none forgets =
     leaves_knows k m (after_step m (WaitAgain e)) e.request.id later x none forgets (again_leaves m e (standing m r).sound here)
 
@@ -272,7 +272,7 @@ keeping_knows k m e outcome r x here stay = record {
 -- ---- the frames of kept requests are given back
 
 pub release_knows : (k : DriverState) (m : Machine) (later : ℕ → List RequestId) → IsReachable m → DriverRelation m k → ((e : Pending) → Contains m.kept e → HasNoSlot k.slot_states e.request.id) →
-    ForgetsAtMostKept m k.awaiting_disposition later →
+    ParkedStayUnlessKept m k.awaiting_disposition later →
     DriverRelation (after_step m Release) (record k { awaiting_disposition = later })
 release_knows k m later r x none forgets = record {
   state_relation = agrees_on k.slot_states m (after_step m Release) k.device x.state_relation (record { present = refl; ids = refl; sizes = refl; disks = refl; aside = refl; memory = refl })

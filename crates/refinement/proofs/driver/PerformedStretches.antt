@@ -4,7 +4,7 @@ use Rattle.adapter.specs.Access.{Access, DoesAll}
 use Rattle.adapter.specs.Device.{Device}
 use Rattle.block_machine.specs.Events.{AllByDevice}
 use Rattle.block_machine.specs.Expected.{after}
-use Rattle.refinement.specs.Acts.{Act, ActsByDeviceAlone, DriverSlots, IsActDone, AccessesAreSimulatedByActs, accesses_of, driver_state_of_slots, act_steps}
+use Rattle.refinement.specs.Acts.{Act, ActsByDeviceAlone, DriverSlots, IsActDone, AccessesAreSimulatedByActs, accesses_of, driver_state_of_slots, newest_first_steps_of_acts}
 use Rattle.refinement.specs.Fragments.{IsSimulated, IsSimulatedChangingUses}
 use Rattle.refinement.specs.Driver.{AllFree}
 use Rattle.refinement.specs.PortFacts.{IsEngineStopped}
@@ -24,7 +24,7 @@ pub performs_one : (May : Access → Type 0) (Fits : SlotStates → Type 0) (nex
 performs_one May Fits next old new a = record {
   accesses_are_done = a.is_driven.all_are_done;
   acts_reach = λ s m reached x fits.
-      let c = a.acts_reach s m reached x fits in record { acts = c.acts; acts_are_done = c.acts_are_done; accesses_match_acts = c.accesses_match_acts; acts_are_such = c.acts_are_such.all_steps_are_devices };
+      let c = a.acts_reach s m reached x fits in record { acts = c.acts; acts_are_done = c.acts_are_done; accesses_match_acts = c.accesses_match_acts; acts_are_such = c.acts_are_such.all_steps_are_by_device };
 }
 
 pub performs_giving_up : ((early late : List Access) (old mid new : Device) → DoesAll early old mid → DoesAll late mid new → DoesAll (early ++ late) old new) → (May Then : Access → Type 0) (Fits Less : SlotStates → Type 0) (next : SlotStates → SlotStates) (port : ℕ) (old mid new : Device) → (a : IsSimulated May Fits old mid) → IsEngineStopped (mid.port port) →
@@ -36,17 +36,17 @@ performs_giving_up append May Then Fits Less next port old mid new a halted less
       let c = a.acts_reach s m reached x fits in
       let g = done_goes c.acts (driver_state_of_slots s old) (driver_state_of_slots s mid) m x c.acts_are_done in
       let parked = driver_state_of_slots (slots_with_all_parked port s) mid in
-      let there = given_up_halted (driver_state_of_slots s mid) (after m (act_steps c.acts)) port g.driver_relation halted in
+      let there = given_up_halted (driver_state_of_slots s mid) (after m (newest_first_steps_of_acts c.acts)) port g.driver_relation halted in
       let park : Act = record { access = None; steps = []; state_after = parked } in
-      let gives : IsActDone (driver_state_of_slots s mid) (after m (act_steps c.acts)) park =
-      record { access_leads = refl; is_one_act = inl refl; driver_advances = goes_still (driver_state_of_slots s mid) parked (after m (act_steps c.acts)) refl there } in
-      let e = b.acts_reach (slots_with_all_parked port s) (after m (act_steps c.acts)) (going_reaches (driver_state_of_slots s old) (driver_state_of_slots s mid) m (act_steps c.acts) reached g) there
+      let gives : IsActDone (driver_state_of_slots s mid) (after m (newest_first_steps_of_acts c.acts)) park =
+      record { access_is_done_or_device_is_same = refl; are_device_steps_then_decision = inl refl; driver_advances = goes_still (driver_state_of_slots s mid) parked (after m (newest_first_steps_of_acts c.acts)) refl there } in
+      let e = b.acts_reach (slots_with_all_parked port s) (after m (newest_first_steps_of_acts c.acts)) (going_reaches (driver_state_of_slots s old) (driver_state_of_slots s mid) m (newest_first_steps_of_acts c.acts) reached g) there
       (less (slots_with_all_parked port s).slot_states (all_free (driver_state_of_slots s mid) port)) in
       record {
         acts = c.acts ++ (park ∷ e.acts);
         acts_are_done = done_more c.acts (park ∷ e.acts) (driver_state_of_slots s old) (driver_state_of_slots s mid) (driver_state_of_slots (after_next next (slots_with_all_parked port s)) new) m c.acts_are_done (gives, e.acts_are_done);
         accesses_match_acts = accesses_append c.acts (park ∷ e.acts)
             ∙ (ap (λ (early : List Access). early ++ accesses_of e.acts) c.accesses_match_acts ∙ ap (λ (late : List Access). a.is_driven.accesses ++ late) e.accesses_match_acts);
-        acts_are_such = subst AllByDevice (sym (steps_append c.acts (park ∷ e.acts))) (device_append (act_steps e.acts ++ []) (act_steps c.acts) (device_append (act_steps e.acts) [] e.acts_are_such.all_steps_are_devices tt) c.acts_are_such.all_steps_are_devices);
+        acts_are_such = subst AllByDevice (sym (steps_append c.acts (park ∷ e.acts))) (device_append (newest_first_steps_of_acts e.acts ++ []) (newest_first_steps_of_acts c.acts) (device_append (newest_first_steps_of_acts e.acts) [] e.acts_are_such.all_steps_are_by_device tt) c.acts_are_such.all_steps_are_by_device);
       };
 }

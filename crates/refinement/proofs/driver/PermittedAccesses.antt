@@ -10,7 +10,7 @@ use Rattle.hba_regs.specs.declared.reg.PortReg.TheVariants as px
 use Rattle.adapter.specs.Commands.{Meaning, is_queued}
 use Rattle.adapter.specs.Device.{Device}
 use Rattle.adapter.specs.KeptBySteps.{KeepsOverSteps, KeepsOutsideReset}
-use Rattle.adapter.specs.Rules.{InUse, IsUnowned, IsOn, HasPort, MayWrite, IsStable}
+use Rattle.adapter.specs.Rules.{InUse, IsInMemoryNotOwnedByDevice, IsOn, HasPort, MayWrite, IsStable}
 use Rattle.adapter.specs.Decoding.{DecodesTo}
 use Rattle.adapter.specs.declared.command.Operation.{Operation}
 use Rattle.adapter.proofs.SaysLemmas.{says_meaning}
@@ -23,7 +23,7 @@ use Rattle.refinement.specs.StepLaws.{StepLaws}
 use Rattle.refinement.specs.MemoryLayout.{scratch_frame_address}
 use Rattle.refinement.specs.Slots.{SlotStates, IsOver, client_operation_of}
 use Rattle.refinement.specs.Relation.{StateRelation}
-use Rattle.refinement.specs.Driver.{MayStore, IsPrepared, IsOwnPrepared}
+use Rattle.refinement.specs.Driver.{IsInMemoryOfFreeSlot, IsRequestPreparedToIssue, IsOwnCommandPreparedInSlot0}
 use Rattle.refinement.specs.Simulation.{SimulatesSteps}
 use Rattle.refinement.proofs.relation.WrittenBytes.{same_port}
 use Rattle.refinement.proofs.driver.IssueWrite.{own_prepared_stays}
@@ -42,7 +42,7 @@ use Rattle.refinement.proofs.steps.TakenCommand.{own_plain}
 module _ (laws : StepLaws) (uses : SlotStates) (m : Machine) (old : Device) (reached : IsReachable m) (a : StateRelation uses m old) where
   -- ---- the driver's own bytes
 
-  pub stores_are_free : (at n : ℕ) → at + n ≤ old.memory_size → MayStore uses at n → IsStable (IsUnowned at n) old
+  pub stores_are_free : (at n : ℕ) → at + n ≤ old.memory_size → IsInMemoryOfFreeSlot uses at n → IsStable (IsInMemoryNotOwnedByDevice at n) old
   stores_are_free at n inside may mid s =
       let f : SimulatesSteps uses m old mid = steps_follow uses m old mid reached a s in
       let r : IsReachable (left.after m f.steps) = laws.reachable_goes_on m f.steps reached f.steps_are_enabled in
@@ -53,7 +53,7 @@ module _ (laws : StepLaws) (uses : SlotStates) (m : Machine) (old : Device) (rea
       }
 
   -- the page of a command of the driver's own that is over
-  pub page_is_free : (port : ℕ) → port < 4 → scratch_frame_address port + 512 ≤ old.memory_size → IsOver (old.port port) 0 → IsStable (IsUnowned (scratch_frame_address port) 512) old
+  pub page_is_free : (port : ℕ) → port < 4 → scratch_frame_address port + 512 ≤ old.memory_size → IsOver (old.port port) 0 → IsStable (IsInMemoryNotOwnedByDevice (scratch_frame_address port) 512) old
   page_is_free port below inside over mid s =
       let f : SimulatesSteps uses m old mid = steps_follow uses m old mid reached a s in
       let r : IsReachable (left.after m f.steps) = laws.reachable_goes_on m f.steps reached f.steps_are_enabled in
@@ -83,7 +83,7 @@ module _ (laws : StepLaws) (uses : SlotStates) (m : Machine) (old : Device) (rea
 
   -- ---- a client's bytes
 
-  pub clients_are_free : (client : ClientId) (frame : Frame) (offset n : ℕ) → 4096 * frame.0 + 4096 ≤ old.memory_size → MayAccessFrame m.owner m.lent client frame offset n → IsStable (IsUnowned (4096 * frame.0 + offset) n) old
+  pub clients_are_free : (client : ClientId) (frame : Frame) (offset n : ℕ) → 4096 * frame.0 + 4096 ≤ old.memory_size → MayAccessFrame m.owner m.lent client frame offset n → IsStable (IsInMemoryNotOwnedByDevice (4096 * frame.0 + offset) n) old
   clients_are_free client frame offset n inside opens =
       let x = open_in m reached client frame offset n opens in
       still_is_free old frame offset n (unlent_is_still uses m old frame reached a (open_unlent m client frame offset n opens) x.0) inside x.1
@@ -93,7 +93,7 @@ module _ (laws : StepLaws) (uses : SlotStates) (m : Machine) (old : Device) (rea
   only_bit : (v slot k : ℕ) → ((j : ℕ) → j ≢ slot → bit v j ≡ false) → bit v k ≡ true → k ≡ slot
   only_bit v slot k alone b = ⊎_elim (λ (e : k ≡ slot). e) (λ (ne : k ≡ slot → ⊥). true_false b (alone k ne)) (cases_eq k slot)
 
-  pub issue_is_permitted : (port : Port) (slot : ℕ) (mode : QueueMode) (e : Pending) (v : ℕ) → IsOn old → HasPort old port.0 → slot ≤ old.cap / 256 % 32 → IsPrepared uses m old port.0 slot mode e v → IsStable (MayWrite (Px port px.Ci) v) old
+  pub issue_is_permitted : (port : Port) (slot : ℕ) (mode : QueueMode) (e : Pending) (v : ℕ) → IsOn old → HasPort old port.0 → slot ≤ old.cap / 256 % 32 → IsRequestPreparedToIssue uses m old port.0 slot mode e v → IsStable (MayWrite (Px port px.Ci) v) old
   issue_is_permitted port slot mode e v on there usable x =
       readied_permitted laws uses m old port v reached a on there x.st_is_set (λ j b. subst (IsReadyToIssue uses old port.0) (sym (only_bit v slot j x.no_other_bit_is_set b)) (record {
         slot_is_implemented = usable;
@@ -102,10 +102,10 @@ module _ (laws : StepLaws) (uses : SlotStates) (m : Machine) (old : Device) (rea
         readied = prepared_readied uses m old port.0 slot mode e v x;
       }))
 
-  pub issuing_page_command_is_permitted : (port : Port) (o : Operation) (v : ℕ) → IsOn old → HasPort old port.0 → IsOwnPrepared uses old port.0 o v → IsStable (MayWrite (Px port px.Ci) v) old
+  pub issuing_page_command_is_permitted : (port : Port) (o : Operation) (v : ℕ) → IsOn old → HasPort old port.0 → IsOwnCommandPreparedInSlot0 uses old port.0 o v → IsStable (MayWrite (Px port px.Ci) v) old
   issuing_page_command_is_permitted port o v on there x mid s =
       let f : SimulatesSteps uses m old mid = steps_follow uses m old mid reached a s in
-      let y : IsOwnPrepared uses mid port.0 o v = own_prepared_stays uses m old mid port.0 o v reached a on.no_reset s x in
+      let y : IsOwnCommandPreparedInSlot0 uses mid port.0 o v = own_prepared_stays uses m old mid port.0 o v reached a on.no_reset s x in
       let k : KeepsOverSteps old mid = laws.steps_keep _ _ s in
       let c : KeepsOutsideReset old mid = k.keeps_outside_reset on.no_reset in
       let over : IsOver (mid.port port.0) 0 = own_over uses (left.after m f.steps) mid f.state_relation port.0 o v y in (

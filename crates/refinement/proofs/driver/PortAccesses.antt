@@ -11,7 +11,7 @@ use Rattle.adapter.specs.Device.{DevicePort, Device}
 use Rattle.adapter.specs.KeptBySteps.{KeepsOverSteps, KeepsOutsideReset}
 use Rattle.adapter.specs.Rules.{IsOn}
 use Rattle.adapter.specs.declared.tape.Entry.{Entry}
-use Rattle.adapter.proofs.KeptLemmas.{law_step_lists_keep_what_steps_keep, PortBitsOnlyFall-refl, PortBitsOnlyFall-trans, KeepsControlsFlagsRise-refl, KeepsControlsFlagsRise-trans}
+use Rattle.adapter.proofs.KeptLemmas.{law_step_lists_keep_what_steps_keep, PortBitsOnlyFallFreeSlotsStay-refl, PortBitsOnlyFallFreeSlotsStay-trans, KeepsControlsFlagsRise-refl, KeepsControlsFlagsRise-trans}
 use Rattle.block_machine.proofs.HistoryLemmas.{reached_more}
 use Rattle.block_machine.specs.Expected.{after}
 pub use Rattle.refinement.specs.Fragments.{TapeGrows}
@@ -117,10 +117,10 @@ module _ (port : Port) (q : ℕ) (other : q ≢ port.0) where
       (subst (λ (tape : List Entry). RecordsFaultsIfSt tape (s.0.port q) q) (sym s.2) (steps_recorded q old s.0 s.1 h))
 
 pub leaves_none : (p : DevicePort) → OnlyDeviceChangesPort p p
-leaves_none p = record { bits_only_fall = PortBitsOnlyFall-refl p; controls = KeepsControlsFlagsRise-refl p; notes = refl }
+leaves_none p = record { bits_only_fall = PortBitsOnlyFallFreeSlotsStay-refl p; controls = KeepsControlsFlagsRise-refl p; notes = refl }
 
 pub leaves_more : (old mid new : DevicePort) → OnlyDeviceChangesPort old mid → OnlyDeviceChangesPort mid new → OnlyDeviceChangesPort old new
-leaves_more old mid new a b = record { bits_only_fall = PortBitsOnlyFall-trans a.bits_only_fall b.bits_only_fall; controls = KeepsControlsFlagsRise-trans a.controls b.controls; notes = b.notes ∙ a.notes }
+leaves_more old mid new a b = record { bits_only_fall = PortBitsOnlyFallFreeSlotsStay-trans a.bits_only_fall b.bits_only_fall; controls = KeepsControlsFlagsRise-trans a.controls b.controls; notes = b.notes ∙ a.notes }
 
 -- ---- the tape
 

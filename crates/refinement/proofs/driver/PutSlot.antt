@@ -22,7 +22,7 @@ use Rattle.block_machine.proofs.Members.{map_in, into_map, at_cases}
 use Rattle.block_machine.proofs.Standing.{Standing, standing}
 use Rattle.refinement.specs.Slots.{SlotState, Free, Own, Serves, SlotStates, set_slot_state, ServesRequest, IsOver, RelatesSlot, Armed, IsEmptySlot, IsArmedIfSt}
 use Rattle.refinement.specs.Relation.{StateRelation, port_at, SameSectors, HaveSlotsUnlessParked}
-use Rattle.refinement.specs.Driver.{IsPrepared, IsOwnPrepared}
+use Rattle.refinement.specs.Driver.{IsRequestPreparedToIssue, IsOwnCommandPreparedInSlot0}
 use Rattle.refinement.proofs.relation.SlotRelation.{SameSlot, SameSlot-refl, served_on, placed_on, GainsNone-refl}
 use Rattle.refinement.proofs.relation.LastingSectors.{disk_of, gains_none, keeps_same, lasting_on}
 use Rattle.refinement.proofs.relation.OneSlot.{changed_at, sectors_on}
@@ -206,7 +206,7 @@ waiting_unserved uses m d reached a e here waits p s u = by (subst (λ (w : Slot
         (λ (r : Contains m.kept h.pending). (standing m reached).sound.apart e h.pending here r (ap (λ (i : RequestId). i.0) (sym h.id_is)))
         h.may_still_move
 
-module _ (uses : SlotStates) (m : Machine) (d : Device) (reached : IsReachable m) (a : StateRelation uses m d) (port slot : ℕ) (mode : QueueMode) (e : Pending) (v : ℕ) (x : IsPrepared uses m d port slot mode e v) where
+module _ (uses : SlotStates) (m : Machine) (d : Device) (reached : IsReachable m) (a : StateRelation uses m d) (port slot : ℕ) (mode : QueueMode) (e : Pending) (v : ℕ) (x : IsRequestPreparedToIssue uses m d port slot mode e v) where
   std : Standing m
   std = standing m reached
 
@@ -222,10 +222,10 @@ module _ (uses : SlotStates) (m : Machine) (d : Device) (reached : IsReachable m
       (⊎_elim (λ p. p.1) (λ p. absurd (p.0 refl)) (at_cases e.request.id newly_issued e)) (into_map (update_pending e.request.id newly_issued) m.book e x.issue_is_enabled.0)
 
   was_over : IsOver (d.port port) slot
-  was_over = (readied_slot uses m d a port slot (is_plain mode e.request.asked.op) x.slot_state_is x.st_is_set).0
+  was_over = (readied_slot uses m d a port slot (is_plain mode e.request.asked.op) x.armed_if_queued_else_free x.st_is_set).0
 
   prepared_sact : (d.port port).sact slot ≡ is_queued x.command.operation
-  prepared_sact = (readied_slot uses m d a port slot (is_plain mode e.request.asked.op) x.slot_state_is x.st_is_set).1 ∙ sym x.queued_as_request
+  prepared_sact = (readied_slot uses m d a port slot (is_plain mode e.request.asked.op) x.armed_if_queued_else_free x.st_is_set).1 ∙ sym x.queued_as_request
 
   served_here : ServesRequest (after_step m (Issue mode e)) d.memory (issued_port (d.port port) v) port slot e.request.id
   served_here = record {
@@ -274,7 +274,7 @@ module _ (uses : SlotStates) (m : Machine) (d : Device) (reached : IsReachable m
   old_slot q parked had o r at_port = ⊎_elim
       (λ (p : Contains parked o.request.id). inl p)
       (λ (w : (s : ℕ) × (uses q s ≡ Serves o.request.id)).
-      inr (w.0, put_other uses port slot (Serves e.request.id) q w.0 (λ ep es. not_serving (is_plain mode e.request.asked.op) (sym w.1 ∙ (ap (λ (k : ℕ). uses k w.0) ep ∙ ap (λ (k : ℕ). uses port k) es ∙ x.slot_state_is))) ∙ w.1))
+      inr (w.0, put_other uses port slot (Serves e.request.id) q w.0 (λ ep es. not_serving (is_plain mode e.request.asked.op) (sym w.1 ∙ (ap (λ (k : ℕ). uses k w.0) ep ∙ ap (λ (k : ℕ). uses port k) es ∙ x.armed_if_queued_else_free))) ∙ w.1))
       (had o r at_port)
 
   pub issue_have : (q : ℕ) (parked : List RequestId) → HaveSlotsUnlessParked uses m q parked → HaveSlotsUnlessParked (set_slot_state uses port slot (Serves e.request.id)) (after_step m (Issue mode e)) q parked
@@ -294,7 +294,7 @@ module _ (uses : SlotStates) (m : Machine) (d : Device) (reached : IsReachable m
       (at_cases e.request.id newly_issued w.0)
 
 -- a command of the driver's own
-module _ (uses : SlotStates) (m : Machine) (d : Device) (a : StateRelation uses m d) (port : ℕ) (o : Operation) (v : ℕ) (x : IsOwnPrepared uses d port o v) where
+module _ (uses : SlotStates) (m : Machine) (d : Device) (a : StateRelation uses m d) (port : ℕ) (o : Operation) (v : ℕ) (x : IsOwnCommandPreparedInSlot0 uses d port o v) where
   own_free : IsEmptySlot (d.port port) 0
   own_free = subst (λ (w : SlotState). RelatesSlot m d.memory d.tape (d.port port) port 0 w) x.free (a.relates_slots port 0)
 

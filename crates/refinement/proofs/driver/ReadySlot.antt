@@ -23,19 +23,19 @@ use Rattle.block_machine.specs.Steps.{Issue, IsEnabled}
 use Rattle.block_machine.specs.declared.due.QueueMode.{QueueMode}
 use Rattle.refinement.specs.StepLaws.{StepLaws}
 use Rattle.refinement.specs.Relation.{StateRelation}
-use Rattle.refinement.specs.Driver.{IsPrepared, KeepsTablesAndScratchUnlessOwn, MissesTableAndHeaderButPrdbc}
+use Rattle.refinement.specs.Driver.{IsRequestPreparedToIssue, KeepsTablesAndScratchUnlessOwn, MissesTableAndHeaderButPrdbc}
 use Rattle.refinement.specs.Simulation.{SimulatesSteps}
 use Rattle.refinement.specs.PreservedParts.{DoesNotWrite}
 use Rattle.refinement.specs.MemoryLayout.{IsTableOrHeaderByteButPrdbc}
 use Rattle.refinement.specs.Slots.{SlotState, Free, Armed, SlotStates, MeansRequest, HasBlockIfTrim, IsArmedIfSt, IsEmptySlot, IsOver, RelatesSlot}
-use Rattle.refinement.specs.StartedPort.{ClearsNoStart}
+use Rattle.refinement.specs.StartedPort.{WritesCmdOnlyWithStSet}
 use Rattle.refinement.proofs.device.FactsOverAccesses.{access_steps, effect_keeps}
 use Rattle.refinement.proofs.steps.FollowedSteps.{steps_follow}
 use Rattle.refinement.proofs.steps.UnusedSlots.{steps_leave}
 use Rattle.refinement.proofs.driver.UnusedOverCalls.{noted_memory, written_memory}
 use Rattle.refinement.proofs.device.PortControls.{spared}
 use Rattle.refinement.proofs.relation.SlotRelation.{told_on, placed_on}
-use Rattle.refinement.specs.ReadySlots.{IsStoredOnPortWithStSet, IsReadied, IsReadyToIssue}
+use Rattle.refinement.specs.ReadySlots.{IsStoredOnPortWithStSet, IsStoredAndArmedIffQueued, IsReadyToIssue}
 
 -- the same port, as far as the slot's bytes and ST go, and the same table
 stored_on : (old new : Device) (port slot : ℕ) (c : Meaning) (places : List ℕ) → (new.port port).st ≡ true → (new.port port).bases.clb ≡ (old.port port).bases.clb →
@@ -84,7 +84,7 @@ written_on_still list Clb v tape p on other h = absurd (other refl)
 written_on_still list _ v tape p on other h = h
 
 module _ (laws : StepLaws) (uses : SlotStates) (m : Machine) (port : Port) (slot : ℕ) (c : Meaning) (places : List ℕ) (access : Access) (old new : Device) (reached : IsReachable m) (a : StateRelation uses m old) (off : old.hr ≡ false)
-    (keeps : ClearsNoStart port access) (spares : DoesNotWrite (Px port Clb) access) where
+    (keeps : WritesCmdOnlyWithStSet port access) (spares : DoesNotWrite (Px port Clb) access) where
   started_by : (r : PortReg) (v : ℕ) → access ≡ Writing (Px port r) v → r ≡ Cmd → bit v 0 ≡ true
   started_by r v is e = keeps v (is ∙ ap (λ (w : PortReg). Writing (Px port w) v) e)
 
@@ -144,15 +144,15 @@ readied_permitted laws uses m d port v reached a on there st ready mid s =
     slot_ready : (j : ℕ) (b : bit v j ≡ true) → ReadyTo (is_queued (ready j b).command.operation) (mid.port port.0) j
     slot_ready j b =
         let f : SimulatesSteps uses m d mid = steps_follow uses m d mid reached a s in
-        served_ready (left.after m f.steps) mid port.0 j (is_queued (ready j b).command.operation) (uses port.0 j) (ready j b).readied.slot_state_is (stays j b).st_is_set (f.state_relation.relates_slots port.0 j)
+        served_ready (left.after m f.steps) mid port.0 j (is_queued (ready j b).command.operation) (uses port.0 j) (ready j b).readied.armed_if_queued_else_free (stays j b).st_is_set (f.state_relation.relates_slots port.0 j)
 
-pub readied_prepared : (uses : SlotStates) (m : Machine) (d : Device) (port slot : ℕ) (c : Meaning) (places : List ℕ) (mode : QueueMode) (e : Pending) (v : ℕ) → IsReadied uses d port slot c places → IsEnabled m (Issue mode e) → e.request.port.0 ≡ port →
+pub readied_prepared : (uses : SlotStates) (m : Machine) (d : Device) (port slot : ℕ) (c : Meaning) (places : List ℕ) (mode : QueueMode) (e : Pending) (v : ℕ) → IsStoredAndArmedIffQueued uses d port slot c places → IsEnabled m (Issue mode e) → e.request.port.0 ≡ port →
     slot < mode.usable_slots → (is_plain mode e.request.asked.op ≡ true → slot ≡ 0) → MeansRequest port slot e.request c places → is_queued c.operation ≡ not (is_plain mode e.request.asked.op) →
-    HasBlockIfTrim e.request.asked.op d.memory port e.request → bit v slot ≡ true → ((k : ℕ) → k ≢ slot → bit v k ≡ false) → IsPrepared uses m d port slot mode e v
+    HasBlockIfTrim e.request.asked.op d.memory port e.request → bit v slot ≡ true → ((k : ℕ) → k ≢ slot → bit v k ≡ false) → IsRequestPreparedToIssue uses m d port slot mode e v
 readied_prepared uses m d port slot c places mode e v x may at_port usable head means kind block here alone = record {
   issue_is_enabled = may;
   port_is = at_port;
-  slot_state_is = x.slot_state_is ∙ used_so (is_plain mode e.request.asked.op) (is_queued c.operation) kind;
+  armed_if_queued_else_free = x.armed_if_queued_else_free ∙ used_so (is_plain mode e.request.asked.op) (is_queued c.operation) kind;
   slot_is_usable = usable;
   plain_is_in_slot_0 = head;
   st_is_set = x.stored.st_is_set;
@@ -167,8 +167,8 @@ readied_prepared uses m d port slot c places mode e v x may at_port usable head 
   no_other_bit_is_set = alone;
 }
 
-pub prepared_readied : (uses : SlotStates) (m : Machine) (d : Device) (port slot : ℕ) (mode : QueueMode) (e : Pending) (v : ℕ) → (x : IsPrepared uses m d port slot mode e v) → IsReadied uses d port slot x.command x.places
+pub prepared_readied : (uses : SlotStates) (m : Machine) (d : Device) (port slot : ℕ) (mode : QueueMode) (e : Pending) (v : ℕ) → (x : IsRequestPreparedToIssue uses m d port slot mode e v) → IsStoredAndArmedIffQueued uses d port slot x.command x.places
 prepared_readied uses m d port slot mode e v x = record {
-  slot_state_is = x.slot_state_is ∙ sym (used_so (is_plain mode e.request.asked.op) (is_queued x.command.operation) x.queued_as_request);
+  armed_if_queued_else_free = x.armed_if_queued_else_free ∙ sym (used_so (is_plain mode e.request.asked.op) (is_queued x.command.operation) x.queued_as_request);
   stored = record { st_is_set = x.st_is_set; list_is_in_place = x.list_is_in_place; slot_decodes_to = x.slot_decodes_to };
 }

@@ -22,11 +22,11 @@ use Rattle.block_machine.specs.Expected as left
 use Rattle.block_machine.specs.State.{Machine}
 use Rattle.refinement.specs.StepLaws.{StepLaws}
 use Rattle.refinement.specs.Relation.{StateRelation}
-use Rattle.refinement.specs.PortFacts.{RunsWell, IsFaulted, IsCleanToStart}
+use Rattle.refinement.specs.PortFacts.{RunsWell, IsHaltedPlainOrQueued, IsCleanToStart}
 use Rattle.refinement.specs.Simulation.{SimulatesSteps}
 use Rattle.refinement.specs.PreservedParts.{DoesNotWrite}
 use Rattle.refinement.specs.Slots.{SlotState, Free, SlotStates, set_slot_state, IsEmptySlot, IsOver, RelatesSlot}
-use Rattle.refinement.specs.StartedPort.{ClearsNoStart}
+use Rattle.refinement.specs.StartedPort.{WritesCmdOnlyWithStSet}
 use Rattle.refinement.proofs.device.FactsOverAccesses.{access_steps, effect_keeps}
 use Rattle.refinement.proofs.steps.FollowedSteps.{step_follows}
 use Rattle.refinement.proofs.device.HealthyPort.{at_port}
@@ -42,13 +42,13 @@ use Rattle.refinement.proofs.device.PlainPort.{fetched_plain}
 
 -- as facts of a port's fields
 abbrev Told : DevicePort → Type 0
-Told p = (p.is 30 ≡ false) ⊎ ((p.ci 0 ≡ true) × IsFaulted p.halt)
+Told p = (p.is 30 ≡ false) ⊎ ((p.ci 0 ≡ true) × IsHaltedPlainOrQueued p.halt)
 
 abbrev Open : DevicePort → Type 0
 Open p = (p.st ≡ true) × (p.sact 0 ≡ false) × (p.link_due ≡ false) × Told p
 
 -- a fault halts
-faults : (h : Halt) (queued : Bool) → IsFaulted (halt_after_fault h queued)
+faults : (h : Halt) (queued : Bool) → IsHaltedPlainOrQueued (halt_after_fault h queued)
 faults HaltedQueued queued = inr refl
 faults LogOnly queued = inr refl
 faults NotHalted true = inr refl
@@ -57,7 +57,7 @@ faults HaltedPlain true = inr refl
 faults HaltedPlain false = inl refl
 
 -- and a port that a fault has halted works on nothing
-unworked : {A : Type 0} (h : Halt) (o : Operation) → IsFaulted h → admits h o ≡ true → A
+unworked : {A : Type 0} (h : Halt) (o : Operation) → IsHaltedPlainOrQueued h → admits h o ≡ true → A
 unworked {A} h o (inl e) can = absurd (false≢true (ap (λ (x : Halt). admits x o) (sym e) ∙ can))
 unworked {A} h o (inr e) can = absurd (false≢true (ap (λ (x : Halt). admits x o) (sym e) ∙ can))
 
@@ -89,7 +89,7 @@ module _ (uses : SlotStates) (m : Machine) (d : Device) (a : StateRelation uses 
         x.2,
         ⊎_elim
             (λ (n : (d.port p).is 30 ≡ false). inl n)
-            (λ (y : ((d.port p).ci 0 ≡ true) × IsFaulted (d.port p).halt). inr (ap (λ (f : ℕ → Bool). f 0) (cond-false (is_queued c.operation) _ _ plain) ∙ y.0, y.1))
+            (λ (y : ((d.port p).ci 0 ≡ true) × IsHaltedPlainOrQueued (d.port p).halt). inr (ap (λ (f : ℕ → Bool). f 0) (cond-false (is_queued c.operation) _ _ plain) ∙ y.0, y.1))
             x.3,
       ))
       (λ ne x. x)
@@ -103,7 +103,7 @@ module _ (uses : SlotStates) (m : Machine) (d : Device) (a : StateRelation uses 
         x.2,
         inl (beside_set (d.port p).is flag (small can.cause_is_allowed) (⊎_elim
             (λ (n : (d.port p).is 30 ≡ false). n)
-            (λ (y : ((d.port p).ci 0 ≡ true) × IsFaulted (d.port p).halt). unworked (d.port p).halt t.meaning.operation y.1 can.works.working.admitted)
+            (λ (y : ((d.port p).ci 0 ≡ true) × IsHaltedPlainOrQueued (d.port p).halt). unworked (d.port p).halt t.meaning.operation y.1 can.works.working.admitted)
             x.3)),
       ))
       (λ ne x. x)
@@ -124,7 +124,7 @@ module _ (uses : SlotStates) (m : Machine) (d : Device) (a : StateRelation uses 
         x.2,
         ⊎_elim
             (λ (n : (d.port p).is 30 ≡ false). inl (beside_set (d.port p).is place (small can.1) n))
-            (λ (y : ((d.port p).ci 0 ≡ true) × IsFaulted (d.port p).halt). inr y)
+            (λ (y : ((d.port p).ci 0 ≡ true) × IsHaltedPlainOrQueued (d.port p).halt). inr y)
             x.3,
       ))
       (λ ne x. x)
@@ -169,17 +169,17 @@ written_opens Ci v tape p on other control h = (
   h.0,
   h.1,
   h.2,
-  ⊎_elim (λ (n : p.is 30 ≡ false). inl n) (λ (y : (p.ci 0 ≡ true) × IsFaulted p.halt). inr (or_left (p.ci 0) (bit v 0) y.0, y.1)) h.3,
+  ⊎_elim (λ (n : p.is 30 ≡ false). inl n) (λ (y : (p.ci 0 ≡ true) × IsHaltedPlainOrQueued p.halt). inr (or_left (p.ci 0) (bit v 0) y.0, y.1)) h.3,
 )
 written_opens Is v tape p on other control h = (
   h.0,
   h.1,
   h.2,
-  ⊎_elim (λ (n : p.is 30 ≡ false). inl (and_left (p.is 30) (not (bit v 30)) n)) (λ (y : (p.ci 0 ≡ true) × IsFaulted p.halt). inr y) h.3,
+  ⊎_elim (λ (n : p.is 30 ≡ false). inl (and_left (p.is 30) (not (bit v 30)) n)) (λ (y : (p.ci 0 ≡ true) × IsHaltedPlainOrQueued p.halt). inr y) h.3,
 )
 written_opens _ v tape p on other control h = h
 
-pub access_opens : StepLaws → (uses : SlotStates) (m : Machine) (port : Port) (access : Access) (old new : Device) → IsReachable m → StateRelation uses m old → ClearsNoStart port access → DoesNotWrite (Px port Sact) access → DoesNotWrite (Px port Sctl) access →
+pub access_opens : StepLaws → (uses : SlotStates) (m : Machine) (port : Port) (access : Access) (old new : Device) → IsReachable m → StateRelation uses m old → WritesCmdOnlyWithStSet port access → DoesNotWrite (Px port Sact) access → DoesNotWrite (Px port Sctl) access →
     new.hr ≡ false → Does access old new → FaultLeavesIssued uses port.0 old → FaultLeavesIssued uses port.0 new
 access_opens laws uses m port access old new r a keeps spares controls off x h =
     let s = access_steps access old new x in
@@ -229,7 +229,7 @@ unfailed laws uses m port v old new r a h call clear =
     let shown : (call.at_access.port port.0).ci 0 ≡ false = sym (call.shows 0 (omega arith)) ∙ clear in
     ap (λ (d : Device). (d.port port.0).is 30) call.effect ∙ (ap (λ (p : DevicePort). p.is 30) (changed_same call.at_access.port port.0 _) ∙ ⊎_elim
     (λ (n : (call.at_access.port port.0).is 30 ≡ false). n)
-    (λ (y : ((call.at_access.port port.0).ci 0 ≡ true) × IsFaulted (call.at_access.port port.0).halt). absurd (both_ways _ shown y.0))
+    (λ (y : ((call.at_access.port port.0).ci 0 ≡ true) × IsHaltedPlainOrQueued (call.at_access.port port.0).halt). absurd (both_ways _ shown y.0))
     mid.tfes_is_clear_or_issued)
 
 pub open_well : (p : DevicePort) → RunsLinked p → p.halt ≡ NotHalted → p.is 30 ≡ false → p.serr_n ≡ false → p.serr_x ≡ false → ((place : ℕ) → 27 ≤ place → place ≤ 29 → p.is place ≡ false) → RunsWell p

@@ -10,7 +10,7 @@ use Rattle.adapter.specs.Rules.{IsOn}
 use Rattle.block_machine.specs.Histories.{IsReachable}
 use Rattle.block_machine.specs.State.{Machine}
 use Rattle.refinement.specs.StepLaws.{StepLaws}
-use Rattle.refinement.specs.Acts.{Act, AccessLeads, AreActsDone, accesses_of}
+use Rattle.refinement.specs.Acts.{Act, AccessIsDoneOrDeviceIsSame, AreActsDone, accesses_of}
 use Rattle.refinement.specs.Driver.{DriverState, DriverRelation}
 use Rattle.refinement.specs.PreservedParts.{DoesNotWrite}
 use Rattle.refinement.specs.ReadySlots.{IsStoredOnPortWithStSet, KeepsStoredCommand}
@@ -26,9 +26,9 @@ module _ (laws : StepLaws) (port : Port) (slot : ℕ) (c : Meaning) (places : Li
   pub done_stored : (acts : List Act) (k later : DriverState) (m : Machine) → IsReachable m → DriverRelation m k → AreActsDone acts k m later → All (KeepsStoredCommand port slot) (accesses_of acts) → IsOn k.device
       → IsStoredOnPortWithStSet k.device port.0 slot c places → IsStoredOnPortWithStSet later.device port.0 slot c places
   done_stored acts k later m reached x done all on stored = (done_keeps (λ (z : DriverState). Holds z.device) (λ act. IsOfKind (KeepsStoredCommand port slot) act.access)
-      (λ z n act r knows is leaves. over z n act r knows act.access is.access_leads leaves) acts k later m reached x (acts_of_kind (KeepsStoredCommand port slot) acts all) done (on, stored)).1
+      (λ z n act r knows is leaves. over z n act r knows act.access is.access_is_done_or_device_is_same leaves) acts k later m reached x (acts_of_kind (KeepsStoredCommand port slot) acts all) done (on, stored)).1
     where
-      over : (z : DriverState) (n : Machine) (act : Act) → IsReachable n → DriverRelation n z → (access : Option Access) → AccessLeads access z.device act.state_after.device → IsOfKind (KeepsStoredCommand port slot) access →
+      over : (z : DriverState) (n : Machine) (act : Act) → IsReachable n → DriverRelation n z → (access : Option Access) → AccessIsDoneOrDeviceIsSame access z.device act.state_after.device → IsOfKind (KeepsStoredCommand port slot) access →
           Holds z.device → Holds act.state_after.device
       over z n act r knows None same leaves here = subst Holds (sym same) here
       over z n act r knows (Some access) does leaves here = (

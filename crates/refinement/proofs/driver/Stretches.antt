@@ -20,8 +20,8 @@ use Rattle.block_machine.specs.Histories.{IsReachable, IsSimulatedBySteps}
 use Rattle.block_machine.specs.Expected.{after}
 use Rattle.block_machine.specs.State.{Machine}
 use Rattle.refinement.specs.StepLaws.{StepLaws}
-use Rattle.refinement.specs.Acts.{Act, DriverSlots, IsActDone, driver_state_of_slots, accesses_of, act_steps}
-use Rattle.refinement.specs.Driver.{DriverRelation, IsBackedByDeviceAlone, KeepsSlotStates, MayStore, IsOwnPrepared}
+use Rattle.refinement.specs.Acts.{Act, DriverSlots, IsActDone, driver_state_of_slots, accesses_of, newest_first_steps_of_acts}
+use Rattle.refinement.specs.Driver.{DriverRelation, IsBackedByDeviceAlone, KeepsSlotStates, IsInMemoryOfFreeSlot, IsOwnCommandPreparedInSlot0}
 use Rattle.refinement.specs.Fragments.{driver_state_of, AnySlotStates, IsDrivenBy, IsSimulated, IsSimulatedChangingUses, IsSimulatedAlong, IsSimulatedAlongChangingUses, NoneWrites, GainsNoMove}
 use Rattle.refinement.specs.PreservedParts.{DoesNotWrite}
 use Rattle.refinement.specs.HaltRecovery.{WorksOnUnqueuedCommandsOnly}
@@ -97,13 +97,13 @@ module _ (May : Access → Type 0) (Fits Less : SlotStates → Type 0) (first se
     acts_reach = λ s m reached x fits.
         let c = a.acts_reach s m reached x fits in
         let g = done_goes c.acts (driver_state_of_slots s old) (driver_state_of_slots (then first s) mid) m x c.acts_are_done in
-        let e = b.acts_reach (then first s) (after m (act_steps c.acts)) (going_reaches (driver_state_of_slots s old) (driver_state_of_slots (then first s) mid) m (act_steps c.acts) reached g) g.driver_relation (on s.slot_states fits) in
+        let e = b.acts_reach (then first s) (after m (newest_first_steps_of_acts c.acts)) (going_reaches (driver_state_of_slots s old) (driver_state_of_slots (then first s) mid) m (newest_first_steps_of_acts c.acts) reached g) g.driver_relation (on s.slot_states fits) in
         record {
           acts = c.acts ++ e.acts;
           acts_are_done = done_more c.acts e.acts (driver_state_of_slots s old) (driver_state_of_slots (then first s) mid) (driver_state_of_slots (then second (then first s)) new) m c.acts_are_done e.acts_are_done;
           accesses_match_acts = accesses_append c.acts e.acts ∙ (ap (λ (early : List Access). early ++ accesses_of e.acts) c.accesses_match_acts ∙ ap (λ (late : List Access). a.is_driven.accesses ++ late) e.accesses_match_acts);
           acts_are_such = record {
-            all_steps_are_devices = subst AllByDevice (sym (steps_append c.acts e.acts)) (device_append (act_steps e.acts) (act_steps c.acts) e.acts_are_such.all_steps_are_devices c.acts_are_such.all_steps_are_devices);
+            all_steps_are_by_device = subst AllByDevice (sym (steps_append c.acts e.acts)) (device_append (newest_first_steps_of_acts e.acts) (newest_first_steps_of_acts c.acts) e.acts_are_such.all_steps_are_by_device c.acts_are_such.all_steps_are_by_device);
             unwritten_ports_keep_slots = λ port issues arms.
                 let early = c.acts_are_such.unwritten_ports_keep_slots port issues arms in
                 let mids : first s.slot_states port.0 ≡ s.slot_states port.0 = done_uses port.0 (s.slot_states port.0) c.acts (driver_state_of_slots s old) (driver_state_of_slots (then first s) mid) m refl early c.acts_are_done in
@@ -122,7 +122,7 @@ module _ (May : Access → Type 0) (Fits : SlotStates → Type 0) where
       acts = [];
       acts_are_done = refl;
       accesses_match_acts = refl;
-      acts_are_such = record { all_steps_are_devices = tt; unwritten_ports_keep_slots = λ port issues arms. All-nil (λ (act : Act). act.state_after.slot_states port.0 ≡ s.slot_states port.0) };
+      acts_are_such = record { all_steps_are_by_device = tt; unwritten_ports_keep_slots = λ port issues arms. All-nil (λ (act : Act). act.state_after.slot_states port.0 ≡ s.slot_states port.0) };
     };
   }
 
@@ -146,7 +146,7 @@ module _ (May More : Access → Type 0) (Fits Less : SlotStates → Type 0) wher
           acts = c.acts;
           acts_are_done = c.acts_are_done;
           accesses_match_acts = c.accesses_match_acts;
-          acts_are_such = record { all_steps_are_devices = c.acts_are_such.all_steps_are_devices; unwritten_ports_keep_slots = λ port issues arms. c.acts_are_such.unwritten_ports_keep_slots port (none_writes May More (Px port Ci) kind issues) (none_writes May More (Px port Sact) kind arms) };
+          acts_are_such = record { all_steps_are_by_device = c.acts_are_such.all_steps_are_by_device; unwritten_ports_keep_slots = λ port issues arms. c.acts_are_such.unwritten_ports_keep_slots port (none_writes May More (Px port Ci) kind issues) (none_writes May More (Px port Sact) kind arms) };
         };
   }
 
@@ -192,17 +192,17 @@ module _ (May : Access → Type 0) (Fits : SlotStates → Type 0) (next later : 
     is_driven = a.is_driven;
     acts_reach = λ s m reached x fits.
         let c = a.acts_reach s m reached x fits in
-        let mid : Machine = after m (act_steps c.acts) in
+        let mid : Machine = after m (newest_first_steps_of_acts c.acts) in
         let goes = done_goes c.acts (driver_state_of_slots s old) (driver_state_of_slots (then next s) new) m x c.acts_are_done in
         let is : DriverRelation mid (driver_state_of_slots (then later s) new) = knows s.slot_states s.awaiting_disposition mid fits goes.driver_relation in
         let act : Act = record { access = None; steps = []; state_after = driver_state_of_slots (then later s) new } in
-        let last : IsActDone (driver_state_of_slots (then next s) new) mid act = record { access_leads = refl; is_one_act = inl refl; driver_advances = goes_still (driver_state_of_slots (then next s) new) (driver_state_of_slots (then later s) new) mid refl is } in
+        let last : IsActDone (driver_state_of_slots (then next s) new) mid act = record { access_is_done_or_device_is_same = refl; are_device_steps_then_decision = inl refl; driver_advances = goes_still (driver_state_of_slots (then next s) new) (driver_state_of_slots (then later s) new) mid refl is } in
         record {
           acts = c.acts ++ act ∷ [];
           acts_are_done = done_more c.acts (act ∷ []) (driver_state_of_slots s old) (driver_state_of_slots (then next s) new) (driver_state_of_slots (then later s) new) m c.acts_are_done (last, refl);
           accesses_match_acts = accesses_append c.acts (act ∷ []) ∙ (append-nil (accesses_of c.acts) ∙ c.accesses_match_acts);
           acts_are_such = record {
-            all_steps_are_devices = subst AllByDevice (sym (steps_append c.acts (act ∷ []))) c.acts_are_such.all_steps_are_devices;
+            all_steps_are_by_device = subst AllByDevice (sym (steps_append c.acts (act ∷ []))) c.acts_are_such.all_steps_are_by_device;
             unwritten_ports_keep_slots = λ port issues arms.
                 let Q = λ (x : Act). x.state_after.slot_states port.0 ≡ s.slot_states port.0 in
                 All-append Q c.acts (act ∷ []) (c.acts_are_such.unwritten_ports_keep_slots port issues arms) (All-cons Q act [] (stays s.slot_states port issues arms) (All-nil Q));
@@ -227,7 +227,7 @@ followed_adds {May} {Fits} {next} {old} {new} a uses parked fits = record {
   simulates = λ m reached x.
       let c = a.acts_reach (record { slot_states = uses; awaiting_disposition = parked }) m reached x fits in
       let g = done_goes c.acts (driver_state_of uses parked old) (driver_state_of (next uses) parked new) m x c.acts_are_done in
-      (act_steps c.acts, g.steps_are_enabled, g.driver_relation, record { is_backed = g.is_backed; all_steps_are_devices = c.acts_are_such.all_steps_are_devices });
+      (newest_first_steps_of_acts c.acts, g.steps_are_enabled, g.driver_relation, record { is_backed = g.is_backed; all_steps_are_by_device = c.acts_are_such.all_steps_are_by_device });
 }
 
 -- no page of a port that issues nothing and whose slot 0 has no such command
@@ -263,10 +263,10 @@ module _ (May : Access → Type 0) (Fits : SlotStates → Type 0) (next : SlotSt
         let act : Act = record { access = Some access; steps = y.0; state_after = later } in
         record {
           acts = act ∷ [];
-          acts_are_done = (record { access_leads = does; is_one_act = inl y.1; driver_advances = y.2 }, refl);
+          acts_are_done = (record { access_is_done_or_device_is_same = does; are_device_steps_then_decision = inl y.1; driver_advances = y.2 }, refl);
           accesses_match_acts = refl;
           acts_are_such = record {
-            all_steps_are_devices = y.1;
+            all_steps_are_by_device = y.1;
             unwritten_ports_keep_slots = λ port issues arms.
                 let Q = λ (a : Act). a.state_after.slot_states port.0 ≡ s.slot_states port.0 in All-cons Q act [] (stays s.slot_states port issues arms) (All-nil Q);
           };
@@ -282,7 +282,7 @@ followed_load May driver_state_of_slots bytes old new kind call =
     followed_by May AnySlotStates (λ uses. uses) (Loading driver_state_of_slots bytes) old new kind call (λ uses parked is. load_adds (driver_state_of uses parked old) driver_state_of_slots bytes new call) (λ uses q issues arms. refl)
 
 pub followed_store : (May : Access → Type 0) (Fits : SlotStates → Type 0) (driver_state_of_slots : ℕ) (bytes : List ℕ) (old new : Device) → May (Storing driver_state_of_slots bytes) →
-    ((uses : SlotStates) → Fits uses → MayStore uses driver_state_of_slots (length bytes)) → Stores driver_state_of_slots bytes old new → IsSimulated May Fits old new
+    ((uses : SlotStates) → Fits uses → IsInMemoryOfFreeSlot uses driver_state_of_slots (length bytes)) → Stores driver_state_of_slots bytes old new → IsSimulated May Fits old new
 followed_store May Fits driver_state_of_slots bytes old new kind may call =
     followed_by May Fits (λ uses. uses) (Storing driver_state_of_slots bytes) old new kind call (λ uses parked is. store_adds (driver_state_of uses parked old) driver_state_of_slots bytes new (may uses is) call) (λ uses q issues arms. refl)
 
@@ -309,7 +309,7 @@ module _ (May : Access → Type 0) (Fits : SlotStates → Type 0) (r : Reg) (v :
 
 -- a command of the driver's own is issued
 pub followed_asking : (May : Access → Type 0) (Fits : SlotStates → Type 0) (port : Port) (o : Operation) (v : ℕ) (old new : Device) → May (Writing (Px port Ci) v) → old.hr ≡ false →
-    ((uses : SlotStates) → Fits uses → IsOwnPrepared uses old port.0 o v) → Writes (Px port Ci) v old new → IsSimulatedChangingUses May Fits (λ uses. set_slot_state uses port.0 0 (Own o)) old new
+    ((uses : SlotStates) → Fits uses → IsOwnCommandPreparedInSlot0 uses old port.0 o v) → Writes (Px port Ci) v old new → IsSimulatedChangingUses May Fits (λ uses. set_slot_state uses port.0 0 (Own o)) old new
 followed_asking May Fits port o v old new kind off prepared call =
     followed_by May Fits (λ uses. set_slot_state uses port.0 0 (Own o)) (Writing (Px port Ci) v) old new kind call
     (λ uses parked is. own_adds (driver_state_of uses parked old) port o v new off (prepared uses is) call) (λ uses q issues arms. changed_other uses port.0 _ q.0 (elsewhere q issues))

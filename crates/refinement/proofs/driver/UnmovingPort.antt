@@ -16,7 +16,7 @@ use Rattle.adapter.specs.declared.command.Operation.{Operation}
 use Rattle.adapter.specs.declared.tape.Entry.{Entry}
 use Rattle.adapter.proofs.Absurd.{some-none}
 use Rattle.refinement.specs.StepLaws.{StepLaws}
-use Rattle.refinement.specs.Fragments.{HasNoCommand, ReadsPortOrWrites, IsDrivenBy}
+use Rattle.refinement.specs.Fragments.{NoCommandIsIssuedOrTaken, ReadsPortOrWrites, IsDrivenBy}
 use Rattle.refinement.specs.Slots.{IsMove}
 use Rattle.refinement.proofs.device.FactsOverAccesses.{access_steps}
 use Rattle.refinement.proofs.driver.Stretches.{along}
@@ -30,7 +30,7 @@ module _ (laws : StepLaws) (port : ℕ) (o : Operation) where
   nothing : (d : Device) → GainsNone (IsMove port o) d d
   nothing d = gains_nothing (IsMove port o) d
 
-  module _ (d : Device) (none : HasNoCommand (d.port port)) where
+  module _ (d : Device) (none : NoCommandIsIssuedOrTaken (d.port port)) where
     no_entry : d.tape ≡ d.tape ++ []
     no_entry = sym (append-nil d.tape)
 
@@ -50,17 +50,17 @@ module _ (laws : StepLaws) (port : ℕ) (o : Operation) where
     step_unmoving ResetEnds can = ([], no_entry, All-nil (λ e. IsMove port o e → ⊥))
     step_unmoving (Scribble p slot at bytes) can = ([], no_entry, All-nil (λ e. IsMove port o e → ⊥))
 
-  leads_unmoving : (steps : List DeviceTransition) (old new : Device) → HasNoCommand (old.port port) → TransitionsLead steps old new → GainsNone (IsMove port o) old new
+  leads_unmoving : (steps : List DeviceTransition) (old new : Device) → NoCommandIsIssuedOrTaken (old.port port) → TransitionsLead steps old new → GainsNone (IsMove port o) old new
   leads_unmoving [] old new none e = subst (GainsNone (IsMove port o) old) (sym e) (nothing old)
   leads_unmoving (step ∷ steps) old new none (can, lead) =
       let k : KeepsOverSteps old (device_after step old) = laws.one_step_keeps step _ can in
       gains_more (IsMove port o) old (device_after step old) new (step_unmoving old none step can)
       (leads_unmoving steps (device_after step old) new (λ slot. record { is_not_issued = (k.port_bits_only_fall port).ci_stays_clear slot (none slot).is_not_issued; is_not_taken = (k.port_bits_only_fall port).slots_stay_free slot (none slot).is_not_issued (none slot).is_not_taken }) lead)
 
-  pub steps_unmoving : (old new : Device) → HasNoCommand (old.port port) → Steps old new → GainsNone (IsMove port o) old new
+  pub steps_unmoving : (old new : Device) → NoCommandIsIssuedOrTaken (old.port port) → Steps old new → GainsNone (IsMove port o) old new
   steps_unmoving old new none s = leads_unmoving s.steps old new none s.lead
 
-  pub access_unmoving : (access : Access) (old new : Device) → HasNoCommand (old.port port) → Does access old new → GainsNone (IsMove port o) old new
+  pub access_unmoving : (access : Access) (old new : Device) → NoCommandIsIssuedOrTaken (old.port port) → Does access old new → GainsNone (IsMove port o) old new
   access_unmoving access old new none x =
       let s = access_steps access old new x in
       let g = steps_unmoving old s.0 none s.1 in
@@ -68,13 +68,13 @@ module _ (laws : StepLaws) (port : ℕ) (o : Operation) where
 
 -- over accesses of one port that write no PxCI
 abbrev Unmoving : ℕ → Operation → Device → Device → Type 0
-Unmoving port o old new = HasNoCommand (old.port port) → GainsNone (IsMove port o) old new × HasNoCommand (new.port port)
+Unmoving port o old new = NoCommandIsIssuedOrTaken (old.port port) → GainsNone (IsMove port o) old new × NoCommandIsIssuedOrTaken (new.port port)
 
 module _ (laws : StepLaws) (Written : PortReg → Type 0) (quiet : Written Ci → ⊥) (port : Port) (o : Operation) where
   issues_none : (access : Access) → ReadsPortOrWrites Written port access → (slot v : ℕ) → access ≡ Writing (Px port Ci) v → bit v slot ≡ false
   issues_none access may slot v is = absurd (quiet (subst (ReadsPortOrWrites Written port) is may).1)
 
-  pub controls_unmoving : (old new : Device) → IsDrivenBy (ReadsPortOrWrites Written port) old new → HasNoCommand (old.port port.0) → GainsNone (IsMove port.0 o) old new × HasNoCommand (new.port port.0)
+  pub controls_unmoving : (old new : Device) → IsDrivenBy (ReadsPortOrWrites Written port) old new → NoCommandIsIssuedOrTaken (old.port port.0) → GainsNone (IsMove port.0 o) old new × NoCommandIsIssuedOrTaken (new.port port.0)
   controls_unmoving old new a none =
       along (Unmoving port.0 o) (λ d h. (nothing laws port.0 o d, h))
       (λ x y z p q h. let u = p h in let w = q u.1 in (gains_more (IsMove port.0 o) x y z u.0 w.0, w.1))

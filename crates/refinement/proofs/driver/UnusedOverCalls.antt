@@ -14,7 +14,7 @@ use Rattle.block_machine.specs.State.{Accepted, Machine}
 use Rattle.refinement.specs.MemoryLayout.{command_list_address}
 use Rattle.refinement.specs.Slots.{SlotDecodesTo, HasBlockIfTrim, Free, Own, SlotStates}
 use Rattle.refinement.specs.Relation.{StateRelation}
-use Rattle.refinement.specs.Driver.{KeepsTablesAndScratchUnlessOwn, MissesTableAndHeaderButPrdbc, MissesScratch, MayStore}
+use Rattle.refinement.specs.Driver.{KeepsTablesAndScratchUnlessOwn, MissesTableAndHeaderButPrdbc, MissesScratch, IsInMemoryOfFreeSlot}
 use Rattle.refinement.proofs.relation.WrittenBytes.{store_table, store_scratch}
 use Rattle.refinement.proofs.steps.UnusedSlots.{same_bytes, leaves_more, steps_leave}
 use Rattle.refinement.proofs.relation.SlotRelation.{told_on, block_on}
@@ -74,7 +74,7 @@ module _ (uses : SlotStates) (m : Machine) (old new : Device) (reached : IsReach
 
 -- ---- stores beside a slot
 
-pub store_misses : (uses : SlotStates) (port slot at n : ℕ) → uses port slot ≢ Free → port < 4 → slot < 32 → MayStore uses at n → MissesTableAndHeaderButPrdbc port slot at n
+pub store_misses : (uses : SlotStates) (port slot at n : ℕ) → uses port slot ≢ Free → port < 4 → slot < 32 → IsInMemoryOfFreeSlot uses at n → MissesTableAndHeaderButPrdbc port slot at n
 store_misses uses port slot at n used below small may place t low high = store_table uses port slot at n place used below small may t low high
 
 pub told_beside : (uses : SlotStates) (at : ℕ) (bytes : List ℕ) (old new : Device) → KeepsTablesAndScratchUnlessOwn uses (record old { memory = patched old.memory at bytes }) new → (port slot : ℕ) (c : Meaning) (places : List ℕ) →
@@ -83,7 +83,7 @@ told_beside uses at bytes old new l port slot c places below small misses told =
     told_on old.memory new.memory (command_list_address port) (command_list_address port) port slot c places refl refl
     (λ place t. l.tables port slot place below small t ∙ patched_apart old.memory at bytes place (misses place t)) told
 
-pub store_misses_scratch : (uses : SlotStates) (port at n : ℕ) → uses port 0 ≢ Free → port < 4 → MayStore uses at n → MissesScratch port at n
+pub store_misses_scratch : (uses : SlotStates) (port at n : ℕ) → uses port 0 ≢ Free → port < 4 → IsInMemoryOfFreeSlot uses at n → MissesScratch port at n
 store_misses_scratch uses port at n used below may place t low high = store_scratch uses port at n place below used may t low high
 
 pub block_beside : (uses : SlotStates) (at : ℕ) (bytes : List ℕ) (old new : Device) → KeepsTablesAndScratchUnlessOwn uses (record old { memory = patched old.memory at bytes }) new → (port : ℕ) (r : Accepted) → port < 4 →

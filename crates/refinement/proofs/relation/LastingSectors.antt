@@ -10,7 +10,7 @@ use Rattle.ata_types.specs.declared.request.Op.{Op}
 use Rattle.ata_types.specs.declared.request.Op.TheVariants.{Read, Write, Trim, Flush}
 use Rattle.adapter.specs.Commands.{is_ranged, reads_memory}
 use Rattle.adapter.specs.Device.{Disk, DurableState, DevicePort, FetchedCommand}
-use Rattle.adapter.specs.Steps.{WereHeldSinceFlush, bytes_put_into, lasting_after, lasting_after_plug, port_with_lasting_after_operation, next_sector, move_of, clear_entry}
+use Rattle.adapter.specs.Steps.{WereHeldSinceFlush, bytes_put_into, lasting_after, lasting_after_plug_or_replug, port_with_lasting_after_operation, next_sector, move_of, clear_entry}
 use Rattle.adapter.specs.declared.command.Operation.{Operation}
 use Rattle.adapter.specs.declared.command.Operation.TheVariants as operation
 use Rattle.adapter.specs.declared.tape.Entry.{Entry}
@@ -19,7 +19,7 @@ use Rattle.block_machine.specs.State as state
 use Rattle.block_machine.specs.State.{Block, Pending, Machine, sector_of, block_written}
 use Rattle.block_machine.specs.DueRequests.{is_flush, changes_sectors}
 use Rattle.block_machine.specs.Expected as left
-use Rattle.block_machine.specs.Steps.{Touch, End, Replace, SameBytes, HoldsOrHeldSinceFlush, after_step, put_sector}
+use Rattle.block_machine.specs.Steps.{Touch, End, PlugDisk, SameBytes, HoldsOrHeldSinceFlush, after_step, put_sector}
 use Rattle.refinement.specs.Slots.{client_operation_of}
 use Rattle.refinement.specs.Relation.{port_at, SameSectors, HoldsReplugCandidates}
 use Rattle.refinement.specs.Tape.{with_sectors_touched, touch_steps}
@@ -64,7 +64,7 @@ held_ended m e port k b other h =
 
 -- the disk that comes in at a port is the same, or the port is another
 held_replaced : (m : Machine) (p : Port) (id size : ℕ) (disk : state.DiskBytes) (port : Port) (k : ℕ) (b : Block) → ((port.0 == p.0) ≡ true → (id == m.disk_ids port) ≡ true)
-    → HoldsOrHeldSinceFlush m port k b → HoldsOrHeldSinceFlush (after_step m (Replace p id size disk)) port k b
+    → HoldsOrHeldSinceFlush m port k b → HoldsOrHeldSinceFlush (after_step m (PlugDisk p id size disk)) port k b
 held_replaced m p id size disk port k b same h = go (port.0 == p.0) (id == m.disk_ids port) same
   where
     go : (here known : Bool) → (here ≡ true → known ≡ true)
@@ -282,23 +282,23 @@ lasting_read m tape last p port o quiet none h =
 
 -- a disk comes in: the one that was in last, or another
 module _ (m : Machine) (port : ℕ) (disk : Disk) (content : state.DiskBytes) (tape : List Entry) (last : Entry) (quiet : IsQuiet last) where
-  pub lasting_put_in : (p new : DevicePort) → m.disk_ids (port_at port) ≡ p.disk.name → new.disk.sector_count ≡ disk.sector_count → new.lasting ≡ lasting_after_plug p.lasting p.disk disk (length tape)
-      → (disk.name ≡ p.disk.name → disk.sector_count ≡ p.disk.sector_count) → SameSectors (after_step m (Replace (port_at port) disk.name disk.sector_count content)) disk port
-      → HoldsReplugCandidates m tape p port → HoldsReplugCandidates (after_step m (Replace (port_at port) disk.name disk.sector_count content)) (tape ++ last ∷ []) new port
+  pub lasting_put_in : (p new : DevicePort) → m.disk_ids (port_at port) ≡ p.disk.name → new.disk.sector_count ≡ disk.sector_count → new.lasting ≡ lasting_after_plug_or_replug p.lasting p.disk disk (length tape)
+      → (disk.name ≡ p.disk.name → disk.sector_count ≡ p.disk.sector_count) → SameSectors (after_step m (PlugDisk (port_at port) disk.name disk.sector_count content)) disk port
+      → HoldsReplugCandidates m tape p port → HoldsReplugCandidates (after_step m (PlugDisk (port_at port) disk.name disk.sector_count content)) (tape ++ last ∷ []) new port
   lasting_put_in p new id size is known s h = by (nat_eq disk.name p.disk.name) refl
     where
-      by : (b : Bool) → nat_eq disk.name p.disk.name ≡ b → HoldsReplugCandidates (after_step m (Replace (port_at port) disk.name disk.sector_count content)) (tape ++ last ∷ []) new port
+      by : (b : Bool) → nat_eq disk.name p.disk.name ≡ b → HoldsReplugCandidates (after_step m (PlugDisk (port_at port) disk.name disk.sector_count content)) (tape ++ last ∷ []) new port
       by true e =
           let name : disk.name ≡ p.disk.name = eqb-true disk.name p.disk.name e in
-          lasting_on m (after_step m (Replace (port_at port) disk.name disk.sector_count content)) tape (tape ++ last ∷ []) p new port
+          lasting_on m (after_step m (PlugDisk (port_at port) disk.name disk.sector_count content)) tape (tape ++ last ∷ []) p new port
           (is ∙ cond-true (nat_eq disk.name p.disk.name) p.lasting (record { sectors = disk.sectors; tape_length = length tape }) e) (size ∙ known name)
           (λ k b held. held_replaced m (port_at port) disk.name disk.sector_count content (port_at port) k b (λ _. ap (λ (n : ℕ). disk.name == n) id ∙ e) held)
-          (gains_quiet tape last (after_step m (Replace (port_at port) disk.name disk.sector_count content)) port quiet) h
-      by false e = lasting_now (after_step m (Replace (port_at port) disk.name disk.sector_count content)) tape last disk new port quiet
+          (gains_quiet tape last (after_step m (PlugDisk (port_at port) disk.name disk.sector_count content)) port quiet) h
+      by false e = lasting_now (after_step m (PlugDisk (port_at port) disk.name disk.sector_count content)) tape last disk new port quiet
           (is ∙ cond-false (nat_eq disk.name p.disk.name) p.lasting (record { sectors = disk.sectors; tape_length = length tape }) e) size s
 
-  pub lasting_put_elsewhere : (p : DevicePort) (q : ℕ) → q ≢ port → HoldsReplugCandidates m tape p q → HoldsReplugCandidates (after_step m (Replace (port_at port) disk.name disk.sector_count content)) (tape ++ last ∷ []) p q
+  pub lasting_put_elsewhere : (p : DevicePort) (q : ℕ) → q ≢ port → HoldsReplugCandidates m tape p q → HoldsReplugCandidates (after_step m (PlugDisk (port_at port) disk.name disk.sector_count content)) (tape ++ last ∷ []) p q
   lasting_put_elsewhere p q ne h =
-      lasting_on m (after_step m (Replace (port_at port) disk.name disk.sector_count content)) tape (tape ++ last ∷ []) p p q refl refl
+      lasting_on m (after_step m (PlugDisk (port_at port) disk.name disk.sector_count content)) tape (tape ++ last ∷ []) p p q refl refl
       (λ k b held. held_replaced m (port_at port) disk.name disk.sector_count content (port_at q) k b (λ e. absurd (ne (eqb-true q port e))) held)
-      (gains_quiet tape last (after_step m (Replace (port_at port) disk.name disk.sector_count content)) q quiet) h
+      (gains_quiet tape last (after_step m (PlugDisk (port_at port) disk.name disk.sector_count content)) q quiet) h

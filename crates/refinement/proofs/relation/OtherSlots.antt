@@ -7,7 +7,7 @@ use Rattle.adapter.specs.Memory.{patched, changed}
 use Rattle.adapter.specs.Commands.{is_queued}
 use Rattle.adapter.specs.Device as device
 use Rattle.adapter.specs.Device.{HasKnownSectors, DurableState, FetchedCommand, DevicePort, Device}
-use Rattle.adapter.specs.Steps.{device_after, MayScribble, port_after_reset, IsReplugOf, WereHeldSinceFlush, lasting_after_plug}
+use Rattle.adapter.specs.Steps.{device_after, MayScribble, port_after_reset, IsReplugOf, WereHeldSinceFlush, lasting_after_plug_or_replug}
 use Rattle.adapter.specs.Steps.DeviceTransition.{Fault, Fatal, Fall, FrFall, LinkUp, Unplug, Plug, ResetEnds, Scribble}
 use Rattle.adapter.specs.declared.command.Operation.{Operation}
 use Rattle.adapter.specs.declared.tape.Entry.{Entry}
@@ -15,7 +15,7 @@ use Rattle.adapter.specs.declared.tape.Entry.TheVariants as entry
 use Rattle.block_machine.specs.State.{DiskBytes, Machine}
 use Rattle.block_machine.specs.Steps as machine
 use Rattle.block_machine.specs.Steps.{HoldsOrHeldSinceFlush, after_step}
-use Rattle.refinement.specs.Slots.{SlotState, Free, Own, Serves, SlotStates, IsInSomeStage, IsMove, OwnAwaitsFetch, OwnIsTaken, OwnIsOver, IsOver, HasListInPlace, RelatesSlot, Armed}
+use Rattle.refinement.specs.Slots.{SlotState, Free, Own, Serves, SlotStates, IsInSomeStage, IsMove, OwnAwaitsFetch, OwnIsTaken, OwnIsOverWithPageIfSt, IsOver, HasListInPlace, RelatesSlot, Armed}
 use Rattle.refinement.specs.Relation.{StateRelation, port_at, IsDiskOf, SameSectors, HoldsReplugCandidates, HasReceivedArea}
 use Rattle.refinement.specs.Tape.{PutsInDisks}
 use Rattle.refinement.specs.Simulation.{SimulatesSteps}
@@ -195,10 +195,10 @@ module _ (uses : SlotStates) (m : Machine) (d : Device) (a : StateRelation uses 
     slot_decodes_to = h.slot_decodes_to;
     unqueued = h.unqueued;
     st_set_is_on_tape = h.st_set_is_on_tape;
-    stage = inr (inr (record { over = over h.stage; page_is_brought = inl st }));
+    stage = inr (inr (record { over = over h.stage; page_stands_in_scratch_if_st = inl st }));
   }
     where
-      over : OwnAwaitsFetch (d.port port) k ⊎ (OwnIsTaken d.memory d.tape (d.port port) port k h.command ⊎ OwnIsOver d.memory d.tape (d.port port) port k h.command) → IsOver (record (d.port port) { cr = false; taken = λ _. None }) k
+      over : OwnAwaitsFetch (d.port port) k ⊎ (OwnIsTaken d.memory d.tape (d.port port) port k h.command ⊎ OwnIsOverWithPageIfSt d.memory d.tape (d.port port) port k h.command) → IsOver (record (d.port port) { cr = false; taken = λ _. None }) k
       over (inl w) = true_false w.started st
       over (inr (inl t)) = record { is_not_issued = t.issued ∙ st; is_not_taken = refl }
       over (inr (inr o)) = record { is_not_issued = o.over.is_not_issued; is_not_taken = refl }
@@ -250,7 +250,7 @@ module _ (uses : SlotStates) (m : Machine) (d : Device) (a : StateRelation uses 
     slot_decodes_to = h.slot_decodes_to;
     unqueued = refl;
     st_set_is_on_tape = h.st_set_is_on_tape;
-    stage = inr (inr (record { over = record { is_not_issued = refl; is_not_taken = refl }; page_is_brought = inl refl }));
+    stage = inr (inr (record { over = record { is_not_issued = refl; is_not_taken = refl }; page_stands_in_scratch_if_st = inl refl }));
   }
   reset_slot port k (Serves id) h = record {
     pending = h.pending;
@@ -332,7 +332,7 @@ module _ (uses : SlotStates) (m : Machine) (d : Device) (a : StateRelation uses 
   unfolding content_of
   plug_follows port disk gone tells known =
       let content : DiskBytes = content_of disk.sectors in
-      let m' : Machine = after_step m (machine.Replace (port_at port) disk.name disk.sector_count content) in
+      let m' : Machine = after_step m (machine.PlugDisk (port_at port) disk.name disk.sector_count content) in
       let come_in : (d.telling ≡ true → SameSectors m' disk port) = (λ t. record {
         told_sectors = (tells t).0;
         disk_tells = (tells t).1;
@@ -349,14 +349,14 @@ module _ (uses : SlotStates) (m : Machine) (d : Device) (a : StateRelation uses 
       (λ (was : WereHeldSinceFlush d.tape (d.port port).lasting port k (told.0 k)). a.holds_replug_candidates_if_disks_tell t port k (subst (λ (n : ℕ). k < n) that.size inside) (told.0 k) was)
       (that.holds s.told_sectors told.0 s.disk_tells told.1 k inside))) in
       record {
-        steps = machine.Replace (port_at port) disk.name disk.sector_count content ∷ [];
+        steps = machine.PlugDisk (port_at port) disk.name disk.sector_count content ∷ [];
         steps_are_enabled = (tt, ((a.disks_are_same port).present ∙ gone, λ same. (known (same ∙ (a.disks_are_same port).id)).size ∙ sym (a.disks_are_same port).sector_count));
         telling_is_same = refl;
         steps_are_faithful = λ t. (tt, λ same. comes_back t (known (same ∙ (a.disks_are_same port).id)));
         new_entries = _;
         tape_is = refl;
-        tape_tells_steps = (machine.Replace (port_at port) disk.name disk.sector_count content ∷ [], [], (disk.sector_count, content, refl), refl, refl);
-        plugged_disks_match_steps = changed_at d.port port _ (λ q p. (disks : List device.Disk) × (p.plug_history ≡ (d.port q).plug_history ++ disks) × PutsInDisks q disks (machine.Replace (port_at port) disk.name disk.sector_count content ∷ []))
+        tape_tells_steps = (machine.PlugDisk (port_at port) disk.name disk.sector_count content ∷ [], [], (disk.sector_count, content, refl), refl, refl);
+        plugged_disks_match_steps = changed_at d.port port _ (λ q p. (disks : List device.Disk) × (p.plug_history ≡ (d.port q).plug_history ++ disks) × PutsInDisks q disks (machine.PlugDisk (port_at port) disk.name disk.sector_count content ∷ []))
             (disk ∷ [], refl, inr (refl, ([], disk, refl, record { name_is = refl; size_is = refl; bytes_are_same = λ told is k b kl bl. ap (λ (o : Option (ℕ → List ℕ)). content_of o k b) (sym is) }, refl)))
             (λ q ne. ([], sym (append-nil (d.port q).plug_history), inl (λ e. ne (sym e), refl)));
         state_relation = record {
@@ -378,7 +378,7 @@ module _ (uses : SlotStates) (m : Machine) (d : Device) (a : StateRelation uses 
           sectors_are_same_if_disks_tell = λ t. changed_at d.port port _ (λ k p. SameSectors m' p.disk k) (come_in t)
               (λ k ne. sectors_on m m' (d.port k).disk k (λ s b lb. ap (λ (f : DiskBytes). f s b) (cond-false (k == port) content (m.disk_bytes (port_at k)) (ne_eqb k port ne))) (a.sectors_are_same_if_disks_tell t k));
           holds_replug_candidates_if_disks_tell = λ t. changed_at d.port port _ (λ k p. HoldsReplugCandidates m' (d.tape ++ entry.Plug (port_at port) disk.name ∷ []) p k)
-              (lasting_put_in m port disk content d.tape _ (λ _ _. refl) (d.port port) (record (d.port port) { disk = disk; lasting = lasting_after_plug (d.port port).lasting (d.port port).disk disk (length d.tape) }) (a.disks_are_same port).id refl refl (λ same. (known same).size) (come_in t) (a.holds_replug_candidates_if_disks_tell t port))
+              (lasting_put_in m port disk content d.tape _ (λ _ _. refl) (d.port port) (record (d.port port) { disk = disk; lasting = lasting_after_plug_or_replug (d.port port).lasting (d.port port).disk disk (length d.tape) }) (a.disks_are_same port).id refl refl (λ same. (known same).size) (come_in t) (a.holds_replug_candidates_if_disks_tell t port))
               (λ k ne. lasting_put_elsewhere m port disk content d.tape _ (λ _ _. refl) (d.port k) k ne (a.holds_replug_candidates_if_disks_tell t k));
         };
       }

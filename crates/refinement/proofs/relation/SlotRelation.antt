@@ -19,7 +19,7 @@ use Rattle.adapter.proofs.Changed.{changed_same, changed_other}
 use Rattle.block_machine.specs.State.{Accepted, Pending, Machine}
 use Rattle.block_machine.specs.Steps.{MayStillMove}
 use Rattle.refinement.specs.MemoryLayout.{command_list_address, scratch_frame_address, IsTableOrHeaderByteButPrdbc, IsScratchByte}
-use Rattle.refinement.specs.Slots.{SlotState, Free, Own, Serves, SlotStates, SlotDecodesTo, HasListInPlace, MeansRange, HasBlockIfTrim, AwaitsFetch, TouchedAsMoved, IsTakenFor, IsInSomeStage, IsMove, PageStandsInScratch, OwnAwaitsFetch, OwnIsTaken, OwnIsOver, IsOver, RelatesSlot, Armed}
+use Rattle.refinement.specs.Slots.{SlotState, Free, Own, Serves, SlotStates, SlotDecodesTo, HasListInPlace, MeansRange, HasBlockIfTrim, AwaitsFetch, TouchedAsMoved, IsTakenFor, IsInSomeStage, IsMove, PageCameSinceAndStandsInScratch, OwnAwaitsFetch, OwnIsTaken, OwnIsOverWithPageIfSt, IsOver, RelatesSlot, Armed}
 use Rattle.refinement.specs.Relation.{StateRelation}
 
 -- a port as one slot sees it
@@ -87,7 +87,7 @@ progress_on Write memory new port e t same h = h
 progress_on Flush memory new port e t same h = h
 
 pub brought_on : (memory new : ℕ → ℕ) (tape later : List Entry) (port : ℕ) (o : Operation) (since then_since : ℕ) → SameScratch memory new port → GainsNone tape later port o → then_since ≡ since →
-    PageStandsInScratch memory tape port o since → PageStandsInScratch new later port o then_since
+    PageCameSinceAndStandsInScratch memory tape port o since → PageCameSinceAndStandsInScratch new later port o then_since
 brought_on memory new tape later port o since then_since same gains is b = record {
   before = b.before;
   came_since = (let a = b.came_since in omega (arith, a, is));
@@ -155,8 +155,8 @@ module _ (memory new_memory : ℕ → ℕ) (p new : DevicePort) (port slot : ℕ
 
   -- and so does one of the driver's own
   pub own_on : (tape later : List Entry) (c : Meaning) → SameScratch memory new_memory port → GainsNone tape later port c.operation →
-      OwnAwaitsFetch p slot ⊎ (OwnIsTaken memory tape p port slot c ⊎ OwnIsOver memory tape p port slot c)
-      → OwnAwaitsFetch new slot ⊎ (OwnIsTaken new_memory later new port slot c ⊎ OwnIsOver new_memory later new port slot c)
+      OwnAwaitsFetch p slot ⊎ (OwnIsTaken memory tape p port slot c ⊎ OwnIsOverWithPageIfSt memory tape p port slot c)
+      → OwnAwaitsFetch new slot ⊎ (OwnIsTaken new_memory later new port slot c ⊎ OwnIsOverWithPageIfSt new_memory later new port slot c)
   own_on tape later c scratch gains (inl w) = inl (record { started = same.st ∙ w.started; issued = same.issued ∙ w.issued; is_not_taken = same.taken ∙ w.is_not_taken })
   own_on tape later c scratch gains (inr (inl t)) = inr (inl (record {
     command = t.command;
@@ -165,17 +165,17 @@ module _ (memory new_memory : ℕ → ℕ) (p new : DevicePort) (port slot : ℕ
     places_are = t.places_are;
     running = same.cr ∙ t.running;
     issued = same.issued ∙ t.issued ∙ sym same.st;
-    page_is_brought = ⊎_elim
+    page_stands_in_scratch_if_moved = ⊎_elim
         (λ (z : t.command.moved ≡ 0). inl z)
-        (λ (x : (t.command.moved ≡ 1) × PageStandsInScratch memory tape port c.operation p.notes.st_set_at). inr (x.0, brought_on memory new_memory tape later port c.operation p.notes.st_set_at new.notes.st_set_at scratch gains same.since x.1))
-        t.page_is_brought;
+        (λ (x : (t.command.moved ≡ 1) × PageCameSinceAndStandsInScratch memory tape port c.operation p.notes.st_set_at). inr (x.0, brought_on memory new_memory tape later port c.operation p.notes.st_set_at new.notes.st_set_at scratch gains same.since x.1))
+        t.page_stands_in_scratch_if_moved;
   }))
   own_on tape later c scratch gains (inr (inr x)) = inr (inr (record {
     over = over_on p new slot same x.over;
-    page_is_brought = ⊎_elim
+    page_stands_in_scratch_if_st = ⊎_elim
         (λ (z : p.st ≡ false). inl (same.st ∙ z))
-        (λ (b : PageStandsInScratch memory tape port c.operation p.notes.st_set_at). inr (brought_on memory new_memory tape later port c.operation p.notes.st_set_at new.notes.st_set_at scratch gains same.since b))
-        x.page_is_brought;
+        (λ (b : PageCameSinceAndStandsInScratch memory tape port c.operation p.notes.st_set_at). inr (brought_on memory new_memory tape later port c.operation p.notes.st_set_at new.notes.st_set_at scratch gains same.since b))
+        x.page_stands_in_scratch_if_st;
   }))
 
 pub own_free : {o : Operation} → Own o ≡ Free → ⊥

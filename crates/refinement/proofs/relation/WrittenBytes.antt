@@ -8,7 +8,7 @@ use Rattle.adapter.specs.declared.command.Operation.{Operation}
 use Rattle.adapter.proofs.MemoryLemmas.{patched_apart}
 use Rattle.refinement.specs.MemoryLayout.{command_list_address, received_fis_address, command_table_address, scratch_frame_address, IsTableOrHeaderByteButPrdbc, IsScratchByte}
 use Rattle.refinement.specs.Slots.{Free, Own, SlotStates}
-use Rattle.refinement.specs.Driver.{MayStore}
+use Rattle.refinement.specs.Driver.{IsInMemoryOfFreeSlot}
 use Rattle.refinement.proofs.relation.SlotRelation.{SameFixed, GainsNone, GainsNone-refl, NoPort}
 
 pub record InReceived (at n : ℕ) : Type 0 where
@@ -129,7 +129,7 @@ pub narrow : (port k at n a : ℕ) → at ≤ a → a < at + n → ((command_lis
 narrow port k at n a low high (inl x) = inl (omega (arith, x.0, low), omega (arith, x.1, high))
 narrow port k at n a low high (inr x) = inr (omega (arith, x.0, low), omega (arith, x.1, high))
 
-pub store_table : (uses : SlotStates) (port slot at n a : ℕ) → (uses port slot ≡ Free → ⊥) → port < 4 → slot < 32 → MayStore uses at n → IsTableOrHeaderByteButPrdbc port slot a → at ≤ a → a < at + n → ⊥
+pub store_table : (uses : SlotStates) (port slot at n a : ℕ) → (uses port slot ≡ Free → ⊥) → port < 4 → slot < 32 → IsInMemoryOfFreeSlot uses at n → IsTableOrHeaderByteButPrdbc port slot a → at ≤ a → a < at + n → ⊥
 store_table uses port slot at n a used below small (inl x) t low high =
     let r = table_in port slot a small t in
     let y = narrow x.port x.slot at n a low high x.is_in_header_or_table in
@@ -143,7 +143,7 @@ store_table uses port slot at n a used below small (inr x) t low high =
     let e : port ≡ x.port = same_port port x.port a r.0 (omega (arith, r.1)) (omega (arith, x.begins_in_scratch, low)) (omega (arith, x.ends_in_scratch, high)) in
     omega (arith, e, r.1, x.begins_in_scratch, low)
 
-pub store_scratch : (uses : SlotStates) (port at n a : ℕ) → port < 4 → (uses port 0 ≡ Free → ⊥) → MayStore uses at n → IsScratchByte port a → at ≤ a → a < at + n → ⊥
+pub store_scratch : (uses : SlotStates) (port at n a : ℕ) → port < 4 → (uses port 0 ≡ Free → ⊥) → IsInMemoryOfFreeSlot uses at n → IsScratchByte port a → at ≤ a → a < at + n → ⊥
 store_scratch uses port at n a below used (inl x) s low high =
     let y = in_free x.port x.slot a x.slot_below (narrow x.port x.slot at n a low high x.is_in_header_or_table) in
     let e : port ≡ x.port = same_port port x.port a (omega (arith, s.0)) (omega (arith, s.1)) y.0 (omega (arith, y.1)) in
@@ -152,13 +152,13 @@ store_scratch uses port at n a below used (inr x) s low high =
     let e : port ≡ x.port = same_port port x.port a (omega (arith, s.0)) (omega (arith, s.1)) (omega (arith, x.begins_in_scratch, low)) (omega (arith, x.ends_in_scratch, high)) in
     used (subst (λ (q : ℕ). uses q 0 ≡ Free) (sym e) x.free)
 
-pub stored_fixed : (uses : SlotStates) (memory : ℕ → ℕ) (at : ℕ) (bytes : List ℕ) (tape : List Entry) → MayStore uses at (length bytes) → SameFixed NoPort uses memory (patched memory at bytes) tape tape
+pub stored_fixed : (uses : SlotStates) (memory : ℕ → ℕ) (at : ℕ) (bytes : List ℕ) (tape : List Entry) → IsInMemoryOfFreeSlot uses at (length bytes) → SameFixed NoPort uses memory (patched memory at bytes) tape tape
 stored_fixed uses memory at bytes tape may = record {
   tables = λ port slot used below small a t. patched_apart memory at bytes a (λ low high. store_table uses port slot at (length bytes) a used below small may t low high);
   scratch = λ port used out below a s. patched_apart memory at bytes a (λ low high. store_scratch uses port at (length bytes) a below used may s low high);
   gains = λ port o u out. GainsNone-refl tape port o;
 }
 
-pub stored_low : (uses : SlotStates) (at n : ℕ) → MayStore uses at n → at + n ≤ DRIVER_BYTES
+pub stored_low : (uses : SlotStates) (at n : ℕ) → IsInMemoryOfFreeSlot uses at n → at + n ≤ DRIVER_BYTES
 stored_low uses at n (inl x) = ⊎_elim (λ y. omega (arith, y.1, x.port_is_below_4, x.slot_below)) (λ y. omega (arith, y.1, x.port_is_below_4, x.slot_below)) x.is_in_header_or_table
 stored_low uses at n (inr x) = omega (arith, x.ends_in_scratch, x.below)

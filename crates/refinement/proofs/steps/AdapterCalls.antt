@@ -12,7 +12,7 @@ use Rattle.block_machine.specs.Expected as left
 use Rattle.block_machine.specs.Histories.{IsReachable}
 use Rattle.refinement.specs.Slots.{SlotStates}
 use Rattle.refinement.specs.Relation.{StateRelation}
-use Rattle.refinement.specs.Driver.{MayStore}
+use Rattle.refinement.specs.Driver.{IsInMemoryOfFreeSlot}
 use Rattle.refinement.specs.Simulation.{SimulatesSteps}
 use Rattle.refinement.proofs.relation.SlotRelation.{SameSlot-refl, SameFixed-refl, NoPort, slot_on}
 use Rattle.refinement.proofs.relation.OneSlot.{memory_low}
@@ -105,7 +105,7 @@ pub load_follows : (uses : SlotStates) (m : Machine) (at : ℕ) (bytes : List �
 load_follows uses m at bytes old new reached a call = steps_follow uses m old new reached a call.steps
 
 -- a store by the driver, where no slot in use rests
-stored_agrees : (uses : SlotStates) (m : Machine) (d : Device) (at : ℕ) (bytes : List ℕ) → StateRelation uses m d → MayStore uses at (length bytes) → StateRelation uses m (record d { memory = patched d.memory at bytes })
+stored_agrees : (uses : SlotStates) (m : Machine) (d : Device) (at : ℕ) (bytes : List ℕ) → StateRelation uses m d → IsInMemoryOfFreeSlot uses at (length bytes) → StateRelation uses m (record d { memory = patched d.memory at bytes })
 stored_agrees uses m d at bytes a may = record {
   relates_slots = λ q k. slot_on NoPort uses m m d a (patched d.memory at bytes) d.tape (stored_fixed uses d.memory at bytes d.tape may) q k (d.port q) (SameSlot-refl (d.port q) k) (λ _ x. x) (λ id u e _ r. r);
   serve_distinct_requests = a.serve_distinct_requests;
@@ -116,7 +116,7 @@ stored_agrees uses m d at bytes a may = record {
   holds_replug_candidates_if_disks_tell = a.holds_replug_candidates_if_disks_tell;
 }
 
-pub store_follows : (uses : SlotStates) (m : Machine) (at : ℕ) (bytes : List ℕ) (old new : Device) → IsReachable m → StateRelation uses m old → MayStore uses at (length bytes) → Stores at bytes old new → SimulatesSteps uses m old new
+pub store_follows : (uses : SlotStates) (m : Machine) (at : ℕ) (bytes : List ℕ) (old new : Device) → IsReachable m → StateRelation uses m old → IsInMemoryOfFreeSlot uses at (length bytes) → Stores at bytes old new → SimulatesSteps uses m old new
 store_follows uses m at bytes old new reached a may call =
     let f : SimulatesSteps uses m old call.at_access = steps_follow uses m old call.at_access reached a call.steps in
     subst (λ (d : Device). SimulatesSteps uses m old d) (sym call.effect)

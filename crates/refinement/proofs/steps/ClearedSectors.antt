@@ -14,7 +14,7 @@ use Rattle.adapter.specs.Trim.{consecutive}
 use Rattle.adapter.specs.Steps.{device_after, MayClear, disk_cleared, clear_entry}
 use Rattle.adapter.specs.Steps.DeviceTransition.{Clear}
 use Rattle.adapter.proofs.Changed.{changed_same, changed_other}
-use Rattle.block_machine.specs.State.{Accepted, Block, Memory, Pending, Machine, frame_at, sector_of, is_reader, block_written}
+use Rattle.block_machine.specs.State.{Accepted, Block, Memory, Pending, Machine, nth_frame, sector_of, is_reader, block_written}
 use Rattle.block_machine.specs.State as state
 use Rattle.block_machine.specs.DueRequests.{changes_sectors}
 use Rattle.block_machine.specs.Steps.{Touch, MayStillMove, after_step, put_sector, put_bytes}
@@ -22,7 +22,7 @@ use Rattle.block_machine.specs.Expected as left
 use Rattle.block_machine.specs.Expected.{AllStepsFaithful}
 use Rattle.block_machine.specs.Events.{AllEnabled}
 use Rattle.refinement.specs.MemoryLayout.{scratch_frame_address}
-use Rattle.refinement.specs.Slots.{SlotState, Free, Own, Serves, SlotStates, MeansRequest, MeansRange, AreRequestPlaces, TouchedUpTo, TouchedAsMoved, ServesRequest, OwnAwaitsFetch, OwnIsTaken, OwnIsOver, RelatesSlot, client_operation_of, Armed}
+use Rattle.refinement.specs.Slots.{SlotState, Free, Own, Serves, SlotStates, MeansRequest, MeansRange, AreRequestPlaces, TouchedUpTo, TouchedAsMoved, ServesRequest, OwnAwaitsFetch, OwnIsTaken, OwnIsOverWithPageIfSt, RelatesSlot, client_operation_of, Armed}
 use Rattle.refinement.specs.Relation.{StateRelation, port_at, SameSectors}
 use Rattle.refinement.specs.Tape.{PutsInDisks, with_sectors_touched, touch_steps}
 use Rattle.refinement.specs.Simulation.{SimulatesSteps}
@@ -154,7 +154,7 @@ swept m e from (suc n) op r there fits inside =
         ∙ ap (λ (j : Accepted). put_sector j.port (j.asked.first.0 + (from + n)) (λ _. 0) (left.after m (touch_steps e from n)).disk_bytes q k b) request
 
     memory_now : (after_step (left.after m (touch_steps e from n)) (Touch (with_sectors_touched e from n) (from + n) (λ b. 0))).memory ≡ (left.after m (touch_steps e from n)).memory
-    memory_now = cond-false (is_reader (with_sectors_touched e from n).request.asked.op) (put_bytes (frame_at (with_sectors_touched e from n).request.asked.frames.items ((from + n) / 8)) (512 * ((from + n) % 8)) 512 (λ b. 0) (left.after m (touch_steps e from n)).memory) (left.after m (touch_steps e from n)).memory (ap is_reader is_trim)
+    memory_now = cond-false (is_reader (with_sectors_touched e from n).request.asked.op) (put_bytes (nth_frame (with_sectors_touched e from n).request.asked.frames.items ((from + n) / 8)) (512 * ((from + n) % 8)) 512 (λ b. 0) (left.after m (touch_steps e from n)).memory) (left.after m (touch_steps e from n)).memory (ap is_reader is_trim)
 
     more : Swept m e from n → Swept m e from (suc n)
     more old = record {
@@ -328,7 +328,7 @@ module _ (uses : SlotStates) (m : Machine) (d : Device) (a : StateRelation uses 
       by Armed u h = some_none can.works.taken h.is_not_taken
       by (Own o) u h = own h.stage
         where
-          own : OwnAwaitsFetch (d.port port) slot ⊎ (OwnIsTaken d.memory d.tape (d.port port) port slot h.command ⊎ OwnIsOver d.memory d.tape (d.port port) port slot h.command) → SimulatesSteps uses m d (device_after (Clear port slot t first count) d)
+          own : OwnAwaitsFetch (d.port port) slot ⊎ (OwnIsTaken d.memory d.tape (d.port port) port slot h.command ⊎ OwnIsOverWithPageIfSt d.memory d.tape (d.port port) port slot h.command) → SimulatesSteps uses m d (device_after (Clear port slot t first count) d)
           own (inl x) = some_none can.works.taken x.is_not_taken
           own (inr (inl x)) =
               let e : x.command ≡ t = some_same (sym x.taken ∙ can.works.taken) in

@@ -13,7 +13,7 @@ use Rattle.adapter.specs.declared.tape.Done as tape_done
 use Rattle.adapter.specs.declared.tape.Entry.{Entry}
 use Rattle.adapter.specs.declared.tape.Entry.TheVariants as entry
 use Rattle.block_machine.specs.State.{Pending, Machine}
-use Rattle.block_machine.specs.Steps.{Step, Unplug, Replace}
+use Rattle.block_machine.specs.Steps.{Step, Unplug, PlugDisk}
 use Rattle.block_machine.specs.Expected.{after}
 use Rattle.block_machine.specs.Events.{IsByDevice, changes_disk}
 use Rattle.block_machine.proofs.Members.{contains_none, contains_here, contains_there, contains_cases}
@@ -30,7 +30,7 @@ module _ (port : Port) where
   -- a step that isn't the device's changes no disk
   own_step : (step : Step) → (IsByDevice step → ⊥) → changes_disk port step ≡ false
   own_step (Unplug p) own = absurd (own tt)
-  own_step (Replace p name size content) own = absurd (own tt)
+  own_step (PlugDisk p name size content) own = absurd (own tt)
   own_step _ own = refl
 
   own_steps : (steps : List Step) → NoneByDevice steps → Changes steps ≡ false
@@ -76,7 +76,7 @@ module _ (port : Port) where
   entry_alike m (entry.Fault fault) steps t = inr (λ x. x, none_of _ steps t refl)
   entry_alike m (entry.Fatal at) steps t = inr (λ x. x, none_of _ steps t refl)
   entry_alike m (entry.Unplug at) steps t = at_one at (Unplug at) refl steps t
-  entry_alike m (entry.Plug at name) steps t = at_one at (Replace at name t.0 t.1) refl steps t.2
+  entry_alike m (entry.Plug at name) steps t = at_one at (PlugDisk at name t.0 t.1) refl steps t.2
 
   -- ---- entries
 

@@ -7,7 +7,7 @@ use Rattle.ata_types.specs.declared.request.RequestId.{RequestId}
 use Rattle.adapter.specs.Commands.{Meaning, is_queued}
 use Rattle.adapter.specs.Memory.{bytes_at, changed}
 use Rattle.adapter.specs.Device.{FetchedCommand, Device}
-use Rattle.adapter.specs.Steps.{device_after, MayBeDone, IsFinished, port_after_done, port_with_lasting_after_operation, done_entry}
+use Rattle.adapter.specs.Steps.{device_after, MayBeDone, IsFinished, port_after_done_except_lasting, port_with_lasting_after_operation, done_entry}
 use Rattle.adapter.specs.Steps.DeviceTransition.{Done}
 use Rattle.adapter.specs.declared.command.Operation.{Operation}
 use Rattle.adapter.specs.declared.command.Operation.TheVariants as operation
@@ -18,7 +18,7 @@ use Rattle.block_machine.specs.Steps as machine
 use Rattle.block_machine.specs.Steps.{AllTouched, after_step, mark_ended}
 use Rattle.block_machine.proofs.Standing.{standing}
 use Rattle.refinement.specs.MemoryLayout.{scratch_frame_address}
-use Rattle.refinement.specs.Slots.{SlotState, Free, Own, Serves, SlotStates, MeansRequest, MeansRange, AreRequestPlaces, TouchedUpTo, TouchedAsMoved, ServesRequest, PageStandsInScratch, OwnAwaitsFetch, OwnIsTaken, OwnIsOver, ServesOwn, RelatesSlot, client_operation_of, Armed}
+use Rattle.refinement.specs.Slots.{SlotState, Free, Own, Serves, SlotStates, MeansRequest, MeansRange, AreRequestPlaces, TouchedUpTo, TouchedAsMoved, ServesRequest, PageCameSinceAndStandsInScratch, OwnAwaitsFetch, OwnIsTaken, OwnIsOverWithPageIfSt, ServesOwn, RelatesSlot, client_operation_of, Armed}
 use Rattle.refinement.specs.Relation.{StateRelation, port_at}
 use Rattle.refinement.specs.Tape.{TellsDone}
 use Rattle.refinement.specs.Simulation.{SimulatesSteps}
@@ -90,7 +90,7 @@ all_touched Trim memory port e t fin is places flush p =
         (λ (y : (t.moved ≡ 1) × MeansRange t.block e.request). y.1) p.1
 
 module _ (uses : SlotStates) (m : Machine) (d : Device) (a : StateRelation uses m d) (reached : IsReachable m) (port slot flag : ℕ) (t : FetchedCommand) (can : MayBeDone d port slot flag t) where
-  others_same : (k : ℕ) → k ≢ slot → SameSlot (d.port port) (port_with_lasting_after_operation (port_after_done (d.port port) slot flag t.meaning.operation) t.meaning.operation (length d.tape)) k
+  others_same : (k : ℕ) → k ≢ slot → SameSlot (d.port port) (port_with_lasting_after_operation (port_after_done_except_lasting (d.port port) slot flag t.meaning.operation) t.meaning.operation (length d.tape)) k
   others_same k ne = record {
     issued = issued_other (is_queued t.meaning.operation) (d.port port).ci slot k ne;
     sact = sact_other (is_queued t.meaning.operation) (d.port port).sact slot k ne;
@@ -118,14 +118,14 @@ module _ (uses : SlotStates) (m : Machine) (d : Device) (a : StateRelation uses 
       refl,
     );
     plugged_disks_match_steps = plugged_kept d port _ (machine.End h.pending ∷ []) refl (λ _. refl);
-    state_relation = acted NoPort uses m (after_step m (machine.End h.pending)) d a d.memory (d.tape ++ done_entry port slot t.meaning.operation ∷ []) port slot (port_with_lasting_after_operation (port_after_done (d.port port) slot flag t.meaning.operation) t.meaning.operation (length d.tape)) (record {
+    state_relation = acted NoPort uses m (after_step m (machine.End h.pending)) d a d.memory (d.tape ++ done_entry port slot t.meaning.operation ∷ []) port slot (port_with_lasting_after_operation (port_after_done_except_lasting (d.port port) slot flag t.meaning.operation) t.meaning.operation (length d.tape)) (record {
       id = h.pending.request.id;
       goes = end_goes m h.pending;
       moves = others_move uses m (after_step m (machine.End h.pending)) d a port slot id u (subst (λ (n : RequestId). Goes m (after_step m (machine.End h.pending)) n) h.id_is (end_goes m h.pending));
       only = λ q z. absurd z;
       fixed = fixed_more uses d.memory d.tape (done_entry port slot t.meaning.operation) (λ q o v z. z);
       others = others_same;
-      here = subst (λ (v : SlotState). RelatesSlot (after_step m (machine.End h.pending)) d.memory (d.tape ++ done_entry port slot t.meaning.operation ∷ []) (port_with_lasting_after_operation (port_after_done (d.port port) slot flag t.meaning.operation) t.meaning.operation (length d.tape)) port slot v) (sym u)
+      here = subst (λ (v : SlotState). RelatesSlot (after_step m (machine.End h.pending)) d.memory (d.tape ++ done_entry port slot t.meaning.operation ∷ []) (port_with_lasting_after_operation (port_after_done_except_lasting (d.port port) slot flag t.meaning.operation) t.meaning.operation (length d.tape)) port slot v) (sym u)
           (record {
             pending = mark_ended h.pending;
             may_still_move = end_moves m h.pending h.may_still_move;
@@ -151,7 +151,7 @@ module _ (uses : SlotStates) (m : Machine) (d : Device) (a : StateRelation uses 
       size = refl;
       sectors = λ t'. sectors_on m (after_step m (machine.End h.pending)) (d.port port).disk port (λ k b lb. refl) (a.sectors_are_same_if_disks_tell t' port);
       other_sectors = λ t' q ne. sectors_on m (after_step m (machine.End h.pending)) (d.port q).disk q (λ k b lb. refl) (a.sectors_are_same_if_disks_tell t' q);
-      lasting = λ t'. lasting_ended m h.pending d.tape (done_entry port slot t.meaning.operation) (λ _ _. refl) (port_after_done (d.port port) slot flag t.meaning.operation) port t.meaning.operation means.op_is (a.sectors_are_same_if_disks_tell t' port) (a.holds_replug_candidates_if_disks_tell t' port);
+      lasting = λ t'. lasting_ended m h.pending d.tape (done_entry port slot t.meaning.operation) (λ _ _. refl) (port_after_done_except_lasting (d.port port) slot flag t.meaning.operation) port t.meaning.operation means.op_is (a.sectors_are_same_if_disks_tell t' port) (a.holds_replug_candidates_if_disks_tell t' port);
       other_lasting = λ t' q ne. lasting_ended_elsewhere m h.pending d.tape (done_entry port slot t.meaning.operation) (λ _ _. refl) (d.port q) port q h.port_is ne (a.holds_replug_candidates_if_disks_tell t' q);
       memory = a.client_frames_are_same;
     });
@@ -176,14 +176,14 @@ module _ (uses : SlotStates) (m : Machine) (d : Device) (a : StateRelation uses 
     tape_is = refl;
     tape_tells_steps = ([], [], subst (λ (w : Option Op). TellsDone w m (record { port = record { 0 = port }; slot = record { 0 = slot }; operation = t.meaning.operation }) []) (sym own) refl, refl, refl);
     plugged_disks_match_steps = plugged_kept d port _ [] refl (λ _. refl);
-    state_relation = acted NoPort uses m m d a d.memory (d.tape ++ done_entry port slot t.meaning.operation ∷ []) port slot (port_with_lasting_after_operation (port_after_done (d.port port) slot flag t.meaning.operation) t.meaning.operation (length d.tape)) (record {
+    state_relation = acted NoPort uses m m d a d.memory (d.tape ++ done_entry port slot t.meaning.operation ∷ []) port slot (port_with_lasting_after_operation (port_after_done_except_lasting (d.port port) slot flag t.meaning.operation) t.meaning.operation (length d.tape)) (record {
       id = record { 0 = 0 };
       goes = Goes-refl m (record { 0 = 0 });
       moves = λ port' slot' id' v ne y is r. r;
       only = λ q z. absurd z;
       fixed = fixed_more uses d.memory d.tape (done_entry port slot t.meaning.operation) (λ q o v z. z);
       others = others_same;
-      here = subst (λ (v : SlotState). RelatesSlot m d.memory (d.tape ++ done_entry port slot t.meaning.operation ∷ []) (port_with_lasting_after_operation (port_after_done (d.port port) slot flag t.meaning.operation) t.meaning.operation (length d.tape)) port slot v) (sym u)
+      here = subst (λ (v : SlotState). RelatesSlot m d.memory (d.tape ++ done_entry port slot t.meaning.operation ∷ []) (port_with_lasting_after_operation (port_after_done_except_lasting (d.port port) slot flag t.meaning.operation) t.meaning.operation (length d.tape)) port slot v) (sym u)
           (record {
             operation_is_drivers_own = h.operation_is_drivers_own;
             slot_is_0 = h.slot_is_0;
@@ -195,7 +195,7 @@ module _ (uses : SlotStates) (m : Machine) (d : Device) (a : StateRelation uses 
             st_set_is_on_tape = known_on d.tape (done_entry port slot t.meaning.operation ∷ []) (d.port port).notes.st_set_at h.st_set_is_on_tape;
             stage = inr (inr (record {
               over = record { is_not_issued = own_clear (is_queued t.meaning.operation) (d.port port).ci slot (own_plain t.meaning.operation own); is_not_taken = changed_same (d.port port).taken slot _ };
-              page_is_brought = inr brought;
+              page_stands_in_scratch_if_st = inr brought;
             }));
           });
       fre = refl;
@@ -205,7 +205,7 @@ module _ (uses : SlotStates) (m : Machine) (d : Device) (a : StateRelation uses 
       size = refl;
       sectors = λ t'. a.sectors_are_same_if_disks_tell t' port;
       other_sectors = λ t' q ne. a.sectors_are_same_if_disks_tell t' q;
-      lasting = λ t'. lasting_read m d.tape (done_entry port slot t.meaning.operation) (port_after_done (d.port port) slot flag t.meaning.operation) port t.meaning.operation (λ _ _. refl) own (a.holds_replug_candidates_if_disks_tell t' port);
+      lasting = λ t'. lasting_read m d.tape (done_entry port slot t.meaning.operation) (port_after_done_except_lasting (d.port port) slot flag t.meaning.operation) port t.meaning.operation (λ _ _. refl) own (a.holds_replug_candidates_if_disks_tell t' port);
       other_lasting = λ t' q ne. lasting_on m m d.tape _ (d.port q) (d.port q) q refl refl (λ _ _ held. held) (gains_quiet d.tape (done_entry port slot t.meaning.operation) m q (λ _ _. refl)) (a.holds_replug_candidates_if_disks_tell t' q);
       memory = a.client_frames_are_same;
     });
@@ -218,12 +218,12 @@ module _ (uses : SlotStates) (m : Machine) (d : Device) (a : StateRelation uses 
       moved : t.moved ≡ 1
       moved = can.finished.all_is_moved ∙ ap (λ (y : FetchedCommand). length y.places) (sym is) ∙ ap length x.places_are
 
-      brought : PageStandsInScratch d.memory (d.tape ++ done_entry port slot t.meaning.operation ∷ []) port h.command.operation (d.port port).notes.st_set_at
+      brought : PageCameSinceAndStandsInScratch d.memory (d.tape ++ done_entry port slot t.meaning.operation ∷ []) port h.command.operation (d.port port).notes.st_set_at
       brought = ⊎_elim
           (λ (z : x.command.moved ≡ 0). absurd (let e : t.moved ≡ x.command.moved = ap (λ (y : FetchedCommand). y.moved) (sym is) in let n = moved in omega (arith, e, z, n)))
-          (λ (b : (x.command.moved ≡ 1) × PageStandsInScratch d.memory d.tape port h.command.operation (d.port port).notes.st_set_at).
+          (λ (b : (x.command.moved ≡ 1) × PageCameSinceAndStandsInScratch d.memory d.tape port h.command.operation (d.port port).notes.st_set_at).
           brought_on d.memory d.memory d.tape (d.tape ++ done_entry port slot t.meaning.operation ∷ []) port h.command.operation (d.port port).notes.st_set_at (d.port port).notes.st_set_at (λ at here. refl) (gains_one d.tape (done_entry port slot t.meaning.operation) port h.command.operation (λ z. z)) refl b.1)
-          x.page_is_brought
+          x.page_stands_in_scratch_if_moved
 
   pub end_follows : SimulatesSteps uses m d (device_after (Done port slot flag t) d)
   end_follows = by (uses port slot) refl (a.relates_slots port slot)
@@ -233,7 +233,7 @@ module _ (uses : SlotStates) (m : Machine) (d : Device) (a : StateRelation uses 
       by Armed u h = some_none can.works.taken h.is_not_taken
       by (Own o) u h = own h.stage
         where
-          own : OwnAwaitsFetch (d.port port) slot ⊎ (OwnIsTaken d.memory d.tape (d.port port) port slot h.command ⊎ OwnIsOver d.memory d.tape (d.port port) port slot h.command) → SimulatesSteps uses m d (device_after (Done port slot flag t) d)
+          own : OwnAwaitsFetch (d.port port) slot ⊎ (OwnIsTaken d.memory d.tape (d.port port) port slot h.command ⊎ OwnIsOverWithPageIfSt d.memory d.tape (d.port port) port slot h.command) → SimulatesSteps uses m d (device_after (Done port slot flag t) d)
           own (inl x) = some_none can.works.taken x.is_not_taken
           own (inr (inl x)) = end_own o u h x (some_same (sym x.taken ∙ can.works.taken))
           own (inr (inr x)) = some_none can.works.taken x.over.is_not_taken

@@ -65,7 +65,7 @@ told_append m (step ∷ late) early a b = (told_append m late early a b.0, subst
 -- the disks of the earlier steps come first
 pub puts_append : (q : ℕ) (first then : List device.Disk) (early late : List machine.Step) → PutsInDisks q first early → PutsInDisks q then late → PutsInDisks q (first ++ then) (late ++ early)
 puts_append q first then early [] a b = subst (λ (disks : List device.Disk). PutsInDisks q disks early) (sym (ap (λ (x : List device.Disk). first ++ x) b ∙ append-nil first)) a
-puts_append q first then early (machine.Replace p name size content ∷ late) a b = ⊎_elim
+puts_append q first then early (machine.PlugDisk p name size content ∷ late) a b = ⊎_elim
     (λ (x : (p.0 ≢ q) × PutsInDisks q then late). inl (x.0, puts_append q first then early late a x.1))
     (λ (x : (p.0 ≡ q) × ((earlier : List device.Disk) × (disk : device.Disk) × (then ≡ earlier ++ disk ∷ []) × IsPutIn disk name size content × PutsInDisks q earlier late)).
     inr (x.0, (first ++ x.1.0, x.1.1, ap (λ (l : List device.Disk). first ++ l) x.1.2 ∙ sym (append_assoc first x.1.0 (x.1.1 ∷ [])), x.1.3, puts_append q first x.1.0 early late a x.1.4)))

@@ -7,21 +7,21 @@ use Rattle.ata_types.specs.declared.request.RequestId.{RequestId}
 use Rattle.ata_types.specs.declared.memory.TheConstants.{DRIVER_FRAMES, DRIVER_BYTES_PER_PORT, PRD_BYTES, SCRATCH_OFFSET, TABLE_BYTES, TABLE_HEAD_BYTES}
 use Rattle.adapter.specs.Commands.{Meaning}
 use Rattle.adapter.specs.Device.{FetchedCommand, Device}
-use Rattle.adapter.specs.Rules.{InDataBlocks, InUse, InTableOrPiece, DeviceOwns, IsUnowned, IsOn, HasPort, MayWrite, MayIssue, IsStable}
+use Rattle.adapter.specs.Rules.{InDataBlocks, InUse, InTableOrPiece, DeviceOwns, IsInMemoryNotOwnedByDevice, IsOn, HasPort, MayWrite, MayIssue, IsStable}
 use Rattle.adapter.specs.Rules as rules
 use Rattle.adapter.specs.Decoding.{DecodesTo}
 use Rattle.adapter.specs.declared.command.Operation.{Operation}
 use Rattle.adapter.proofs.SaysLemmas.{says_table, says_prds, says_places}
 use Rattle.block_machine.specs.Confinement.{MovesBytes}
 use Rattle.block_machine.specs.Histories.{IsReachable}
-use Rattle.block_machine.specs.State.{Pending, Machine, frame_at}
+use Rattle.block_machine.specs.State.{Pending, Machine, nth_frame}
 use Rattle.block_machine.specs.Steps.{MayStillMove}
 use Rattle.block_machine.proofs.Standing.{standing}
 use Rattle.refinement.specs.MemoryLayout.{command_list_address, received_fis_address, command_table_address, scratch_frame_address, sector_address}
 use Rattle.refinement.specs.Slots as slots
-use Rattle.refinement.specs.Slots.{SlotState, Free, Own, Serves, SlotDecodesTo, HasListInPlace, MeansRequest, AreRequestPlaces, IsInSomeStage, ServesRequest, ServesOwn, OwnAwaitsFetch, OwnIsTaken, OwnIsOver, IsOver, RelatesSlot, Armed}
+use Rattle.refinement.specs.Slots.{SlotState, Free, Own, Serves, SlotDecodesTo, HasListInPlace, MeansRequest, AreRequestPlaces, IsInSomeStage, ServesRequest, ServesOwn, OwnAwaitsFetch, OwnIsTaken, OwnIsOverWithPageIfSt, IsOver, RelatesSlot, Armed}
 use Rattle.refinement.specs.Relation.{StateRelation}
-use Rattle.refinement.specs.Driver.{MayStore}
+use Rattle.refinement.specs.Driver.{IsInMemoryOfFreeSlot}
 use Rattle.refinement.proofs.relation.WrittenBytes.{in_free, narrow, same_port}
 use Rattle.refinement.proofs.steps.MovedSector.{some_same}
 use Rattle.refinement.proofs.relation.OtherSlots.{some_none, true_false}
@@ -171,7 +171,7 @@ module _ (uses : slots.SlotStates) (m : Machine) (d : Device) (reached : IsReach
       by Armed u h = some_none is h.is_not_taken
       by (Own o) u h = own h.stage
         where
-          own : OwnAwaitsFetch (d.port port) slot ⊎ (OwnIsTaken d.memory d.tape (d.port port) port slot h.command ⊎ OwnIsOver d.memory d.tape (d.port port) port slot h.command) → IsUsed uses m d at
+          own : OwnAwaitsFetch (d.port port) slot ⊎ (OwnIsTaken d.memory d.tape (d.port port) port slot h.command ⊎ OwnIsOverWithPageIfSt d.memory d.tape (d.port port) port slot h.command) → IsUsed uses m d at
           own (inl y) = some_none is y.is_not_taken
           own (inr (inl y)) = of_page h u (inr (t, is)) (subst (λ (l : List ℕ). InDataBlocks l at) (ap (λ (z : FetchedCommand). z.places) (some_same (sym is ∙ y.taken)) ∙ y.places_are) x)
           own (inr (inr y)) = some_none is y.over.is_not_taken
@@ -207,7 +207,7 @@ slots_apart port slot k at sb kb ne x y = ⊎_elim ne (λ z. ⊎_elim (λ (l : s
 
 -- ---- the driver's own stores
 
-pub stores_unused : (uses : slots.SlotStates) (m : Machine) (d : Device) (at n byte : ℕ) → MayStore uses at n → at ≤ byte → byte < at + n → ((e : Pending) → MayStillMove m e → (i : ℕ) → i / 8 < length e.request.asked.frames.items → DRIVER_FRAMES ≤ (frame_at e.request.asked.frames.items (i / 8)).0) → IsUsed uses m d byte → ⊥
+pub stores_unused : (uses : slots.SlotStates) (m : Machine) (d : Device) (at n byte : ℕ) → IsInMemoryOfFreeSlot uses at n → at ≤ byte → byte < at + n → ((e : Pending) → MayStillMove m e → (i : ℕ) → i / 8 < length e.request.asked.frames.items → DRIVER_FRAMES ≤ (nth_frame e.request.asked.frames.items (i / 8)).0) → IsUsed uses m d byte → ⊥
 stores_unused uses m d at n byte (inl x) low high clients used =
     let y = narrow x.port x.slot at n byte low high x.is_in_header_or_table in
     let r = in_free x.port x.slot byte x.slot_below y in

@@ -16,7 +16,7 @@ use Rattle.adapter.specs.declared.tape.Entry.{Entry}
 use Rattle.adapter.specs.declared.tape.Entry.TheVariants as entry
 use Rattle.adapter.proofs.Changed.{changed_same, changed_other}
 use Rattle.adapter.proofs.MemoryLemmas.{bytes_index}
-use Rattle.block_machine.specs.State.{Block, Pending, Machine, is_reader, block_written, block_of, frame_at, sector_of}
+use Rattle.block_machine.specs.State.{Block, Pending, Machine, is_reader, block_written, block_of, nth_frame, sector_of}
 use Rattle.block_machine.specs.State as state
 use Rattle.block_machine.specs.DueRequests.{changes_sectors}
 use Rattle.block_machine.specs.Confinement.{MovesBytes}
@@ -156,7 +156,7 @@ module _ (uses : SlotStates) (m : Machine) (d : Device) (a : StateRelation uses 
       framed : t.moved / 8 < length h.pending.request.asked.frames.items
       framed = std.framed h.pending h.may_still_move (subst (λ (o : Op). MovesBytes o) (sym op_is) bytes_move) t.moved within
 
-      client : DRIVER_FRAMES ≤ (frame_at h.pending.request.asked.frames.items (t.moved / 8)).0
+      client : DRIVER_FRAMES ≤ (nth_frame h.pending.request.asked.frames.items (t.moved / 8)).0
       client = client_frame m reached h.pending h.may_still_move (t.moved / 8) framed
 
       abbrev touched : Machine
@@ -204,7 +204,7 @@ module _ (uses : SlotStates) (m : Machine) (d : Device) (a : StateRelation uses 
       disks_same : (q : Port) (k b : ℕ) → (after_step m (Touch h.pending t.moved (slice_index bytes))).disk_bytes q k b ≡ m.disk_bytes q k b
       disks_same q k b = ap (λ (f : Port → state.DiskBytes). f q k b) (cond-false (changes_sectors h.pending.request.asked.op) (put_sector h.pending.request.port (sector_of h.pending.request t.moved) (block_written h.pending.request.asked.op h.pending.request.blocks_at_acceptance t.moved) m.disk_bytes) m.disk_bytes (ap changes_sectors reads))
 
-      memory_is : (after_step m (Touch h.pending t.moved (slice_index bytes))).memory ≡ put_bytes (frame_at h.pending.request.asked.frames.items (t.moved / 8)) (512 * (t.moved % 8)) 512 (slice_index bytes) m.memory
+      memory_is : (after_step m (Touch h.pending t.moved (slice_index bytes))).memory ≡ put_bytes (nth_frame h.pending.request.asked.frames.items (t.moved / 8)) (512 * (t.moved % 8)) 512 (slice_index bytes) m.memory
       memory_is = cond-true (is_reader h.pending.request.asked.op) _ m.memory (ap is_reader reads)
 
       abbrev new_memory : ℕ → ℕ
@@ -256,9 +256,9 @@ module _ (uses : SlotStates) (m : Machine) (d : Device) (a : StateRelation uses 
           lasting = λ t'. lasting_on m (after_step m (Touch h.pending t.moved (slice_index bytes))) d.tape later (d.port port) (d.port port) port refl refl (lasting_touched m h.pending t.moved (slice_index bytes) port) (gains_quiet d.tape (entry.Move (move_of port slot t bytes)) (after_step m (Touch h.pending t.moved (slice_index bytes))) port (quiet_move port slot t bytes (no_write o))) (a.holds_replug_candidates_if_disks_tell t' port);
           other_lasting = λ t' q ne. lasting_on m (after_step m (Touch h.pending t.moved (slice_index bytes))) d.tape later (d.port q) (d.port q) q refl refl (lasting_touched m h.pending t.moved (slice_index bytes) q) (gains_quiet d.tape (entry.Move (move_of port slot t bytes)) (after_step m (Touch h.pending t.moved (slice_index bytes))) q (quiet_move port slot t bytes (no_write o))) (a.holds_replug_candidates_if_disks_tell t' q);
           memory = λ f b from small.
-              memory_put m d.memory (next_place t) (frame_at h.pending.request.asked.frames.items (t.moved / 8)) (512 * (t.moved % 8)) bytes
+              memory_put m d.memory (next_place t) (nth_frame h.pending.request.asked.frames.items (t.moved / 8)) (512 * (t.moved % 8)) bytes
               (place Read reads tt refl sector inside) (omega (arith, size)) a.client_frames_are_same f b from small
-              ∙ ap (λ (n : ℕ). put_bytes (frame_at h.pending.request.asked.frames.items (t.moved / 8)) (512 * (t.moved % 8)) n (slice_index bytes) m.memory f b) size
+              ∙ ap (λ (n : ℕ). put_bytes (nth_frame h.pending.request.asked.frames.items (t.moved / 8)) (512 * (t.moved % 8)) n (slice_index bytes) m.memory f b) size
               ∙ ap (λ (g : state.Memory). g f b) (sym memory_is);
         });
       }
@@ -281,8 +281,8 @@ module _ (uses : SlotStates) (m : Machine) (d : Device) (a : StateRelation uses 
           let f = framed Write writes tt refl sector inside in
           ap (λ (l : List ℕ). slice_index l b) brings
           ∙ bytes_index d.memory (next_place t) 512 b lb
-          ∙ ap d.memory (let r : next_place t + b ≡ 4096 * (frame_at h.pending.request.asked.frames.items (t.moved / 8)).0 + (512 * (t.moved % 8) + b) = omega (arith, w) in r)
-          ∙ a.client_frames_are_same (frame_at h.pending.request.asked.frames.items (t.moved / 8)) (512 * (t.moved % 8) + b) c (omega (arith, lb))
+          ∙ ap d.memory (let r : next_place t + b ≡ 4096 * (nth_frame h.pending.request.asked.frames.items (t.moved / 8)).0 + (512 * (t.moved % 8) + b) = omega (arith, w) in r)
+          ∙ a.client_frames_are_same (nth_frame h.pending.request.asked.frames.items (t.moved / 8)) (512 * (t.moved % 8) + b) c (omega (arith, lb))
           ∙ std.held h.pending h.may_still_move t.moved b (λ reads. absurd (let z : true ≡ false = sym reads ∙ ap is_reader writes in cc)) (omega (arith, f)) lb
 
       now : (q : Port) (k b : ℕ) → (after_step m (Touch h.pending t.moved (slice_index bytes))).disk_bytes q k b ≡ put_sector (port_at port) (sector_of h.pending.request t.moved) (h.pending.request.blocks_at_acceptance t.moved) m.disk_bytes q k b
@@ -292,7 +292,7 @@ module _ (uses : SlotStates) (m : Machine) (d : Device) (a : StateRelation uses 
           ∙ ap (λ (w : Op). put_sector (port_at port) (sector_of h.pending.request t.moved) (block_written w h.pending.request.blocks_at_acceptance t.moved) m.disk_bytes q k b) writes
 
       memory_kept : (after_step m (Touch h.pending t.moved (slice_index bytes))).memory ≡ m.memory
-      memory_kept = cond-false (is_reader h.pending.request.asked.op) (put_bytes (frame_at h.pending.request.asked.frames.items (t.moved / 8)) (512 * (t.moved % 8)) 512 (slice_index bytes) m.memory) m.memory (ap is_reader writes)
+      memory_kept = cond-false (is_reader h.pending.request.asked.op) (put_bytes (nth_frame h.pending.request.asked.frames.items (t.moved / 8)) (512 * (t.moved % 8)) 512 (slice_index bytes) m.memory) m.memory (ap is_reader writes)
 
       progressed : TouchedAsMoved h.pending.request.asked.op d.memory port (touch t.moved h.pending) (record t { moved = t.moved + 1 })
       progressed = subst (λ (w : Op). TouchedAsMoved w d.memory port (touch t.moved h.pending) (record t { moved = t.moved + 1 })) (sym writes)

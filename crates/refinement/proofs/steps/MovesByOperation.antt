@@ -17,7 +17,7 @@ use Rattle.adapter.proofs.MemoryLemmas.{patched_bytes}
 use Rattle.block_machine.specs.State.{Machine}
 use Rattle.block_machine.specs.Histories.{IsReachable}
 use Rattle.refinement.specs.MemoryLayout.{scratch_frame_address}
-use Rattle.refinement.specs.Slots.{SlotState, Free, Own, Serves, SlotStates, AreRequestPlaces, ServesRequest, PageStandsInScratch, OwnAwaitsFetch, OwnIsTaken, OwnIsOver, ServesOwn, RelatesSlot, client_operation_of, Armed}
+use Rattle.refinement.specs.Slots.{SlotState, Free, Own, Serves, SlotStates, AreRequestPlaces, ServesRequest, PageCameSinceAndStandsInScratch, OwnAwaitsFetch, OwnIsTaken, OwnIsOverWithPageIfSt, ServesOwn, RelatesSlot, client_operation_of, Armed}
 use Rattle.refinement.specs.Relation.{StateRelation}
 use Rattle.refinement.specs.Tape.{TellsMove}
 use Rattle.refinement.specs.Simulation.{SimulatesSteps}
@@ -100,7 +100,7 @@ module _ (uses : SlotStates) (m : Machine) (d : Device) (a : StateRelation uses 
         (λ q w v out. gains_one d.tape (entry.Move (move_of port slot t bytes)) q w (λ y. out (sym y.0)))
 
     -- the page stands there
-    brought : PageStandsInScratch (patched d.memory (next_place t) bytes) (d.tape ++ entry.Move (move_of port slot t bytes) ∷ []) port h.command.operation (d.port port).notes.st_set_at
+    brought : PageCameSinceAndStandsInScratch (patched d.memory (next_place t) bytes) (d.tape ++ entry.Move (move_of port slot t bytes) ∷ []) port h.command.operation (d.port port).notes.st_set_at
     brought = record {
       before = d.tape;
       came_since = h.st_set_is_on_tape;
@@ -162,7 +162,7 @@ module _ (uses : SlotStates) (m : Machine) (d : Device) (a : StateRelation uses 
                 places_are = places_are;
                 running = x.running;
                 issued = x.issued;
-                page_is_brought = inr (let n = none_moved in omega (arith, n), brought);
+                page_stands_in_scratch_if_moved = inr (let n = none_moved in omega (arith, n), brought);
               }));
             });
         fre = refl;
@@ -194,7 +194,7 @@ module _ (uses : SlotStates) (m : Machine) (d : Device) (a : StateRelation uses 
   own_by bytes operation.Flush first count places moved block cleared own can x is = none_op (sym own)
 
   own_follows : (t : FetchedCommand) (bytes : List ℕ) → MayMove d port slot t bytes →
-      OwnAwaitsFetch (d.port port) slot ⊎ (OwnIsTaken d.memory d.tape (d.port port) port slot h.command ⊎ OwnIsOver d.memory d.tape (d.port port) port slot h.command) → SimulatesSteps uses m d (device_after (Move port slot t bytes) d)
+      OwnAwaitsFetch (d.port port) slot ⊎ (OwnIsTaken d.memory d.tape (d.port port) port slot h.command ⊎ OwnIsOverWithPageIfSt d.memory d.tape (d.port port) port slot h.command) → SimulatesSteps uses m d (device_after (Move port slot t bytes) d)
   own_follows t bytes can (inl x) = some_none can.works.taken x.is_not_taken
   own_follows t bytes can (inr (inl x)) =
       let e : x.command ≡ t = some_same (sym x.taken ∙ can.works.taken) in

@@ -6,8 +6,8 @@ use Rattle.ata_types.specs.declared.Port.{Port}
 use Rattle.ata_types.specs.declared.request.Frame.{Frame}
 use Rattle.ata_types.specs.declared.request.RequestId.{RequestId}
 use Rattle.adapter.specs.Device.{Device}
-use Rattle.block_machine.specs.State.{Accepted, Block, Memory, Pending, Machine, frame_at, unanswered, is_reader}
-use Rattle.block_machine.specs.Steps.{Step, Accept, Issue, Touch, End, Age, WaitAgain, Answer, Revoke, Release, Unplug, Replace, Store, Load, IsEnabled, MayStillMove, NoneKept, after_step, update_pending, touch, mark_ended, put_bytes, memory_after_touch}
+use Rattle.block_machine.specs.State.{Accepted, Block, Memory, Pending, Machine, nth_frame, unanswered, is_reader}
+use Rattle.block_machine.specs.Steps.{Step, Accept, Issue, Touch, End, Age, WaitAgain, Answer, Revoke, Release, Unplug, PlugDisk, Store, Load, IsEnabled, MayStillMove, NoneKept, after_step, update_pending, touch, mark_ended, put_bytes, memory_after_touch}
 use Rattle.block_machine.specs.Expected.{after}
 use Rattle.block_machine.specs.Events.{IsByDevice, AllByDevice, AllEnabled}
 use Rattle.block_machine.specs.Histories.{IsReachable}
@@ -19,7 +19,7 @@ use Rattle.block_machine.proofs.Standing.{standing}
 use Rattle.block_machine.proofs.Trace.{runs_lives}
 use Rattle.refinement.specs.Simulation.{SimulatesSteps}
 use Rattle.refinement.specs.Slots.{SlotStates}
-use Rattle.refinement.specs.SparedBook.{IsAsFarOrFurther, AllAsFarOrFurther, KeepsLoansAndBookOnlyAdvances}
+use Rattle.refinement.specs.SparedBook.{IsAsFarOrFurther, AllAsFarOrFurther, KeepsLoansAndPendingsOnlyAdvance}
 use Rattle.refinement.proofs.steps.WaitingRequests.{tells_device}
 
 -- ---- requests
@@ -65,10 +65,10 @@ all_at f on id (e ∷ es) = (one, all_at f on id es)
 
 -- ---- steps
 
-pub spares_refl : (m : Machine) → KeepsLoansAndBookOnlyAdvances m m
+pub spares_refl : (m : Machine) → KeepsLoansAndPendingsOnlyAdvance m m
 spares_refl m = record { rows = refl; owner = refl; lent = refl; next_id = refl; book = all_refl m.book; kept = all_refl m.kept }
 
-pub spares_more : (a b c : Machine) → KeepsLoansAndBookOnlyAdvances a b → KeepsLoansAndBookOnlyAdvances b c → KeepsLoansAndBookOnlyAdvances a c
+pub spares_more : (a b c : Machine) → KeepsLoansAndPendingsOnlyAdvance a b → KeepsLoansAndPendingsOnlyAdvance b c → KeepsLoansAndPendingsOnlyAdvance a c
 spares_more a b c x y = record {
   rows = y.rows ∙ x.rows;
   owner = y.owner ∙ x.owner;
@@ -78,7 +78,7 @@ spares_more a b c x y = record {
   kept = all_more a.kept b.kept c.kept x.kept y.kept;
 }
 
-step_spares : (m : Machine) (step : Step) → IsByDevice step → KeepsLoansAndBookOnlyAdvances m (after_step m step)
+step_spares : (m : Machine) (step : Step) → IsByDevice step → KeepsLoansAndPendingsOnlyAdvance m (after_step m step)
 step_spares m (Touch e i block) is = record {
   rows = refl;
   owner = refl;
@@ -96,7 +96,7 @@ step_spares m (End e) is = record {
   kept = all_at mark_ended ended_further e.request.id m.kept;
 }
 step_spares m (Unplug port) is = record { rows = refl; owner = refl; lent = refl; next_id = refl; book = all_refl m.book; kept = all_refl m.kept }
-step_spares m (Replace port id size disk) is = record { rows = refl; owner = refl; lent = refl; next_id = refl; book = all_refl m.book; kept = all_refl m.kept }
+step_spares m (PlugDisk port id size disk) is = record { rows = refl; owner = refl; lent = refl; next_id = refl; book = all_refl m.book; kept = all_refl m.kept }
 step_spares m (Accept r) is = absurd is
 step_spares m (Issue mode e) is = absurd is
 step_spares m (Age ready) is = absurd is
@@ -107,7 +107,7 @@ step_spares m Release is = absurd is
 step_spares m (Store client frame offset bytes) is = absurd is
 step_spares m (Load client frame offset bytes) is = absurd is
 
-pub steps_spare : (m : Machine) (steps : List Step) → AllByDevice steps → KeepsLoansAndBookOnlyAdvances m (after m steps)
+pub steps_spare : (m : Machine) (steps : List Step) → AllByDevice steps → KeepsLoansAndPendingsOnlyAdvance m (after m steps)
 steps_spare m [] is = spares_refl m
 steps_spare m (step ∷ before) is =
     spares_more m (after m before) (after m (step ∷ before)) (steps_spare m before is.0) (step_spares (after m before) step is.1)
@@ -146,7 +146,7 @@ entry_is_found_in_earlier_book (x ∷ xs) (y ∷ ys) e a i = ⊎_elim
 abbrev IsUnmoved : Machine → Frame → Type 0
 IsUnmoved m frame = (e : Pending) → MayStillMove m e → m.lent frame ≡ Some e.request.id → ⊥
 
-unmoved_on : (m n : Machine) (frame : Frame) → KeepsLoansAndBookOnlyAdvances m n → IsUnmoved m frame → IsUnmoved n frame
+unmoved_on : (m n : Machine) (frame : Frame) → KeepsLoansAndPendingsOnlyAdvance m n → IsUnmoved m frame → IsUnmoved n frame
 unmoved_on m n frame s none e may lent = ⊎_elim
     (λ (z : Contains n.book e × (e.issued ≡ true)).
     let q = entry_is_found_in_earlier_book m.book n.book e s.book z.0 in
@@ -162,19 +162,19 @@ touch_leaves : (m : Machine) → Sound m → (e : Pending) (i : ℕ) (block : Bl
 touch_leaves m s e i block may frame none b = by (is_reader e.request.asked.op) refl
   where
     by : (t : Bool) → is_reader e.request.asked.op ≡ t → memory_after_touch e.request i block m.memory frame b ≡ m.memory frame b
-    by false t = ap (λ (x : Memory). x frame b) (cond-false (is_reader e.request.asked.op) (put_bytes (frame_at e.request.asked.frames.items (i / 8)) (512 * (i % 8)) 512 block m.memory) m.memory t)
+    by false t = ap (λ (x : Memory). x frame b) (cond-false (is_reader e.request.asked.op) (put_bytes (nth_frame e.request.asked.frames.items (i / 8)) (512 * (i % 8)) 512 block m.memory) m.memory t)
     by true t =
         let l = runs_lives m e may.0 in
         let room = s.room e l t in
-        ap (λ (x : Memory). x frame b) (cond-true (is_reader e.request.asked.op) (put_bytes (frame_at e.request.asked.frames.items (i / 8)) (512 * (i % 8)) 512 block m.memory) m.memory t)
-        ∙ put_other (frame_at e.request.asked.frames.items (i / 8)) frame (512 * (i % 8)) b 512 block m.memory
+        ap (λ (x : Memory). x frame b) (cond-true (is_reader e.request.asked.op) (put_bytes (nth_frame e.request.asked.frames.items (i / 8)) (512 * (i % 8)) 512 block m.memory) m.memory t)
+        ∙ put_other (nth_frame e.request.asked.frames.items (i / 8)) frame (512 * (i % 8)) b 512 block m.memory
         (λ same low high. none e may.0 (ap m.lent (sym same) ∙ s.lent e l (i / 8) (omega (arith, room, may.1))))
 
 step_frames : (m : Machine) → Sound m → (step : Step) → IsByDevice step → IsEnabled m step → (frame : Frame) → IsUnmoved m frame → (b : ℕ) → (after_step m step).memory frame b ≡ m.memory frame b
 step_frames m s (Touch e i block) is may frame none b = touch_leaves m s e i block may frame none b
 step_frames m s (End e) is may frame none b = refl
 step_frames m s (Unplug port) is may frame none b = refl
-step_frames m s (Replace port id size disk) is may frame none b = refl
+step_frames m s (PlugDisk port id size disk) is may frame none b = refl
 step_frames m s (Accept r) is may frame none b = absurd is
 step_frames m s (Issue mode e) is may frame none b = absurd is
 step_frames m s (Age ready) is may frame none b = absurd is
@@ -194,11 +194,11 @@ frames_stay m (step ∷ before) frame r is may none b =
 
 -- ---- a machine that follows
 
-pub follows_spare : (uses : SlotStates) (m : Machine) (old new : Device) → (f : SimulatesSteps uses m old new) → KeepsLoansAndBookOnlyAdvances m (after m f.steps)
+pub follows_spare : (uses : SlotStates) (m : Machine) (old new : Device) → (f : SimulatesSteps uses m old new) → KeepsLoansAndPendingsOnlyAdvance m (after m f.steps)
 follows_spare uses m old new f = steps_spare m f.steps (tells_device m f.new_entries f.steps f.tape_tells_steps)
 
 -- where no request of the port is kept, none is later
-pub none_kept_on : (m n : Machine) (port : Port) → KeepsLoansAndBookOnlyAdvances m n → NoneKept m port → NoneKept n port
+pub none_kept_on : (m n : Machine) (port : Port) → KeepsLoansAndPendingsOnlyAdvance m n → NoneKept m port → NoneKept n port
 none_kept_on m n port s none e i is =
     let q = entry_is_found_in_earlier_book m.kept n.kept e s.kept i in
     none q.0 q.1 (ap (λ (r : Accepted). r.port) (sym q.2.request) ∙ is)

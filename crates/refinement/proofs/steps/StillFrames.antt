@@ -10,23 +10,23 @@ use Rattle.ata_types.specs.declared.memory.TheConstants.{DRIVER_BYTES, DRIVER_FR
 use Rattle.adapter.specs.Commands.{Meaning}
 use Rattle.adapter.specs.Device.{FetchedCommand, DevicePort, Device}
 use Rattle.adapter.specs.Idle.{IsIdle, IsIdlePort}
-use Rattle.adapter.specs.KeptBySteps.{PortBitsOnlyFall}
-use Rattle.adapter.specs.Rules.{InDataBlocks, InUse, InTableOrPiece, IsUnowned, IsStable}
+use Rattle.adapter.specs.KeptBySteps.{PortBitsOnlyFallFreeSlotsStay}
+use Rattle.adapter.specs.Rules.{InDataBlocks, InUse, InTableOrPiece, IsInMemoryNotOwnedByDevice, IsStable}
 use Rattle.adapter.specs.Rules as rules
 use Rattle.adapter.proofs.KeptLemmas.{law_step_lists_keep_what_steps_keep}
 use Rattle.adapter.proofs.SaysLemmas.{says_table, says_prds, says_places}
 use Rattle.block_machine.specs.Confinement.{MovesBytes}
 use Rattle.block_machine.specs.Histories.{IsReachable}
 use Rattle.block_machine.specs.Expected as left
-use Rattle.block_machine.specs.State.{Machine, frame_at}
+use Rattle.block_machine.specs.State.{Machine, nth_frame}
 use Rattle.block_machine.proofs.HistoryLemmas.{reached_more}
 use Rattle.block_machine.proofs.Standing.{Standing, standing}
 use Rattle.refinement.specs.Relation.{StateRelation}
-use Rattle.refinement.specs.PortFacts.{DeviceSparesFrame, CommandsAreOver}
+use Rattle.refinement.specs.PortFacts.{DeviceOwnsNoByteOfFrame, CommandsAreOver}
 use Rattle.refinement.specs.Simulation.{SimulatesSteps}
 use Rattle.refinement.specs.MemoryLayout.{scratch_frame_address, sector_address}
-use Rattle.refinement.specs.Slots.{SlotState, Free, Own, Serves, SlotStates, SlotDecodesTo, HasListInPlace, AreRequestPlaces, ServesRequest, OwnAwaitsFetch, OwnIsTaken, OwnIsOver, IsOver, RelatesSlot, Armed}
-use Rattle.refinement.specs.SparedBook.{KeepsLoansAndBookOnlyAdvances}
+use Rattle.refinement.specs.Slots.{SlotState, Free, Own, Serves, SlotStates, SlotDecodesTo, HasListInPlace, AreRequestPlaces, ServesRequest, OwnAwaitsFetch, OwnIsTaken, OwnIsOverWithPageIfSt, IsOver, RelatesSlot, Armed}
+use Rattle.refinement.specs.SparedBook.{KeepsLoansAndPendingsOnlyAdvance}
 use Rattle.refinement.proofs.steps.FollowedSteps.{steps_follow}
 use Rattle.block_machine.proofs.Lending.{lent_clients}
 use Rattle.refinement.proofs.steps.MovedSector.{TakenAs, taken_as}
@@ -76,9 +76,9 @@ module _ (uses : SlotStates) (m : Machine) (d : Device) (a : StateRelation uses 
         framed moves places =
             let within : x.number < h.pending.request.asked.count = omega (arith, x.number_in_range, places.0) in
             let here : slice_index h.places x.number ≡ sector_address h.pending.request.asked.frames.items x.number = places.1 x.number within in
-            let same : (frame_at h.pending.request.asked.frames.items (x.number / 8)).0 ≡ frame.0 = omega (arith, here, x.from, x.to, from, to) in
-            let whole : frame_at h.pending.request.asked.frames.items (x.number / 8) ≡ frame = ap (λ n. record { 0 = n }) same in
-            let lent : m.lent (frame_at h.pending.request.asked.frames.items (x.number / 8)) ≡ Some h.pending.request.id = std.lent h.pending h.may_still_move (x.number / 8) (std.framed h.pending h.may_still_move moves x.number within) in
+            let same : (nth_frame h.pending.request.asked.frames.items (x.number / 8)).0 ≡ frame.0 = omega (arith, here, x.from, x.to, from, to) in
+            let whole : nth_frame h.pending.request.asked.frames.items (x.number / 8) ≡ frame = ap (λ n. record { 0 = n }) same in
+            let lent : m.lent (nth_frame h.pending.request.asked.frames.items (x.number / 8)) ≡ Some h.pending.request.id = std.lent h.pending h.may_still_move (x.number / 8) (std.framed h.pending h.may_still_move moves x.number within) in
             over_unused (d.port port) slot (over id (ap m.lent (sym whole) ∙ lent ∙ ap Some h.id_is) port slot u) used
 
         by : (op : Op) → h.pending.request.asked.op ≡ op → ⊥
@@ -104,7 +104,7 @@ module _ (uses : SlotStates) (m : Machine) (d : Device) (a : StateRelation uses 
     taken Armed is h t there x = absurd (none-some _ (sym h.is_not_taken ∙ there))
     taken (Own o) is h t there x = own h.stage
       where
-        own : OwnAwaitsFetch (d.port port) slot ⊎ (OwnIsTaken d.memory d.tape (d.port port) port slot h.command ⊎ OwnIsOver d.memory d.tape (d.port port) port slot h.command) → ⊥
+        own : OwnAwaitsFetch (d.port port) slot ⊎ (OwnIsTaken d.memory d.tape (d.port port) port slot h.command ⊎ OwnIsOverWithPageIfSt d.memory d.tape (d.port port) port slot h.command) → ⊥
         own (inl w) = absurd (none-some _ (sym w.is_not_taken ∙ there))
         own (inr (inl y)) = scratch_low port at t.places h.list_is_in_place.port_below (ap (λ (z : FetchedCommand). z.places) (same_Some _ _ (sym there ∙ y.taken)) ∙ y.places_are) past x
         own (inr (inr y)) = absurd (none-some _ (sym y.over.is_not_taken ∙ there))
@@ -123,31 +123,31 @@ module _ (uses : SlotStates) (m : Machine) (d : Device) (a : StateRelation uses 
         y)
         x
 
-  still_now : DeviceSparesFrame frame d
+  still_now : DeviceOwnsNoByteOfFrame frame d
   still_now port slot at from to x = unused port slot at from to x
 
-still_stays : (uses : SlotStates) (m : Machine) (d : Device) (frame : Frame) → IsReachable m → StateRelation uses m d → DRIVER_FRAMES ≤ frame.0 → ((id : RequestId) → m.lent frame ≡ Some id → CommandsAreOver uses d id) → IsStable (DeviceSparesFrame frame) d
+still_stays : (uses : SlotStates) (m : Machine) (d : Device) (frame : Frame) → IsReachable m → StateRelation uses m d → DRIVER_FRAMES ≤ frame.0 → ((id : RequestId) → m.lent frame ≡ Some id → CommandsAreOver uses d id) → IsStable (DeviceOwnsNoByteOfFrame frame) d
 still_stays uses m d frame reached a high over mid s =
     let f : SimulatesSteps uses m d mid = steps_follow uses m d mid reached a s in
-    let spares : KeepsLoansAndBookOnlyAdvances m (left.after m f.steps) = follows_spare uses m d mid f in
+    let spares : KeepsLoansAndPendingsOnlyAdvance m (left.after m f.steps) = follows_spare uses m d mid f in
     still_now uses (left.after m f.steps) mid f.state_relation (reached_more m f.steps reached f.steps_are_enabled) frame high (λ id lent port slot u.
-    let k : PortBitsOnlyFall (d.port port) (mid.port port) = (law_step_lists_keep_what_steps_keep s).port_bits_only_fall port in
+    let k : PortBitsOnlyFallFreeSlotsStay (d.port port) (mid.port port) = (law_step_lists_keep_what_steps_keep s).port_bits_only_fall port in
     let o : IsOver (d.port port) slot = over id (ap (λ (lent : Frame → Option RequestId). lent frame) (sym spares.lent) ∙ lent) port slot u in
     record { is_not_issued = k.ci_stays_clear slot o.is_not_issued; is_not_taken = k.slots_stay_free slot o.is_not_issued o.is_not_taken })
 
-pub lent_is_still : (uses : SlotStates) (m : Machine) (d : Device) (frame : Frame) (id : RequestId) → IsReachable m → StateRelation uses m d → m.lent frame ≡ Some id → CommandsAreOver uses d id → IsStable (DeviceSparesFrame frame) d
+pub lent_is_still : (uses : SlotStates) (m : Machine) (d : Device) (frame : Frame) (id : RequestId) → IsReachable m → StateRelation uses m d → m.lent frame ≡ Some id → CommandsAreOver uses d id → IsStable (DeviceOwnsNoByteOfFrame frame) d
 lent_is_still uses m d frame id reached a lent over = still_stays uses m d frame reached a (lent_clients m frame id reached lent) (λ other is. subst (CommandsAreOver uses d) (same_id (sym lent ∙ is)) over)
   where
     same_id : {x y : RequestId} → Some x ≡ Some y → x ≡ y
     same_id e = cc
 
-pub unlent_is_still : (uses : SlotStates) (m : Machine) (d : Device) (frame : Frame) → IsReachable m → StateRelation uses m d → m.lent frame ≡ None → DRIVER_FRAMES ≤ frame.0 → IsStable (DeviceSparesFrame frame) d
+pub unlent_is_still : (uses : SlotStates) (m : Machine) (d : Device) (frame : Frame) → IsReachable m → StateRelation uses m d → m.lent frame ≡ None → DRIVER_FRAMES ≤ frame.0 → IsStable (DeviceOwnsNoByteOfFrame frame) d
 unlent_is_still uses m d frame reached a none high = still_stays uses m d frame reached a high (λ id is. absurd (none-some _ (sym none ∙ is)))
 
 -- an idle device, which has nothing in use whatever it does, uses no byte
-pub idle_is_still : (d : Device) (frame : Frame) → IsIdle d → IsStable (DeviceSparesFrame frame) d
+pub idle_is_still : (d : Device) (frame : Frame) → IsIdle d → IsStable (DeviceOwnsNoByteOfFrame frame) d
 idle_is_still d frame idle mid s port slot at from to x =
-    let k : PortBitsOnlyFall (d.port port) (mid.port port) = (law_step_lists_keep_what_steps_keep s).port_bits_only_fall port in
+    let k : PortBitsOnlyFallFreeSlotsStay (d.port port) (mid.port port) = (law_step_lists_keep_what_steps_keep s).port_bits_only_fall port in
     let i : IsIdlePort (d.port port) = idle.ports_are_idle port in
     let none : IsOver (mid.port port) slot = record { is_not_issued = k.ci_stays_clear slot (i.ci_is_clear slot); is_not_taken = k.slots_stay_free slot (i.ci_is_clear slot) (i.none_is_taken slot) } in
     ⊎_elim
@@ -159,7 +159,7 @@ idle_is_still d frame idle mid s port slot at from to x =
     x
 
 -- the bytes of a still frame are free
-pub still_is_free : (d : Device) (frame : Frame) (offset n : ℕ) → IsStable (DeviceSparesFrame frame) d → 4096 * frame.0 + 4096 ≤ d.memory_size → offset + n ≤ 4096 → IsStable (IsUnowned (4096 * frame.0 + offset) n) d
+pub still_is_free : (d : Device) (frame : Frame) (offset n : ℕ) → IsStable (DeviceOwnsNoByteOfFrame frame) d → 4096 * frame.0 + 4096 ≤ d.memory_size → offset + n ≤ 4096 → IsStable (IsInMemoryNotOwnedByDevice (4096 * frame.0 + offset) n) d
 still_is_free d frame offset n still inside within mid s = record {
   inside = let same : mid.memory_size ≡ d.memory_size = (law_step_lists_keep_what_steps_keep s).memory_size_is_kept in omega (arith, same, inside, within);
   is_not_owned = λ port slot byte from to u. still mid s port slot byte (omega (arith, from)) (omega (arith, to, within)) u;

@@ -14,7 +14,7 @@ use Rattle.adapter.proofs.Changed.{changed_same, changed_other}
 use Rattle.adapter.proofs.SaysLemmas.{says_meaning, says_places}
 use Rattle.block_machine.specs.State.{Pending, Machine}
 use Rattle.refinement.specs.MemoryLayout.{scratch_frame_address}
-use Rattle.refinement.specs.Slots.{SlotState, Free, Own, Serves, SlotStates, TouchedAsMoved, HasBlockIfTrim, TouchedUpTo, IsInSomeStage, OwnAwaitsFetch, OwnIsTaken, OwnIsOver, RelatesSlot, client_operation_of, Armed}
+use Rattle.refinement.specs.Slots.{SlotState, Free, Own, Serves, SlotStates, TouchedAsMoved, HasBlockIfTrim, TouchedUpTo, IsInSomeStage, OwnAwaitsFetch, OwnIsTaken, OwnIsOverWithPageIfSt, RelatesSlot, client_operation_of, Armed}
 use Rattle.refinement.specs.Relation.{StateRelation}
 use Rattle.refinement.specs.Simulation.{SimulatesSteps}
 use Rattle.refinement.proofs.relation.SlotRelation.{SameFixed-refl, NoPort, placed_on}
@@ -88,8 +88,8 @@ module _ (uses : SlotStates) (m : Machine) (d : Device) (a : StateRelation uses 
         plain : is_queued c.operation ≡ false
         plain = own_plain c.operation (ap (λ (x : Meaning). client_operation_of x.operation) same ∙ ap client_operation_of h.operation_is ∙ h.operation_is_drivers_own)
 
-        own : OwnAwaitsFetch (d.port port) slot ⊎ (OwnIsTaken d.memory d.tape (d.port port) port slot h.command ⊎ OwnIsOver d.memory d.tape (d.port port) port slot h.command)
-            → OwnAwaitsFetch (port_after_fetch (d.port port) slot c places) slot ⊎ (OwnIsTaken d.memory d.tape (port_after_fetch (d.port port) slot c places) port slot h.command ⊎ OwnIsOver d.memory d.tape (port_after_fetch (d.port port) slot c places) port slot h.command)
+        own : OwnAwaitsFetch (d.port port) slot ⊎ (OwnIsTaken d.memory d.tape (d.port port) port slot h.command ⊎ OwnIsOverWithPageIfSt d.memory d.tape (d.port port) port slot h.command)
+            → OwnAwaitsFetch (port_after_fetch (d.port port) slot c places) slot ⊎ (OwnIsTaken d.memory d.tape (port_after_fetch (d.port port) slot c places) port slot h.command ⊎ OwnIsOverWithPageIfSt d.memory d.tape (port_after_fetch (d.port port) slot c places) port slot h.command)
         own (inl x) =
             inr (inl (record {
               command = _;
@@ -98,7 +98,7 @@ module _ (uses : SlotStates) (m : Machine) (d : Device) (a : StateRelation uses 
               places_are = says_places d.memory (d.port port).bases.clb slot c h.command places (scratch_frame_address port ∷ []) can.says h.slot_decodes_to.decodes_to;
               running = can.working.cr_is_set;
               issued = fallen_if (is_queued c.operation) (d.port port).ci slot can.fetchable.issued ∙ ap not plain ∙ sym can.fetchable.st_is_set;
-              page_is_brought = inl refl;
+              page_stands_in_scratch_if_moved = inl refl;
             }))
         own (inr (inl x)) = some_none x.taken can.fetchable.free
         own (inr (inr x)) = true_false can.fetchable.issued x.over.is_not_issued

@@ -7,7 +7,7 @@ use Rattle.adapter.specs.Commands.{Meaning, reads_memory}
 use Rattle.adapter.specs.Device.{FetchedCommand, Device}
 use Rattle.adapter.specs.Memory.{patched}
 use Rattle.adapter.specs.Steps as steps
-use Rattle.adapter.specs.Steps.{Can, device_after, TransitionsLead, Steps, MayMove, next_place, port_after_done}
+use Rattle.adapter.specs.Steps.{Can, device_after, TransitionsLead, Steps, MayMove, next_place, port_after_done_except_lasting}
 use Rattle.adapter.specs.Steps.DeviceTransition.{Fetch, FetchFault, Move, Clear, Done, Fault, Fatal, Fall, FrFall, LinkUp, Unplug, Plug, ResetEnds, Scribble}
 use Rattle.adapter.specs.declared.command.Operation.{Operation}
 use Rattle.adapter.specs.KeptBySteps.{KeepsOverSteps}
@@ -16,12 +16,12 @@ use Rattle.adapter.proofs.MemoryLemmas.{patched_apart}
 use Rattle.block_machine.specs.Confinement.{MovesBytes}
 use Rattle.block_machine.specs.Histories.{IsReachable}
 use Rattle.block_machine.specs.Expected as left
-use Rattle.block_machine.specs.State.{Accepted, Machine, frame_at}
+use Rattle.block_machine.specs.State.{Accepted, Machine, nth_frame}
 use Rattle.block_machine.proofs.HistoryLemmas.{reached_more}
 use Rattle.block_machine.proofs.Standing.{standing}
 use Rattle.refinement.proofs.relation.SlotRelation.{told_on, block_on}
 use Rattle.refinement.specs.MemoryLayout.{command_list_address, scratch_frame_address, sector_address}
-use Rattle.refinement.specs.Slots.{SlotDecodesTo, HasBlockIfTrim, SlotState, Free, Own, Serves, SlotStates, MeansRequest, AreRequestPlaces, OwnAwaitsFetch, OwnIsTaken, OwnIsOver, RelatesSlot, Armed}
+use Rattle.refinement.specs.Slots.{SlotDecodesTo, HasBlockIfTrim, SlotState, Free, Own, Serves, SlotStates, MeansRequest, AreRequestPlaces, OwnAwaitsFetch, OwnIsTaken, OwnIsOverWithPageIfSt, RelatesSlot, Armed}
 use Rattle.refinement.specs.Relation.{StateRelation}
 use Rattle.refinement.specs.Driver.{KeepsTablesAndScratchUnlessOwn}
 use Rattle.refinement.specs.Simulation.{SimulatesSteps}
@@ -73,7 +73,7 @@ module _ (uses : SlotStates) (m : Machine) (d : Device) (reached : IsReachable m
       by Armed u h = some_none can.works.taken h.is_not_taken
       by (Own o) u h = own h.stage
         where
-          own : OwnAwaitsFetch (d.port port) slot ⊎ (OwnIsTaken d.memory d.tape (d.port port) port slot h.command ⊎ OwnIsOver d.memory d.tape (d.port port) port slot h.command) → MayChange (HasOwn uses) (next_place t) (length bytes)
+          own : OwnAwaitsFetch (d.port port) slot ⊎ (OwnIsTaken d.memory d.tape (d.port port) port slot h.command ⊎ OwnIsOverWithPageIfSt d.memory d.tape (d.port port) port slot h.command) → MayChange (HasOwn uses) (next_place t) (length bytes)
           own (inl x) = some_none can.works.taken x.is_not_taken
           own (inr (inr x)) = some_none can.works.taken x.over.is_not_taken
           own (inr (inl x)) =
@@ -92,7 +92,7 @@ module _ (uses : SlotStates) (m : Machine) (d : Device) (reached : IsReachable m
           framed : (op : Op) → h.pending.request.asked.op ≡ op → MovesBytes op → ((length t.places ≡ h.pending.request.asked.count) × ((i : ℕ) → i < h.pending.request.asked.count → slice_index t.places i ≡ sector_address h.pending.request.asked.frames.items i)) → MayChange (HasOwn uses) (next_place t) (length bytes)
           framed op is b places =
               let within : t.moved < h.pending.request.asked.count = let l : t.moved < length t.places = can.piece_is_left in omega (arith, l, places.0) in
-              let f : DRIVER_FRAMES ≤ (frame_at h.pending.request.asked.frames.items (t.moved / 8)).0 = client_frame m reached h.pending h.may_still_move (t.moved / 8) ((standing m reached).framed h.pending h.may_still_move (subst MovesBytes (sym is) b) t.moved within) in
+              let f : DRIVER_FRAMES ≤ (nth_frame h.pending.request.asked.frames.items (t.moved / 8)).0 = client_frame m reached h.pending h.may_still_move (t.moved / 8) ((standing m reached).framed h.pending h.may_still_move (subst MovesBytes (sym is) b) t.moved within) in
               let p : next_place t ≡ sector_address h.pending.request.asked.frames.items t.moved = places.1 t.moved within in
               inr (inr (inr (omega (arith, f, p))))
 

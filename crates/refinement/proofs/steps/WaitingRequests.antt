@@ -17,7 +17,7 @@ use Rattle.block_machine.specs.declared.due.Unanswered.{Unanswered}
 use Rattle.block_machine.specs.State.{Accepted, Pending, Machine, unanswered}
 use Rattle.block_machine.specs.DueRequests.{IsDue, with_issued}
 use Rattle.block_machine.specs.Rules.{HasRow}
-use Rattle.block_machine.specs.Steps.{Step, Accept, Issue, Touch, End, Age, WaitAgain, Answer, Revoke, Release, Unplug, Replace, Store, Load, IsEnabled, MayStillMove, after_step, update_pending, newly_issued, touch, mark_ended}
+use Rattle.block_machine.specs.Steps.{Step, Accept, Issue, Touch, End, Age, WaitAgain, Answer, Revoke, Release, Unplug, PlugDisk, Store, Load, IsEnabled, MayStillMove, after_step, update_pending, newly_issued, touch, mark_ended}
 use Rattle.block_machine.specs.Expected as left
 use Rattle.block_machine.specs.Events.{AllEnabled, IsByDevice, AllByDevice}
 use Rattle.block_machine.specs.Histories.{IsReachable}
@@ -84,7 +84,7 @@ step_have : (uses : SlotStates) (m : Machine) (step : Step) → IsByDevice step 
 step_have uses m (Touch x i block) is port parked had = have_on uses m (after_step m (Touch x i block)) x.request.id (touch_goes m x i block) port parked had
 step_have uses m (End x) is port parked had = have_on uses m (after_step m (End x)) x.request.id (end_goes m x) port parked had
 step_have uses m (Unplug p) is port parked had = had
-step_have uses m (Replace p name size disk) is port parked had = had
+step_have uses m (PlugDisk p name size disk) is port parked had = had
 step_have uses m (Accept r) is port parked had = absurd is
 step_have uses m (Issue mode x) is port parked had = absurd is
 step_have uses m (Age ready) is port parked had = absurd is
@@ -160,7 +160,7 @@ step_leaves : (m : Machine) → Sound m → (step : Step) → IsByDevice step �
 step_leaves m s (Touch x i block) is can = changed_leaves m s x can.0 (touch i) (λ y. refl) (λ y. refl) (after_step m (Touch x i block)) refl refl refl
 step_leaves m s (End x) is can = changed_leaves m s x can.0 mark_ended (λ y. refl) (λ y. refl) (after_step m (End x)) refl refl refl
 step_leaves m s (Unplug port) is can = record { waits = λ e here waits. here; asks = refl; kept = λ y here. (y, here, refl); rows = refl }
-step_leaves m s (Replace port name size disk) is can = record { waits = λ e here waits. here; asks = refl; kept = λ y here. (y, here, refl); rows = refl }
+step_leaves m s (PlugDisk port name size disk) is can = record { waits = λ e here waits. here; asks = refl; kept = λ y here. (y, here, refl); rows = refl }
 step_leaves m s (Accept r) is can = absurd is
 step_leaves m s (Issue other x) is can = absurd is
 step_leaves m s (Age ready) is can = absurd is
@@ -219,7 +219,7 @@ issues_may m later l (step ∷ own) only may =
     one before (Touch x i block) is can = absurd is
     one before (End x) is can = absurd is
     one before (Unplug port) is can = absurd is
-    one before (Replace port name size disk) is can = absurd is
+    one before (PlugDisk port name size disk) is can = absurd is
     one before (Accept r) is can = absurd is
     one before (Age ready) is can = absurd is
     one before (WaitAgain x) is can = absurd is

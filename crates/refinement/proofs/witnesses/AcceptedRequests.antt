@@ -14,7 +14,7 @@ use Rattle.ata_types.specs.declared.refusal.FrameFault.TheVariants.{FrameForeign
 use Rattle.ata_types.specs.declared.refusal.Rule.TheVariants.{NoGrant, NoRight, BadCount, OutsideGrant, FrameCount, Frames}
 use Rattle.ata_types.specs.SectorGrants.{AllowsOp, CoversSectors}
 use Rattle.block_machine.specs.Rules.{IsNamed, BreaksNone, HasRow}
-use Rattle.block_machine.specs.State.{Accepted, Machine, block_of, frame_at}
+use Rattle.block_machine.specs.State.{Accepted, Machine, block_of, nth_frame}
 use Rattle.block_machine.specs.Steps.{MayAccept, unanswered_count}
 use Rattle.block_machine.proofs.Setting.{client, port, frame, row, request, two_rows, granted, its_row, IsFit, acceptable}
 use Rattle.refinement.specs.MemoryLayout.{sector_address}
@@ -53,7 +53,7 @@ read_no_trim e = cc
 pub places_in : (n i : ℕ) → i < 8 → slice_index (piece_addresses (4096 * n) 8) i ≡ sector_address (frame n ∷ []) i
 places_in n i lt =
     let zero_is : i / 8 ≡ 0 = omega (arith, lt) in
-    let same : (frame_at (frame n ∷ []) (i / 8)).0 ≡ n = ap (λ (k : ℕ). (frame_at (frame n ∷ []) k).0) zero_is in
+    let same : (nth_frame (frame n ∷ []) (i / 8)).0 ≡ n = ap (λ (k : ℕ). (nth_frame (frame n ∷ []) k).0) zero_is in
     cut_index (4096 * n) 8 i lt ∙ omega (arith, same, lt)
 
 read_fits : (m : Machine) (first n : ℕ) → m.rows ≡ two_rows → m.owner (frame n) ≡ Some client → m.lent (frame n) ≡ None → 100 ≤ first → first + 8 ≤ 164 → IsFit 0 (admission_context_of m) (read_into first n)

@@ -24,7 +24,7 @@ use Rattle.refinement.specs.BootWitness.{waking_device, BootWitness}
 use Rattle.refinement.specs.Errors.{IsDiskComing, NoDiskComes}
 use Rattle.refinement.specs.PortFacts.{PxisValueTellsNoTrouble}
 use Rattle.refinement.specs.PreservedParts.{IsPlugEvent, NoPlugEvents}
-use Rattle.refinement.specs.StartedPort.{IsUpForStart, IsStoppedAndUpForStartIfShown, SetsNoStart}
+use Rattle.refinement.specs.StartedPort.{IsUpForStart, IsStoppedAndUpForStartIfShown, WritesCmdOnlyWithStClear}
 use Rattle.refinement.proofs.device.AllowedWrites.{write_stays}
 use Rattle.refinement.proofs.device.BootedPort.{well_is_found}
 use Rattle.refinement.proofs.device.RisingLink.{comreset_comes, access_coming, up_is_found, access_up}
@@ -67,7 +67,7 @@ writes r v d = record { at_access = d; steps = record { steps = []; lead = refl 
 
 can_link : Can (LinkUp 0 0x101 true) released
 unfolding changed
-can_link = record { present = refl; no_comreset = refl; link_is_due = refl; sig_fits = omega arith }
+can_link = record { present = refl; no_comreset = refl; link_is_due = refl; sig_is_32_bit = omega arith }
 
 links : Reads (port_reg Ssts) 3 released linked
 unfolding changed
@@ -139,7 +139,7 @@ plugs_none : (old new : Device) → new.tape ≡ old.tape ++ [] → NoPlugEvents
 plugs_none old new same = record { new_entries = []; tape_is = same; no_such_entry = All-nil (λ e. IsPlugEvent 0 e → ⊥) }
 
 -- no write of PxCMD
-no_start : (r : PortReg) (v : ℕ) → (r ≡ Cmd → ⊥) → SetsNoStart (port_at 0) (Writing (port_reg r) v)
+no_start : (r : PortReg) (v : ℕ) → (r ≡ Cmd → ⊥) → WritesCmdOnlyWithStClear (port_at 0) (Writing (port_reg r) v)
 no_start r v other w e = absurd (other (let same : port_reg r ≡ port_reg Cmd = cc in cc))
 
 stands : ((waking_device.port 0).cr ≡ false) × ((linked.port 0).cr ≡ false) × ((cleared.port 0).cr ≡ false) × ((quieted.port 0).cr ≡ false) × ((ready.port 0).cr ≡ false) × ((ready.port 0).st ≡ false)

@@ -17,7 +17,7 @@ use Rattle.block_machine.specs.Steps.{NoneKept}
 use Rattle.refinement.specs.StepLaws.{StepLaws}
 use Rattle.refinement.specs.Relation.{port_at}
 use Rattle.refinement.specs.Driver.{DriverState, DriverRelation}
-use Rattle.refinement.specs.PortFacts.{IsSlotClear, EndedIn}
+use Rattle.refinement.specs.PortFacts.{IsSlotClear, EndedOnPort}
 use Rattle.refinement.specs.Simulation.{SimulatesSteps}
 use Rattle.refinement.specs.Slots.{Free, Serves}
 use Rattle.refinement.specs.ReadWitness.{first_id, first_driver_state, DoneRequestAgrees, EndedReadAgrees}
@@ -38,7 +38,7 @@ module _ (laws : StepLaws) (k : DriverState) (m : Machine) (reached : IsReachabl
 
   pub done_is_known : k.device.hr ≡ false → (k.device.port 0).st ≡ true → (new.port 0).ci 0 ≡ false → (new.port 0).sact 0 ≡ false → DoneRequestAgrees k id
   done_is_known off st issued sact =
-      let found : IsSlotClear (new.port 0) 0 × EndedIn (after m follows.steps) (port_at 0) id = clear_is_ended k.slot_states (after m follows.steps) new (port_at 0) 0 id follows.state_relation u
+      let found : IsSlotClear (new.port 0) 0 × EndedOnPort (after m follows.steps) (port_at 0) id = clear_is_ended k.slot_states (after m follows.steps) new (port_at 0) 0 id follows.state_relation u
       ((((laws.steps_keep _ _ s).keeps_outside_reset off).controls_are_kept 0).st_is_kept ∙ st) issued sact in
       record {
         device = new;
@@ -50,7 +50,7 @@ module _ (laws : StepLaws) (k : DriverState) (m : Machine) (reached : IsReachabl
         request = found.1.pending;
         id_is = found.1.id_is;
         ended = record { is_not_issued = found.0.over.is_not_issued; sact_is_clear = found.0.sact_is_clear; is_not_taken = found.0.over.is_not_taken; ended = found.1.ended; touched = found.1.all_are_touched };
-        stands_in_book = found.1.stands_in_book (none_kept_on m (after m follows.steps) (port_at 0) (follows_spare k.slot_states m k.device new follows) none_kept);
+        request_is_in_book = found.1.in_book_if_none_kept (none_kept_on m (after m follows.steps) (port_at 0) (follows_spare k.slot_states m k.device new follows) none_kept);
       }
 
 -- ---- the first read

@@ -30,7 +30,7 @@ use Rattle.block_machine.proofs.Setting.{empty, filled_starts}
 use Rattle.refinement.specs.StepLaws.{StepLaws}
 use Rattle.refinement.specs.Slots.{Free, Serves, SlotDecodesTo, IsEmptySlot}
 use Rattle.refinement.specs.Relation.{StateRelation, port_at, IsDiskOf, SameSectors, HoldsReplugCandidates, HasReceivedArea}
-use Rattle.refinement.specs.Driver.{DriverRelation, IsPrepared, idle_driver_state}
+use Rattle.refinement.specs.Driver.{DriverRelation, IsRequestPreparedToIssue, idle_driver_state}
 use Rattle.refinement.specs.ReadWitness.{first_slot_states, first_driver_state, ready_port, ready_device, prepared_read, PreparedReadWitness, FirstReadWitness}
 use Rattle.refinement.proofs.relation.OneSlot.{changed_at}
 use Rattle.refinement.proofs.witnesses.AcceptedRequests.{accepted_of, has_its_grant, read_into, read_is_new, read_no_trim, places_in}
@@ -156,12 +156,12 @@ other_bit n k ne = ap (λ (b : ℕ). b == 1) (bit_at-pow_other n k ne)
 pub bit_one_other : (k : ℕ) → k ≢ 0 → bit 1 k ≡ false
 bit_one_other k ne = other_bit 0 k ne
 
-prepared : IsPrepared (idle_driver_state prepared_read).slot_states accepting prepared_read 0 0 plain waits 1
+prepared : IsRequestPreparedToIssue (idle_driver_state prepared_read).slot_states accepting prepared_read 0 0 plain waits 1
 unfolding changed
 prepared = record {
   issue_is_enabled = may_issue;
   port_is = refl;
-  slot_state_is = refl;
+  armed_if_queued_else_free = refl;
   slot_is_usable = omega arith;
   plain_is_in_slot_0 = λ _. refl;
   st_is_set = refl;

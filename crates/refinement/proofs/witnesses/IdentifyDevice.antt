@@ -17,7 +17,7 @@ use Rattle.block_machine.specs.Histories.{IsReachable}
 use Rattle.block_machine.specs.State.{Machine}
 use Rattle.refinement.specs.StepLaws.{StepLaws}
 use Rattle.refinement.specs.Relation.{port_at}
-use Rattle.refinement.specs.Driver.{DriverRelation, IsOwnPrepared, idle_driver_state}
+use Rattle.refinement.specs.Driver.{DriverRelation, IsOwnCommandPreparedInSlot0, idle_driver_state}
 use Rattle.refinement.specs.MemoryLayout.{scratch_frame_address}
 use Rattle.refinement.specs.Slots.{Free, Own, Serves, SlotDecodesTo}
 use Rattle.refinement.specs.ReadWitness.{identify_memory, prepared_identify, issued_identify, own_driver_state, OwnCommandAgrees}
@@ -48,7 +48,7 @@ reached = record { initial_machine = machine; steps_since = []; is_initial = sta
 before : DriverRelation machine (idle_driver_state prepared_identify)
 before = ready_knows identify_memory
 
-prepared : IsOwnPrepared (idle_driver_state prepared_identify).slot_states prepared_identify 0 Identify 1
+prepared : IsOwnCommandPreparedInSlot0 (idle_driver_state prepared_identify).slot_states prepared_identify 0 Identify 1
 unfolding changed
 prepared = record {
   operation_is_drivers_own = refl;

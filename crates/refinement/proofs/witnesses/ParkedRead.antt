@@ -22,7 +22,7 @@ use Rattle.refinement.specs.Relation.{StateRelation, port_at}
 use Rattle.refinement.specs.Driver.{DriverRelation, HasNoSlot, KeepsSlotStates}
 use Rattle.refinement.specs.PortFacts.{IsEngineStopped}
 use Rattle.refinement.specs.Slots.{Free, Serves, set_slot_state}
-use Rattle.refinement.specs.ReadWitness.{first_id, first_slot_states, first_driver_state, KeptReadAgrees, stopping_read, stopped_read, parked_driver_state, ParkedReadWitness}
+use Rattle.refinement.specs.ReadWitness.{first_id, first_slot_states, first_driver_state, PortDeadReadAgreesServedAndParked, stopping_read, stopped_read, parked_driver_state, ParkedReadWitness}
 use Rattle.refinement.proofs.driver.OwnSteps.{keeping_knows, park_knows}
 use Rattle.refinement.proofs.steps.FollowedSteps.{silent_agrees}
 use Rattle.refinement.proofs.driver.PutSlot.{put_same, put_cases}
@@ -118,7 +118,7 @@ keeping = after_step issued (Answer (newly_issued waits) PortDead)
 kept_one : (e : Pending) → Contains keeping.kept e → e.request.id ≡ first_id
 kept_one e h = ⊎_elim (λ (is : e ≡ newly_issued waits). ap (λ (x : Pending). x.request.id) is) (λ i. absurd (contains_none e i)) (contains_cases (newly_issued waits) [] e h)
 
-pub kept_is_known : StepLaws → KeptReadAgrees
+pub kept_is_known : StepLaws → PortDeadReadAgreesServedAndParked
 kept_is_known laws = record {
   machine = keeping;
   reached = laws.reachable_goes_on issued (Answer (newly_issued waits) PortDead ∷ []) (reached laws) (tt, (booked, tt));

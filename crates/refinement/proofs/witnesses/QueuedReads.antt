@@ -27,9 +27,9 @@ use Rattle.block_machine.proofs.Members.{contains_here, contains_there, contains
 use Rattle.block_machine.proofs.Setting.{frame}
 use Rattle.refinement.specs.StepLaws.{StepLaws}
 use Rattle.refinement.specs.Relation.{StateRelation, port_at, HaveSlotsUnlessParked}
-use Rattle.refinement.specs.Driver.{DriverRelation, IsPrepared, idle_driver_state}
+use Rattle.refinement.specs.Driver.{DriverRelation, IsRequestPreparedToIssue, idle_driver_state}
 use Rattle.refinement.specs.MemoryLayout.{command_table_address}
-use Rattle.refinement.specs.TwoReadsWitness.{queued_read, two_reads_memory, two_armed, armed_uses, one_issued, two_issued, one_taken, two_reads_driver_state, TwoReadsWitness, TwoStoredReads}
+use Rattle.refinement.specs.TwoReadsWitness.{queued_read, two_reads_memory, two_armed, armed_slot_states, one_issued, two_issued, one_taken, two_reads_driver_state, TwoReadsWitness, TwoStoredReads}
 use Rattle.refinement.specs.Slots.{Free, Serves, SlotStates, set_slot_state, SlotDecodesTo, Armed}
 use Rattle.refinement.specs.ReadWitness.{first_id, ready_device}
 use Rattle.refinement.proofs.witnesses.AcceptedRequests.{accepted_of, has_its_grant, read_into, read_is_new, read_no_trim, places_in}
@@ -138,11 +138,11 @@ reached laws = laws.reachable_goes_on issuing (Issue queued second_waits ∷ [])
 -- ---- a read is prepared in a slot, with its bit of PxSACT
 
 read_prepared : (uses : SlotStates) (m was : Machine) (d : Device) (slot first n : ℕ) → IsEnabled m (Issue queued (newly_accepted (accepted_of was (read_into first n)))) → uses 0 slot ≡ Armed → slot < 32 → (d.port 0).st ≡ true → (d.port 0).bases.clb ≡ 0 →
-    SlotDecodesTo d.memory 0 0 slot (queued_read first) (piece_addresses (4096 * n) 8) → IsPrepared uses m d 0 slot queued (newly_accepted (accepted_of was (read_into first n))) (2 ^ slot)
+    SlotDecodesTo d.memory 0 0 slot (queued_read first) (piece_addresses (4096 * n) 8) → IsRequestPreparedToIssue uses m d 0 slot queued (newly_accepted (accepted_of was (read_into first n))) (2 ^ slot)
 read_prepared uses m was d slot first n may free small started list told = record {
   issue_is_enabled = may;
   port_is = refl;
-  slot_state_is = free;
+  armed_if_queued_else_free = free;
   slot_is_usable = small;
   plain_is_in_slot_0 = λ plain. absurd (false≢true plain);
   st_is_set = started;
@@ -183,10 +183,10 @@ still_free = refl
 one_armed_agrees : StateRelation (set_slot_state (λ _ _. Free) 0 0 Armed) accepted one_armed
 one_armed_agrees = arming_agrees (idle_driver_state (ready_device two_reads_memory)).slot_states accepted (ready_device two_reads_memory) accepted_knows.state_relation 0 0 1 refl ready_runs (bit_here 0) (other_bit 0)
 
-two_armed_agrees : StateRelation armed_uses accepted two_armed
+two_armed_agrees : StateRelation armed_slot_states accepted two_armed
 two_armed_agrees = arming_agrees (set_slot_state (λ _ _. Free) 0 0 Armed) accepted one_armed one_armed_agrees 0 1 2 still_free one_runs (bit_here 1) (other_bit 1)
 
-armed_have : (q : ℕ) → HaveSlotsUnlessParked armed_uses accepted q []
+armed_have : (q : ℕ) → HaveSlotsUnlessParked armed_slot_states accepted q []
 armed_have q =
     put_have (set_slot_state (λ _ _. Free) 0 0 Armed) accepted 0 1 Armed q [] (λ id u. absurd (serves_free (sym u ∙ still_free)))
     (put_have (λ _ _. Free) accepted 0 0 Armed q [] (λ id u. absurd (serves_free (sym u))) (accepted_knows.have_slots_unless_parked q))
@@ -194,19 +194,19 @@ armed_have q =
 -- ---- both are issued
 
 abbrev one_uses : SlotStates
-one_uses = set_slot_state armed_uses 0 0 (Serves first_id)
+one_uses = set_slot_state armed_slot_states 0 0 (Serves first_id)
 
-first_prepared : IsPrepared armed_uses accepted two_armed 0 0 queued first_waits 1
+first_prepared : IsRequestPreparedToIssue armed_slot_states accepted two_armed 0 0 queued first_waits 1
 unfolding changed
-first_prepared = read_prepared armed_uses accepted start two_armed 0 100 100 may_first refl (omega arith) refl refl first_told
+first_prepared = read_prepared armed_slot_states accepted start two_armed 0 100 100 may_first refl (omega arith) refl refl first_told
 
 one_agrees : StateRelation one_uses issuing one_issued
-one_agrees = issue_agrees armed_uses accepted two_armed accepted_reached two_armed_agrees 0 0 queued first_waits 1 first_prepared
+one_agrees = issue_agrees armed_slot_states accepted two_armed accepted_reached two_armed_agrees 0 0 queued first_waits 1 first_prepared
 
 one_have : (q : ℕ) → HaveSlotsUnlessParked one_uses issuing q []
-one_have q = issue_have armed_uses accepted two_armed accepted_reached two_armed_agrees 0 0 queued first_waits 1 first_prepared q [] (armed_have q)
+one_have q = issue_have armed_slot_states accepted two_armed accepted_reached two_armed_agrees 0 0 queued first_waits 1 first_prepared q [] (armed_have q)
 
-second_prepared : IsPrepared one_uses issuing one_issued 0 1 queued second_waits 2
+second_prepared : IsRequestPreparedToIssue one_uses issuing one_issued 0 1 queued second_waits 2
 unfolding changed
 second_prepared = read_prepared one_uses issuing one_accepted one_issued 1 108 101 may_second refl (omega arith) refl refl second_told
 
@@ -257,7 +257,7 @@ two_are_known laws = record {
   );
   ids = (refl, refl);
   frames_are_disjoint = frames_apart;
-  first_permitted = issue_is_permitted laws armed_uses accepted two_armed accepted_reached two_armed_agrees (port_at 0) 0 queued first_waits 1
+  first_permitted = issue_is_permitted laws armed_slot_states accepted two_armed accepted_reached two_armed_agrees (port_at 0) 0 queued first_waits 1
       (record { ae_is_set = refl; no_reset = refl }) (omega arith, refl) (omega arith) first_prepared;
   second_permitted = issue_is_permitted laws one_uses issuing one_issued (issuing_reached laws) one_agrees (port_at 0) 1 queued second_waits 2
       (record { ae_is_set = refl; no_reset = refl }) (omega arith, refl) (omega arith) second_prepared;

@@ -22,7 +22,7 @@ use Rattle.block_machine.specs.Histories.{IsReachable}
 use Rattle.block_machine.specs.State.{Machine}
 use Rattle.refinement.specs.StepLaws.{StepLaws}
 use Rattle.refinement.specs.Relation.{StateRelation, port_at}
-use Rattle.refinement.specs.Driver.{DriverRelation, IsOwnPrepared, idle_driver_state}
+use Rattle.refinement.specs.Driver.{DriverRelation, IsOwnCommandPreparedInSlot0, idle_driver_state}
 use Rattle.refinement.specs.PortFacts.{PxisValueTellsNoTrouble}
 use Rattle.refinement.specs.MemoryLayout.{scratch_frame_address}
 use Rattle.refinement.specs.Slots.{Free, Own, SlotDecodesTo}
@@ -35,7 +35,7 @@ use Rattle.refinement.proofs.relation.OtherSlots.{empty_port}
 use Rattle.refinement.proofs.relation.SlotRelation.{SameFixed-refl}
 use Rattle.refinement.proofs.witnesses.SpeltSlot.{page_told, zeros_from}
 use Rattle.refinement.proofs.witnesses.FirstRead.{start_with, starts_with, ready_knows, bit_one_other}
-use Rattle.refinement.specs.LogWitness.{log_memory, log_port, log_device, log_uses, LogEndsHaltWitness}
+use Rattle.refinement.specs.LogWitness.{log_memory, log_port, log_device, slot_states_with_own_read_log, LogEndsHaltWitness}
 use Rattle.refinement.specs.HaltRecovery.{RunsLinked, PlainSlot0IsIssuedOrNotHalted, FaultLeavesIssued}
 use Rattle.refinement.proofs.driver.EndedHalt.{issued_ends, ended_well}
 
@@ -73,7 +73,7 @@ runs : RunsLinked (log_device.port 0)
 unfolding changed
 runs = record { st_is_set = refl; cr_is_set = refl; det_is_3 = refl; present = refl; fresh = refl; no_link_is_due = refl; is_not_broken = refl }
 
-prepared : IsOwnPrepared (idle_driver_state log_device).slot_states log_device 0 ReadLog 1
+prepared : IsOwnCommandPreparedInSlot0 (idle_driver_state log_device).slot_states log_device 0 ReadLog 1
 unfolding changed
 prepared = record {
   operation_is_drivers_own = refl;
@@ -96,14 +96,14 @@ issued = device_after_write (Px (port_at 0) Ci) 1 log_device
 writes : Writes (Px (port_at 0) Ci) 1 log_device issued
 writes = record { at_access = log_device; steps = record { steps = []; lead = refl }; effect = refl }
 
-ends : StepLaws → PlainSlot0IsIssuedOrNotHalted log_uses 0 issued
+ends : StepLaws → PlainSlot0IsIssuedOrNotHalted slot_states_with_own_read_log 0 issued
 ends laws = issued_ends laws (idle_driver_state log_device).slot_states machine (port_at 0) ReadLog 1 log_device issued reached halt_agrees refl (λ slot ne. refl) prepared writes
 
-opens : FaultLeavesIssued log_uses 0 issued
+opens : FaultLeavesIssued slot_states_with_own_read_log 0 issued
 unfolding changed
 opens = record { hr_is_clear = refl; st_is_set = refl; slot_0_is_plain = refl; link_is_not_due = refl; no_other_slot_is_used = λ slot ne. put_other (λ _ _. Free) 0 0 (Own ReadLog) 0 slot (λ _ z. ne z); tfes_is_clear_or_issued = inl refl }
 
-issued_agrees : StateRelation log_uses machine issued
+issued_agrees : StateRelation slot_states_with_own_read_log machine issued
 issued_agrees = own_agrees (idle_driver_state log_device).slot_states machine log_device halt_agrees 0 ReadLog 1 prepared
 
 issued_runs : RunsLinked (issued.port 0)
@@ -227,5 +227,5 @@ log_is_ended laws = record {
   reads = reads;
   found = device_after_reading (Px (port_at 0) Is) 1 over;
   tells = tells;
-  port_runs_well = ended_well laws log_uses machine (port_at 0) 0 1 issued over (device_after_reading (Px (port_at 0) Is) 1 over) reached issued_agrees (ends laws) issued_runs reads refl tells no_trouble;
+  port_runs_well = ended_well laws slot_states_with_own_read_log machine (port_at 0) 0 1 issued over (device_after_reading (Px (port_at 0) Is) 1 over) reached issued_agrees (ends laws) issued_runs reads refl tells no_trouble;
 }

@@ -17,10 +17,10 @@ use Rattle.block_machine.specs.Steps.{Accept, Issue, IsEnabled, after_step, newl
 use Rattle.block_machine.proofs.Members.{contains_here, contains_none, into_map}
 use Rattle.refinement.specs.StepLaws.{StepLaws}
 use Rattle.refinement.specs.Relation.{port_at}
-use Rattle.refinement.specs.Driver.{DriverRelation, IsPrepared, idle_driver_state}
+use Rattle.refinement.specs.Driver.{DriverRelation, IsRequestPreparedToIssue, idle_driver_state}
 use Rattle.refinement.specs.MemoryLayout.{scratch_frame_address}
 use Rattle.refinement.specs.Slots.{Free, Serves, SlotDecodesTo}
-use Rattle.refinement.specs.TrimWitness.{example_trim, example_trim_block, trim_memory, prepared_trim, issued_trim, taken_trim, trim_driver_state, TrimAgrees}
+use Rattle.refinement.specs.TrimWitness.{trim_meaning_without_range, example_trim_block, trim_memory, prepared_trim, issued_trim, taken_trim, trim_driver_state, TrimAgrees}
 use Rattle.refinement.specs.ReadWitness.{first_id, first_slot_states}
 use Rattle.refinement.proofs.witnesses.AcceptedRequests.{accepted_of, has_its_grant, trim_of, trim_is_new}
 use Rattle.refinement.proofs.driver.OwnSteps.{accept_knows}
@@ -34,7 +34,7 @@ use Rattle.refinement.proofs.witnesses.FirstRead.{start_with, starts_with, plain
 
 -- ---- what the bytes say
 
-told : SlotDecodesTo trim_memory 0 0 0 example_trim (scratch_frame_address 0 ∷ [])
+told : SlotDecodesTo trim_memory 0 0 0 trim_meaning_without_range (scratch_frame_address 0 ∷ [])
 unfolding trim_memory first_memory patched bytes_at zeros_from
 told = page_told trim_memory Trim refl refl (refl, refl, refl) (refl, refl, refl, refl, refl, refl, refl, refl) (refl, refl, refl)
 
@@ -86,17 +86,17 @@ reached laws = laws.reachable_goes_on accepted (Issue plain waits ∷ []) accept
 accepted_knows : DriverRelation accepted (idle_driver_state prepared_trim)
 accepted_knows = accept_knows (idle_driver_state prepared_trim) start request (ready_knows trim_memory)
 
-prepared : IsPrepared (idle_driver_state prepared_trim).slot_states accepted prepared_trim 0 0 plain waits 1
+prepared : IsRequestPreparedToIssue (idle_driver_state prepared_trim).slot_states accepted prepared_trim 0 0 plain waits 1
 unfolding changed
 prepared = record {
   issue_is_enabled = may_issue;
   port_is = refl;
-  slot_state_is = refl;
+  armed_if_queued_else_free = refl;
   slot_is_usable = omega arith;
   plain_is_in_slot_0 = λ _. refl;
   st_is_set = refl;
   list_is_in_place = record { port_below = omega arith; slot_below = omega arith; list = refl };
-  command = example_trim;
+  command = trim_meaning_without_range;
   places = scratch_frame_address 0 ∷ [];
   slot_decodes_to = told;
   means = record { op_is = refl; first_sector_is_if_ranged = λ h. absurd (false≢true h); places_are = refl; trim_is_in_slot_0 = λ _. refl };
@@ -112,19 +112,19 @@ issued_knows = record {
   have_slots_unless_parked = λ q. issue_have (idle_driver_state prepared_trim).slot_states accepted prepared_trim accepted_reached accepted_knows.state_relation 0 0 plain waits 1 prepared q [] (accepted_knows.have_slots_unless_parked q);
 }
 
-can_fetch : Can (Fetch 0 0 example_trim (scratch_frame_address 0 ∷ [])) issued_trim
-can_fetch = can_take trim_memory example_trim (scratch_frame_address 0 ∷ []) told.decodes_to
+can_fetch : Can (Fetch 0 0 trim_meaning_without_range (scratch_frame_address 0 ∷ [])) issued_trim
+can_fetch = can_take trim_memory trim_meaning_without_range (scratch_frame_address 0 ∷ []) told.decodes_to
 
 -- ---- and done
 
 abbrev brought : FetchedCommand
-brought = record (newly_fetched example_trim (scratch_frame_address 0 ∷ [])) { moved = 1; block = example_trim_block }
+brought = record (newly_fetched trim_meaning_without_range (scratch_frame_address 0 ∷ [])) { moved = 1; block = example_trim_block }
 
 abbrev cleared : FetchedCommand
 cleared = record brought { cleared = 8 }
 
 abbrev moved : Device
-moved = device_after (Move 0 0 (newly_fetched example_trim (scratch_frame_address 0 ∷ [])) example_trim_block) taken_trim
+moved = device_after (Move 0 0 (newly_fetched trim_meaning_without_range (scratch_frame_address 0 ∷ [])) example_trim_block) taken_trim
 
 abbrev zeroed : Device
 zeroed = device_after (Clear 0 0 brought 100 8) moved
@@ -146,7 +146,7 @@ small : All (λ b. b < 256) example_trim_block
 unfolding are_small
 small = all_small example_trim_block refl
 
-can_move : Can (Move 0 0 (newly_fetched example_trim (scratch_frame_address 0 ∷ [])) example_trim_block) taken_trim
+can_move : Can (Move 0 0 (newly_fetched trim_meaning_without_range (scratch_frame_address 0 ∷ [])) example_trim_block) taken_trim
 unfolding changed
 can_move = record {
   works = record { taken = refl; working = record { cr_is_set = refl; present = refl; fresh = refl; admitted = refl; is_not_broken = refl } };
@@ -176,11 +176,11 @@ can_end = record {
 
 comes : Steps issued_trim ended
 comes = record {
-  steps = Fetch 0 0 example_trim (scratch_frame_address 0 ∷ []) ∷ Move 0 0 (newly_fetched example_trim (scratch_frame_address 0 ∷ [])) example_trim_block ∷ Clear 0 0 brought 100 8 ∷ Done 0 0 0 cleared ∷ [];
+  steps = Fetch 0 0 trim_meaning_without_range (scratch_frame_address 0 ∷ []) ∷ Move 0 0 (newly_fetched trim_meaning_without_range (scratch_frame_address 0 ∷ [])) example_trim_block ∷ Clear 0 0 brought 100 8 ∷ Done 0 0 0 cleared ∷ [];
   lead = (can_fetch, (can_move, (can_clear, (can_end, refl))));
 }
 
-bits : ((issued_trim.port 0).st ≡ true) × ((ended.port 0).ci 0 ≡ false) × ((ended.port 0).sact 0 ≡ false) × ((taken_trim.port 0).taken 0 ≡ Some (newly_fetched example_trim (scratch_frame_address 0 ∷ [])))
+bits : ((issued_trim.port 0).st ≡ true) × ((ended.port 0).ci 0 ≡ false) × ((ended.port 0).sact 0 ≡ false) × ((taken_trim.port 0).taken 0 ≡ Some (newly_fetched trim_meaning_without_range (scratch_frame_address 0 ∷ [])))
 unfolding changed
 bits = (refl, refl, refl, refl)
 
@@ -195,10 +195,10 @@ trim_is_known laws = record {
   permitted = issue_is_permitted laws (idle_driver_state prepared_trim).slot_states accepted prepared_trim accepted_reached accepted_knows.state_relation (port_at 0) 0 plain waits 1
       (record { ae_is_set = refl; no_reset = refl }) (omega arith, refl) (omega arith) prepared;
   issued = issued_knows;
-  takes = record { steps = (Fetch 0 0 example_trim (scratch_frame_address 0 ∷ [])) ∷ []; lead = (can_fetch, refl) };
+  takes = record { steps = (Fetch 0 0 trim_meaning_without_range (scratch_frame_address 0 ∷ [])) ∷ []; lead = (can_fetch, refl) };
   taken = bits.3;
   driver_relation = record {
-    state_relation = silent_agrees first_slot_states issued issued_trim taken_trim (fetch_follows first_slot_states issued issued_trim issued_knows.state_relation 0 0 example_trim (scratch_frame_address 0 ∷ []) can_fetch) refl;
+    state_relation = silent_agrees first_slot_states issued issued_trim taken_trim (fetch_follows first_slot_states issued issued_trim issued_knows.state_relation 0 0 trim_meaning_without_range (scratch_frame_address 0 ∷ []) can_fetch) refl;
     have_slots_unless_parked = issued_knows.have_slots_unless_parked;
   };
   done = done_is_known laws trim_driver_state issued (reached laws) issued_knows first_id (put_same (λ _ _. Free) 0 0 (Serves first_id)) refl ended comes refl bits.0 bits.1 bits.2;

@@ -11,7 +11,7 @@ use std::test::Fail;
 const SERIAL: [u8; 20] = *b"IMAGEDISK           ";
 
 /// The disk with this serial number is wanted in port 0, and none in the others.
-pub const IMAGE_DISK: [Wanted; PORTS] = [
+pub const ONLY_IMAGE_DISK_WANTED: [Wanted; PORTS] = [
     Wanted::Serial(SERIAL),
     Wanted::Nothing,
     Wanted::Nothing,
@@ -44,7 +44,7 @@ fn found(alloc: Global, sectors: u32, lies: [Lie; 4]) -> Result<(u8, bool, Probe
     lie(&mut model, another);
     lie(&mut model, third);
     lie(&mut model, last);
-    let host = take_over(&mut model, &IMAGE_DISK);
+    let host = take_over(&mut model, &ONLY_IMAGE_DISK_WANTED);
     Ok((host.slot_count, host.supports_ncq, host.ports[0]))
 }
 
@@ -219,7 +219,7 @@ fn ports_that_are_wanted_and_there_are_booted(rt: HostRuntime) -> Result<(), Fai
             touched: [false; PORTS],
             writes: &[ENABLE, ALLOW_INTERRUPTS],
         },
-        port_0_is_ready(ALL_PORTS, IMAGE_DISK, &ready_port),
+        port_0_is_ready(ALL_PORTS, ONLY_IMAGE_DISK_WANTED, &ready_port),
         Boot {
             pi: ALL_PORTS,
             wanted: [NONE, NONE, Wanted::Any, NONE],

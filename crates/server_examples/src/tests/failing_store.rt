@@ -55,22 +55,22 @@ impl FailingCall {
 
 /// Sectors in memory, of whose calls one fails.
 #[derive(Drop)]
-pub struct FailingStore {
+pub struct OneFailureStore {
     memory: MemStore,
     failing: FailingCall,
 }
 
-impl FailingStore {
+impl OneFailureStore {
     /// One whose next call on a sector that is there fails, once so many have come.
-    pub fn new(memory: MemStore, before: u64) -> FailingStore {
-        FailingStore {
+    pub fn new(memory: MemStore, before: u64) -> OneFailureStore {
+        OneFailureStore {
             memory,
             failing: FailingCall::new(before),
         }
     }
 }
 
-impl SectorStore for FailingStore {
+impl SectorStore for OneFailureStore {
     ghost size = { λ s. ⟦<MemStore as SectorStore>⟧.size s.memory };
 
     ghost told = { λ s. ⟦<MemStore as SectorStore>⟧.told s.memory };

@@ -1,6 +1,6 @@
 // Disks in memory of which one call fails, as one of a file may: each call in turn, in the worked cases that move or
 // clear sectors.
-use super::failing_store::FailingStore;
+use super::failing_store::OneFailureStore;
 use super::lists::image_of_numbers;
 use super::servers::{CACHED_CONFIG, QUEUED_CONFIG, UNQUEUED_CONFIG};
 use play::{Ended, PlayInputs, play};
@@ -429,8 +429,8 @@ pub fn is_told<S: SectorStore>(
 fn a_call_that_fails_is_told_to_its_request(rt: HostRuntime) -> Result<(), Fail> {
     for case in &FAILING_PLAYS {
         for failing in (0..case.call_count()).chain([NEVER]) {
-            let image = FailingStore::new(image_of_numbers(rt.alloc(), case.sectors)?, failing);
-            let blank = FailingStore::new(MemStore::new(rt.alloc(), 0)?, 0);
+            let image = OneFailureStore::new(image_of_numbers(rt.alloc(), case.sectors)?, failing);
+            let blank = OneFailureStore::new(MemStore::new(rt.alloc(), 0)?, 0);
             let told = is_told(rt.alloc(), case, failing, image, blank)?;
             assert!(rt; told, "{}, call {failing}", case.session);
         }
@@ -487,8 +487,8 @@ fn a_sector_that_cannot_be_written_back_keeps_what_was_written(
         let inputs = PlayInputs {
             config: CACHED_CONFIG.as_bytes(),
             script: LOSING.as_bytes(),
-            image: FailingStore::new(image_of_numbers(rt.alloc(), 356)?, failing),
-            blank: FailingStore::new(MemStore::new(rt.alloc(), 0)?, 0),
+            image: OneFailureStore::new(image_of_numbers(rt.alloc(), 356)?, failing),
+            blank: OneFailureStore::new(MemStore::new(rt.alloc(), 0)?, 0),
             trace: false,
         };
         let mut printed = Vec::new(rt.alloc());

@@ -1,7 +1,7 @@
 // A disk of which one call fails, each in turn, while as many sectors are trimmed as one request may.
 use super::failing_stores::{FailingPlay, NEVER, SectorCalls, is_told};
 use super::numbered_store::NumberedStore;
-use super::servers::GRANT_OF_ALL_SECTORS;
+use super::servers::ALL_SECTORS_CONFIG;
 use std::alloc::Global;
 use std::process::Abort;
 use std::test::Fail;
@@ -42,7 +42,7 @@ bytes ",
 
 /// The longest trim, and what is told where a call fails.
 const LONGEST_TRIM: FailingPlay<'static> = FailingPlay {
-    text: GRANT_OF_ALL_SECTORS,
+    text: ALL_SECTORS_CONFIG,
     sectors: 70_000,
     session: trim_and_read!("Ok", "Ok", "00e8"),
     requests: 2,

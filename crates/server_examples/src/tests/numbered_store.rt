@@ -23,12 +23,12 @@ pub struct NumberedStore {
 impl NumberedStore {
     /// One that is to be cleared from a sector on, whose next call on a sector that is there fails, once so many have
     /// come.
-    pub fn new(sectors: u64, first: u64, before: u64) -> NumberedStore {
+    pub fn new(sectors: u64, first_cleared: u64, calls_before_failure: u64) -> NumberedStore {
         NumberedStore {
             sectors,
-            first,
-            next: first,
-            failing: FailingCall::new(before),
+            first: first_cleared,
+            next: first_cleared,
+            failing: FailingCall::new(calls_before_failure),
         }
     }
 

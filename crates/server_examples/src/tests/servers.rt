@@ -56,7 +56,7 @@ const PLAIN: &str = text_with!("slots = 1\nncq = false\ndepth = 1\n");
 pub const QUEUED_CONFIG: &str = text_with!("slots = 32\nncq = true\ndepth = 32\n");
 
 /// And the client may do all with the disk.
-pub const GRANT_OF_ALL_SECTORS: &str = text_with!(
+pub const ALL_SECTORS_CONFIG: &str = text_with!(
     "slots = 32\nncq = true\ndepth = 32\n",
     "first = 0\ncount = 70000\n"
 );
@@ -242,11 +242,11 @@ const LONG_READ: Slot = (READ_HEADER, h2d!(0x25, [0, 0], [0, 1]), LONG_RUN, NO_E
 /// A write of three sectors from frame 77, by WRITE DMA EXT.
 const WRITE: Slot = (WRITE_HEADER, h2d!(0x35, [0, 0], [3, 0]), FRAME_77, NO_ENTRY);
 
-/// The short read by READ FPDMA QUEUED_CONFIG, in slot 0: the sectors stand in the features field, and the tag in bits
+/// The short read by READ FPDMA QUEUED, in slot 0: the sectors stand in the features field, and the tag in bits
 /// 7:3 of the count field (ACS-3).
 const QUEUED_SHORT_READ: Slot = (READ_HEADER, h2d!(0x60, [8, 0], [0, 0]), FRAME_76, NO_ENTRY);
 
-/// The long read by READ FPDMA QUEUED_CONFIG, in slot 5.
+/// The long read by READ FPDMA QUEUED, in slot 5.
 const QUEUED_LONG_READ: Slot = (
     HEADER_OF_5,
     h2d!(0x60, [0, 1], [0x28, 0]),
@@ -254,7 +254,7 @@ const QUEUED_LONG_READ: Slot = (
     NO_ENTRY,
 );
 
-/// A read of 1,024 sectors by READ FPDMA QUEUED_CONFIG, in slot 0, into frames 76 to 203: one entry has the 512 KiB.
+/// A read of 1,024 sectors by READ FPDMA QUEUED, in slot 0, into frames 76 to 203: one entry has the 512 KiB.
 const WIDE_READ: Slot = (READ_HEADER, h2d!(0x60, [0, 4], [0, 0]), WIDE_RUN, NO_ENTRY);
 
 /// The same from frame 203 down to 76: of the 128 entries the first is of frame 203, and the last of frame 76.
@@ -268,7 +268,7 @@ const FALLING_READ: Slot = (
 /// The wide read by READ DMA EXT, where commands are plain.
 const PLAIN_WIDE_READ: Slot = (READ_HEADER, h2d!(0x25, [0, 0], [0, 4]), WIDE_RUN, NO_ENTRY);
 
-/// The write by WRITE FPDMA QUEUED_CONFIG, in slot 0.
+/// The write by WRITE FPDMA QUEUED, in slot 0.
 const QUEUED_WRITE: Slot = (WRITE_HEADER, h2d!(0x61, [3, 0], [0, 0]), FRAME_77, NO_ENTRY);
 
 /// A trim, by DATA SET MANAGEMENT with one block, which stands at 12000h, in the port's scratch frame.

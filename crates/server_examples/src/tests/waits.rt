@@ -3,7 +3,7 @@
 ghost use Rattle.std.specs.Prelude.{◌≤◌};
 ghost use Rattle.adapter.specs.Idle.{IsIdle};
 
-use super::boots::IMAGE_DISK;
+use super::boots::ONLY_IMAGE_DISK_WANTED;
 use super::watched::{ALL_PORTS, RegisterReadings, Watched, model};
 use adapter::{Adapter, DeviceStep, DiskNumber};
 use ata_types::{DRIVER_BYTES, PORTS, Port, PortState};
@@ -54,7 +54,7 @@ fn received_anew<A: Adapter>(adapter: &mut A) -> PortState
     law_followed_fragments_agree::<Brand>();
     law_other_ports_are_untouched();
     law_what_was_taken_over_may_be_served();
-    let host = take_over(adapter, &IMAGE_DISK);
+    let host = take_over(adapter, &ONLY_IMAGE_DISK_WANTED);
     let ProbeResult::Ready(_) = host.ports[0] else {
         return PortState::Absent;
     };
@@ -91,7 +91,7 @@ fn drive(alloc: Global, driven: Driven, times: Times, register: PortReg) -> Resu
     device.queue_step(times.exchanged, plug)?;
     device.queue_step(times.released, DeviceStep::Release(Port(0)))?;
     let shown = match driven {
-        Driven::Boot => state(take_over(&mut watched, &IMAGE_DISK).ports[0]),
+        Driven::Boot => state(take_over(&mut watched, &ONLY_IMAGE_DISK_WANTED).ports[0]),
         Driven::BootAndReceive => received_anew(&mut watched),
     };
     let readings = watched.readings(Reg::Px(Port(0), register));

@@ -26,8 +26,8 @@ use Rattle.driver_history.specs.Histories.{LosesNoPortError}
 use Rattle.error_recovery.specs.Evidence.{GainsSinceStart, ShowsFatal}
 use Rattle.commands.specs.Masks.{ReadsCiOrSact}
 use Rattle.commands.specs.Batches.{IsBatchAccess}
-use Rattle.port_control.specs.PortEvents.{IsEventAccess}
-use Rattle.port_control.specs.ServiceAccesses.{IsServiceButPxIs}
+use Rattle.port_control.specs.PortEvents.{IsPxisSstsOrOwnIsAccess}
+use Rattle.port_control.specs.ServiceAccesses.{WritesOnlyHbaIsCiSactOrOtherPxIs}
 use Rattle.port_control.specs.declared.events.PortEvent.TheVariants.{NoEvent}
 use Rattle.slots.specs.SlotUses.{PortSlots}
 use Rattle.server_history.specs.Prerequisites.{PrerequisiteLaws}
@@ -56,7 +56,7 @@ gained_running Such port old new g = record {
 
 -- ---- accesses that are ordinary
 
-finding_ordinary : (port : Port) (access : Access) → ReadsCiOrSact port access → IsServiceButPxIs port access
+finding_ordinary : (port : Port) (access : Access) → ReadsCiOrSact port access → WritesOnlyHbaIsCiSactOrOtherPxIs port access
 finding_ordinary port (Reading r v) here = (tt, tt)
 finding_ordinary port (Writing r v) here = absurd here
 finding_ordinary port (Loading at bytes) here = absurd here
@@ -71,26 +71,26 @@ issuing_spares port (Storing at bytes) here = tt
 issuing_spares port (Loading at bytes) here = tt
 issuing_spares port (Reading r v) here = tt
 
-issuing_ordinary : (port : Port) (access : Access) → IsBatchAccess port access → IsServiceButPxIs port access
+issuing_ordinary : (port : Port) (access : Access) → IsBatchAccess port access → WritesOnlyHbaIsCiSactOrOtherPxIs port access
 issuing_ordinary port access here = (issuing_serves port access here, issuing_spares port access here)
 
 module _ (laws : PrerequisiteLaws) where
   module _ (port : Port) (slots : PortSlots) (replies : List Reply) (old : JointState Device) (new : Device) (turn : PollsInTurnWithoutEvent port slots replies old.device new) (on : IsOn old.device) where
     -- what comes after a look that told nothing
-    pub later_driven : turn.look ≡ NoEvent → IsDrivenBy (IsServiceButPxIs port) turn.device_after_look new
+    pub later_driven : turn.look ≡ NoEvent → IsDrivenBy (WritesOnlyHbaIsCiSactOrOtherPxIs port) turn.device_after_look new
     later_driven calm = ⊎_elim
-        (λ (none : IsEmptyMask c.mask). subst (IsDrivenBy (IsServiceButPxIs port) turn.device_after_look) (sym (c.none_used_reads_nothing none).1) (by_none (IsServiceButPxIs port) turn.device_after_look))
+        (λ (none : IsEmptyMask c.mask). subst (IsDrivenBy (WritesOnlyHbaIsCiSactOrOtherPxIs port) turn.device_after_look) (sym (c.none_used_reads_nothing none).1) (by_none (WritesOnlyHbaIsCiSactOrOtherPxIs port) turn.device_after_look))
         (λ some.
         let k = c.polls_slots (λ none. false≢true (sym (none some.0 some.1) ∙ some.2)) in
-        by_then laws (driven_as (ReadsCiOrSact port) (IsServiceButPxIs port) turn.device_after_look k.device_after_read (finding_ordinary port) k.reads.driven)
-        (driven_as (IsBatchAccess port) (IsServiceButPxIs port) k.device_after_read new (issuing_ordinary port) k.only_issuing_follows))
+        by_then laws (driven_as (ReadsCiOrSact port) (WritesOnlyHbaIsCiSactOrOtherPxIs port) turn.device_after_look k.device_after_read (finding_ordinary port) k.reads.driven)
+        (driven_as (IsBatchAccess port) (WritesOnlyHbaIsCiSactOrOtherPxIs port) k.device_after_read new (issuing_ordinary port) k.only_issuing_follows))
         (none_or_some 32 c.mask)
       where
         c : PollsUsedSlots port slots replies turn.device_after_look new
         c = turn.polls_used_slots
 
     seen_on : IsOn turn.device_after_look
-    seen_on = laws.one_port_keeps_adapter_on port old.device turn.device_after_look on (driven_as (IsEventAccess port) (SparesOtherPorts port) old.device turn.device_after_look (laws.look_laws.look_access_is_of_port port) (laws.look_laws.look_is_driven_by_its_accesses port turn.look old.device turn.device_after_look turn.takes_event))
+    seen_on = laws.one_port_keeps_adapter_on port old.device turn.device_after_look on (driven_as (IsPxisSstsOrOwnIsAccess port) (SparesOtherPorts port) old.device turn.device_after_look (laws.look_laws.look_access_is_of_port port) (laws.look_laws.look_is_driven_by_its_accesses port turn.look old.device turn.device_after_look turn.takes_event))
 
     module _ (calm : turn.look ≡ NoEvent) where
       -- it showed no trouble, then

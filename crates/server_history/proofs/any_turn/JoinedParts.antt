@@ -14,7 +14,7 @@ use Rattle.ata_types.specs.declared.request.Outcome.{Outcome}
 use Rattle.ata_types.specs.declared.request.Outcome.TheVariants.{Aborted, DeviceError, Ok, PortDead, Revoked, Unplugged}
 use Rattle.ata_types.specs.declared.request.Reply.{Reply}
 use Rattle.refinement.specs.Relation.{port_at}
-use Rattle.block_machine.specs.Events.{IsLawfulAnswer, IsToldBefore, AbstractState, RepliesMatch, IsIssuedInBook, answers_of, reply_of}
+use Rattle.block_machine.specs.Events.{IsLawfulAnswer, IsLowerByPortThenId, AbstractState, RepliesMatch, IsIssuedInBook, answers_of, reply_of}
 use Rattle.block_machine.specs.Ports.{Evidence, RequestFault, IsServiced, Ports, SameSerialAndSize, SamePort}
 use Rattle.block_machine.specs.State.{Pending}
 use Rattle.block_machine.specs.Steps.{Step, Answer}
@@ -63,7 +63,7 @@ all_pairs_append {X} R xs (y ∷ ys) one other crossed = subst (AllPairs R) (app
 pub record AreToldBelow (n : ℕ) (steps : List Step) (replies : List Reply) : Type 0 where
   pub answers : List (Pending × Outcome)
   pub permuted : IsPermutation answers (answers_of steps)
-  pub ordered : AllPairs IsToldBefore answers
+  pub ordered : AllPairs IsLowerByPortThenId answers
   pub low : All (λ a. a.0.request.port.0 < n) answers
   pub told : replies ≡ map reply_of answers
 
@@ -76,7 +76,7 @@ told_then n early late before its p x own = record {
       (IsPermutation-trans (p.answers ++ x.answers) (answers_of early ++ answers_of late) (answers_of late ++ answers_of early)
       (IsPermutation-append p.answers (answers_of early) x.answers (answers_of late) p.permuted x.is_permutation)
       (IsPermutation-append_comm (answers_of early) (answers_of late)));
-  ordered = all_pairs_append IsToldBefore p.answers x.answers p.ordered x.ordered (λ a b here there.
+  ordered = all_pairs_append IsLowerByPortThenId p.answers x.answers p.ordered x.ordered (λ a b here there.
       let lt = All-contains (λ (y : Pending × Outcome). y.0.request.port.0 < n) p.answers a p.low here in
       let is : b.0.request.port.0 ≡ n = ap (λ (q : Port). q.0) (its_port b there) in
       inl (omega (arith, lt, is)));

@@ -7,8 +7,8 @@ use Rattle.std.proofs.lemmas.List.Sums.{sum_by-cons}
 use Rattle.ata_types.specs.declared.Port.{Port}
 use Rattle.ata_types.specs.declared.request.Outcome.{Outcome}
 use Rattle.ata_types.specs.declared.request.RequestId.{RequestId}
-use Rattle.refinement.specs.SparedBook.{KeepsLoansAndBookOnlyAdvances}
-use Rattle.block_machine.specs.Events.{AllEnabled, IsByDevice, IsIssuedIn, handles_id, issues_id}
+use Rattle.refinement.specs.SparedBook.{KeepsLoansAndPendingsOnlyAdvance}
+use Rattle.block_machine.specs.Events.{AllEnabled, IsByDevice, IsIssuedIn, issues_requeues_or_answers_id, issues_id}
 use Rattle.block_machine.specs.Histories.{IsReachable}
 use Rattle.block_machine.specs.Expected.{after}
 use Rattle.block_machine.specs.State.{Machine, Pending}
@@ -59,13 +59,13 @@ module _ (laws : PrerequisiteLaws) (port : Port) (m : Machine) where
 
   device_before : (step : Step) (before : List Step) → IsByDevice step → (z : Pending) → Contains (after m (step ∷ before)).book z → (x : Pending) × Contains (after m before).book x × IsSame x z
   device_before step before is z here =
-      let spares : KeepsLoansAndBookOnlyAdvances (after m before) (after_step (after m before) step) = laws.steps_and_accesses.device_steps_spare_book (after m before) (step ∷ []) (tt, is) in
+      let spares : KeepsLoansAndPendingsOnlyAdvance (after m before) (after_step (after m before) step) = laws.steps_and_accesses.device_steps_spare_book (after m before) (step ∷ []) (tt, is) in
       let l = laws.steps_and_accesses.entry_is_found_in_earlier_book (after m before).book (after m (step ∷ before)).book z spares.book here in
       (l.0, l.1, record { request = l.2.request; issued = l.2.issued; ended = l.2.ended })
 
   device_later : (step : Step) (before : List Step) → IsByDevice step → (y : Pending) → Contains (after m before).book y → (x : Pending) × Contains (after m (step ∷ before)).book x × IsSame y x
   device_later step before is y here =
-      let spares : KeepsLoansAndBookOnlyAdvances (after m before) (after_step (after m before) step) = laws.steps_and_accesses.device_steps_spare_book (after m before) (step ∷ []) (tt, is) in
+      let spares : KeepsLoansAndPendingsOnlyAdvance (after m before) (after_step (after m before) step) = laws.steps_and_accesses.device_steps_spare_book (after m before) (step ∷ []) (tt, is) in
       let l = laws.steps_and_accesses.entry_is_found_in_later_book (after m before).book (after m (step ∷ before)).book y spares.book here in
       (l.0, l.1, record { request = l.2.request; issued = l.2.issued; ended = l.2.ended })
 
@@ -164,13 +164,13 @@ module _ (laws : PrerequisiteLaws) (port : Port) (m : Machine) where
       let b = stood steps own e here in
       record { pending = b.was; here = b.here; id_is = ap (λ r. r.id.0) b.request ∙ eqb-true e.request.id.0 id.0 same; port_is = ap (λ r. r.port) b.request ∙ its }
 
-  pub handled_own : (step : Step) (steps : List Step) → All (IsTurnOrDeviceStep port) (step ∷ steps) → AllEnabled m (step ∷ steps) → (id : RequestId) → handles_id id step ≡ true → IsOwn id
+  pub handled_own : (step : Step) (steps : List Step) → All (IsTurnOrDeviceStep port) (step ∷ steps) → AllEnabled m (step ∷ steps) → (id : RequestId) → issues_requeues_or_answers_id id step ≡ true → IsOwn id
   handled_own (Issue mode e) steps own may id h = own_of steps (All-tail (IsTurnOrDeviceStep port) (Issue mode e) steps own) e may.1.0 (All-head (IsTurnOrDeviceStep port) (Issue mode e) steps own) id h
   handled_own (WaitAgain e) steps own may id h = own_of steps (All-tail (IsTurnOrDeviceStep port) (WaitAgain e) steps own) e may.1.0 (All-head (IsTurnOrDeviceStep port) (WaitAgain e) steps own) id h
   handled_own (Answer e o) steps own may id h = own_of steps (All-tail (IsTurnOrDeviceStep port) (Answer e o) steps own) e may.1.0 (All-head (IsTurnOrDeviceStep port) (Answer e o) steps own) id h
   handled_own step steps own may id h = absurd (not_handled id step (All-head (IsTurnOrDeviceStep port) step steps own) h)
 
-  issues_handles : (id : RequestId) (step : Step) → issues_id id step ≡ true → handles_id id step ≡ true
+  issues_handles : (id : RequestId) (step : Step) → issues_id id step ≡ true → issues_requeues_or_answers_id id step ≡ true
   issues_handles id (Issue mode e) i = i
   issues_handles id step i = absurd (false≢true i)
 
@@ -185,6 +185,6 @@ module _ (laws : PrerequisiteLaws) (port : Port) (m : Machine) where
   pub answered_own : (steps : List Step) → All (IsTurnOrDeviceStep port) steps → AllEnabled m steps → (e : Pending) (o : Outcome) → Contains steps (Answer e o) → IsOwn e.request.id
   answered_own [] own may e o here = absurd (nowhere (Answer e o) here)
   answered_own (step ∷ steps) own may e o here = ⊎_elim
-      (λ (is : Answer e o ≡ step). handled_own step steps own may e.request.id (subst (λ (x : Step). handles_id e.request.id x ≡ true) is (eq-eqb e.request.id.0 e.request.id.0 refl)))
+      (λ (is : Answer e o ≡ step). handled_own step steps own may e.request.id (subst (λ (x : Step). issues_requeues_or_answers_id e.request.id x ≡ true) is (eq-eqb e.request.id.0 e.request.id.0 refl)))
       (λ (there : Contains steps (Answer e o)). answered_own steps (All-tail (IsTurnOrDeviceStep port) step steps own) may.0 e o there)
       (contains_cases step steps (Answer e o) here)

@@ -9,12 +9,12 @@ use Rattle.ata_types.specs.declared.request.Outcome.TheVariants.{Ok, DeviceError
 use Rattle.ata_types.specs.declared.request.RequestId.{RequestId}
 use Rattle.adapter.specs.declared.access.DeviceStep.{DeviceStep}
 use Rattle.refinement.specs.Relation.{port_at}
-use Rattle.block_machine.specs.Events.{AbstractCall, AbstractState, AnswersAndWaitsLawful, AllEnabled, AreStepsOfCall, IsIssuedIn, IsLawfulAnswer, IssueIsLastOfRequest, UnpluggedEmptiesPort, changes_disk}
+use Rattle.block_machine.specs.Events.{AbstractCall, AbstractState, AnswersAndWaitsLawful, AllEnabled, AreStepsOfCall, IsIssuedIn, IsLawfulAnswer, IssueIsLastOfRequest, UnpluggedOutcomeEmptiesPort, changes_disk}
 use Rattle.block_machine.specs.Histories.{IsReachable}
 use Rattle.block_machine.specs.Expected.{after}
 use Rattle.block_machine.specs.Ports.{Evidence, Ports}
 use Rattle.block_machine.specs.State.{Machine, Pending}
-use Rattle.block_machine.specs.Steps.{Step, WaitAgain, Answer, Issue, Replace, Unplug}
+use Rattle.block_machine.specs.Steps.{Step, WaitAgain, Answer, Issue, PlugDisk, Unplug}
 use Rattle.driver_history.specs.EvidenceHandling.{OnlyFailedPortsRequeueAbortRevokeOrFault}
 use Rattle.server_history.specs.Turns.{IsTurnOrDeviceStep, IsByDeviceOrOnSuchPort}
 use Rattle.server_history.proofs.any_turn.TurnSteps.{IsSame, StandsIn, handled_own, issued_before, others_left, others_were, same_as, same_more, stood}
@@ -103,7 +103,7 @@ present_before m q (Unplug p ∷ steps) is = ⊎_elim
 
     more : (b : Bool) → (m.present q ≡ true) ⊎ (list_any (changes_disk q) steps ≡ true) → (m.present q ≡ true) ⊎ ((b || list_any (changes_disk q) steps) ≡ true)
     more b w = ⊎_elim (λ a. inl a) (λ c. inr (or_right b (list_any (changes_disk q) steps) c)) w
-present_before m q (Replace p id size disk ∷ steps) is = ⊎_elim
+present_before m q (PlugDisk p id size disk ∷ steps) is = ⊎_elim
     (λ (same : p.0 ≡ q.0). inr (or_left (p.0 == q.0) (list_any (changes_disk q) steps) (eq-eqb p.0 q.0 same)))
     (λ (ne : p.0 ≢ q.0). more (p.0 == q.0) (present_before m q steps (other ne)))
     (cases_eq p.0 q.0)
@@ -218,7 +218,7 @@ module _ (laws : PrerequisiteLaws) (old : AbstractState) (reached : IsReachable 
     }
 
     -- who is left of what was answered before, or stays, stays answered so
-    pub unplugs_join : UnpluggedEmptiesPort base (after old.machine base) → UnpluggedEmptiesPort late (after (after old.machine base) late) → UnpluggedEmptiesPort (late ++ base) (after old.machine (late ++ base))
+    pub unplugs_join : UnpluggedOutcomeEmptiesPort base (after old.machine base) → UnpluggedOutcomeEmptiesPort late (after (after old.machine base) late) → UnpluggedOutcomeEmptiesPort (late ++ base) (after old.machine (late ++ base))
     unplugs_join early its = record {
       none_is_left = λ e other here there. ⊎_elim
           (λ i. its.none_is_left e other i (in_whole other there))

@@ -9,7 +9,7 @@ use Rattle.refinement.specs.Slots.{IsEmptySlot, RelatesSlot, SlotState}
 use Rattle.block_machine.specs.State.{Machine}
 use Rattle.host_boot.specs.TakeOver.{probe_result_of}
 use Rattle.commands.specs.Masks.{ReadsDone}
-use Rattle.port_control.specs.PortEvents.{IsEventAccess}
+use Rattle.port_control.specs.PortEvents.{IsPxisSstsOrOwnIsAccess}
 use Rattle.server_history.specs.Prerequisites.{PrerequisiteLaws}
 use Rattle.server_history.specs.ServerState.{ServerState, MachineRelation, state_of, used_for}
 use Rattle.server_history.proofs.plain_calls.Looks.{both_clear}
@@ -17,7 +17,7 @@ use Rattle.server_history.proofs.state.TransferAccesses.{both_read}
 use Rattle.server_history.proofs.state.PortSlots.{free_unused}
 
 -- the port was looked at, and then the masks were read
-pub unused_clear : PrerequisiteLaws → (c : ServerState) (m : Machine) (n : ℕ) → MachineRelation c m → state_of (probe_result_of c.probe_results n) ≡ ReadyState → (seen read : Device) → IsDrivenBy (IsEventAccess (port_at n)) c.device seen
+pub unused_clear : PrerequisiteLaws → (c : ServerState) (m : Machine) (n : ℕ) → MachineRelation c m → state_of (probe_result_of c.probe_results n) ≡ ReadyState → (seen read : Device) → IsDrivenBy (IsPxisSstsOrOwnIsAccess (port_at n)) c.device seen
     → (mask done : ℕ) → (k : ReadsDone (port_at n) mask done seen read) → (slot : ℕ) → slot < 32 → used_for c.slots n slot ≡ None → (bit k.issued slot ≡ false) × (bit k.active slot ≡ false)
 unused_clear laws c m n stands ready seen read looks mask done k slot small unused =
     let masks = both_read (port_at n) mask done seen read k in

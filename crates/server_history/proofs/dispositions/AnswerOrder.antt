@@ -12,7 +12,7 @@ use Rattle.std.proofs.Math.ListN.{set}
 use Rattle.ata_types.specs.declared.Port.{Port}
 use Rattle.ata_types.specs.declared.request.Outcome.{Outcome}
 use Rattle.ata_types.specs.declared.request.Reply.{Reply}
-use Rattle.block_machine.specs.Events.{IsToldBefore, reply_of}
+use Rattle.block_machine.specs.Events.{IsLowerByPortThenId, reply_of}
 use Rattle.block_machine.specs.State.{Pending}
 
 -- ---- what is in another order
@@ -50,7 +50,7 @@ abbrev pub AreOfPort : Port → List (Pending × Outcome) → Type 0
 AreOfPort port answers = All (λ a. a.0.request.port ≡ port) answers
 
 -- what is told in order is of different ids
-pub told_differ : (port : Port) (answers : List (Pending × Outcome)) → AreOfPort port answers → AllPairs IsToldBefore answers → AreDifferent answers
+pub told_differ : (port : Port) (answers : List (Pending × Outcome)) → AreOfPort port answers → AllPairs IsLowerByPortThenId answers → AreDifferent answers
 told_differ port answers of ordered i j d lt below same = ⊎_elim
     (λ (less : (get_or answers i d).0.request.port.0 < (get_or answers j d).0.request.port.0).
     let a = ap (λ (q : Port). q.0) (of i d (omega (arith, lt, below))) in
@@ -87,7 +87,7 @@ still_differ answers other moved differ i j d lt below same =
 
 -- Replies that are those of a port's answers in another order, with their ids in order, are those of the answers as they are told.
 pub told_in_order : (port : Port) (answers : List (Pending × Outcome)) (replies : List Reply) → IsPermutation replies (map reply_of answers) → AllPairs (λ (a b : Reply). a.id.0 ≤ b.id.0) replies
-    → AreOfPort port answers → AreDifferent answers → (told : List (Pending × Outcome)) × IsPermutation told answers × AllPairs IsToldBefore told × (replies ≡ map reply_of told)
+    → AreOfPort port answers → AreDifferent answers → (told : List (Pending × Outcome)) × IsPermutation told answers × AllPairs IsLowerByPortThenId told × (replies ≡ map reply_of told)
 told_in_order port answers replies moved ordered of differ = (x.0, IsPermutation-sym answers x.0 x.2, before, sym x.1)
   where
     x : (zs : List (Pending × Outcome)) × (map reply_of zs ≡ replies) × IsPermutation answers zs
@@ -102,7 +102,7 @@ told_in_order port answers replies moved ordered of differ = (x.0, IsPermutation
     in_order : AllPairs (λ (a b : Reply). a.id.0 ≤ b.id.0) (map reply_of x.0)
     in_order = subst (AllPairs (λ (a b : Reply). a.id.0 ≤ b.id.0)) (sym x.1) ordered
 
-    before : AllPairs IsToldBefore x.0
+    before : AllPairs IsLowerByPortThenId x.0
     before i j d lt below =
         let long = length-map x.0 reply_of in
         let small : i < length x.0 = omega (arith, lt, below) in

@@ -10,7 +10,7 @@ use Rattle.ata_types.specs.declared.request.Outcome.TheVariants as outcome
 use Rattle.ata_types.specs.declared.request.Reply.{Reply}
 use Rattle.ata_types.specs.declared.request.RequestId.{RequestId}
 use Rattle.adapter.specs.declared.access.DeviceStep.{DeviceStep}
-use Rattle.block_machine.specs.Events.{AnswersAndWaitsLawful, AreStepsOfCall, IsOfUndoneRequest, IsByDevice, IsIssuedIn, IsLawfulAnswer, IsByServer, AbstractState, Service, Tick, issues_id}
+use Rattle.block_machine.specs.Events.{AnswersAndWaitsLawful, AreStepsOfCall, IsOutcomeWithoutDeviceVerdict, IsByDevice, IsIssuedIn, IsLawfulAnswer, IsByServer, AbstractState, Service, Tick, issues_id}
 use Rattle.block_machine.specs.Ports.{Evidence, Ports}
 use Rattle.block_machine.specs.State.{Pending}
 use Rattle.block_machine.specs.Steps.{Step, WaitAgain, Answer, Issue}
@@ -216,7 +216,7 @@ module _ (port : Port) where
 -- ---- a tick
 
 -- steps that belong to a service belong to a tick, where no fault is told
-pub belong_tick : (ports : Ports) (steps : List Step) → ((e : Pending) (o : Outcome) → Contains steps (Answer e o) → IsOfUndoneRequest o ⊎ (o ≡ outcome.Ok))
+pub belong_tick : (ports : Ports) (steps : List Step) → ((e : Pending) (o : Outcome) → Contains steps (Answer e o) → IsOutcomeWithoutDeviceVerdict o ⊎ (o ≡ outcome.Ok))
     → AreStepsOfCall {D = DeviceStep} Service ports steps → AreStepsOfCall {D = DeviceStep} Tick ports steps
 belong_tick ports [] gives b = tt
 belong_tick ports (step ∷ steps) gives b = (
@@ -224,7 +224,7 @@ belong_tick ports (step ∷ steps) gives b = (
   ⊎_elim (λ device. inl device) (λ its. one step (λ e o is. gives e o (subst (λ (s : Step). Contains (step ∷ steps) s) (sym is) (first_here step steps))) its) b.1,
 )
   where
-    one : (step : Step) → ((e : Pending) (o : Outcome) → Answer e o ≡ step → IsOfUndoneRequest o ⊎ (o ≡ outcome.Ok)) → IsByServer {D = DeviceStep} Service ports step
+    one : (step : Step) → ((e : Pending) (o : Outcome) → Answer e o ≡ step → IsOutcomeWithoutDeviceVerdict o ⊎ (o ≡ outcome.Ok)) → IsByServer {D = DeviceStep} Service ports step
         → IsByDevice step ⊎ IsByServer {D = DeviceStep} Tick ports step
     one (Issue mode e) gives its = inr its
     one (WaitAgain e) gives its = inr its

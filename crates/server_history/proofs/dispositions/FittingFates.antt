@@ -11,7 +11,7 @@ use Rattle.request_queue.specs.declared.disposition.Disposition.{Disposition}
 use Rattle.request_queue.specs.declared.disposition.Disposition.TheVariants.{Complete, Requeue, Wait}
 use Rattle.request_queue.specs.declared.disposition.Revalidation.{Revalidation}
 use Rattle.request_queue.specs.declared.disposition.Revalidation.TheVariants.{Dead, DiskLost, SameDisk}
-use Rattle.server_history.specs.ResolvedRequests.{keeps_frames_lent}
+use Rattle.server_history.specs.ResolvedRequests.{completes_keeping_loan}
 
 -- One that waits isn't issued; one that goes again is, was fewer than four times, and isn't marked; nor is one that is
 -- aborted; and one that is told Revoked is marked.
@@ -37,7 +37,7 @@ ends_fits e o plain marked = record {
 -- a loan is kept on a dead port alone
 record Fits (revalidation : Revalidation) (disposition : Disposition) (e : PendingRequest) : Type 0 where
   entry : FitsEntry disposition e
-  alive : revalidation ≢ Dead → keeps_frames_lent disposition e ≡ false
+  alive : revalidation ≢ Dead → completes_keeping_loan disposition e ≡ false
 
 fits_on : (revalidation : Revalidation) (e : PendingRequest) → Fits revalidation (disposition_of_unfailed revalidation e) e
 fits_on SameDisk e = by e.issued e.revoked (e.issue_count == 4) refl refl refl
@@ -83,5 +83,5 @@ fits (Some failed) revalidation e = by (failed.id.0 == e.id.0)
 pub fits_each : (failed : Option FailedRequest) (revalidation : Revalidation) (requests : List BookEntry) → AllFit (disposition_of failed revalidation) requests
 fits_each failed revalidation requests e here = (fits failed revalidation e.request).entry
 
-pub kept_dead_alone : (failed : Option FailedRequest) (revalidation : Revalidation) (e : PendingRequest) → revalidation ≢ Dead → keeps_frames_lent (disposition_of failed revalidation e) e ≡ false
+pub kept_dead_alone : (failed : Option FailedRequest) (revalidation : Revalidation) (e : PendingRequest) → revalidation ≢ Dead → completes_keeping_loan (disposition_of failed revalidation e) e ≡ false
 kept_dead_alone failed revalidation e = (fits failed revalidation e).alive

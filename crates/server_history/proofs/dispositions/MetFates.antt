@@ -12,22 +12,22 @@ use Rattle.ata_types.specs.declared.request.Outcome.TheVariants as outcome
 use Rattle.ata_types.specs.declared.request.Reply.{Reply}
 use Rattle.ata_types.specs.declared.request.RequestId.{RequestId}
 use Rattle.adapter.specs.Memory.{changed}
-use Rattle.refinement.specs.Driver.{ForgetsAtMost, HasNoSlot, DriverState, DriverRelation}
-use Rattle.block_machine.specs.Events.{IsByDevice, IsToldBefore, RepliesMatch, answers_of, reply_of}
+use Rattle.refinement.specs.Driver.{OthersStayParked, HasNoSlot, DriverState, DriverRelation}
+use Rattle.block_machine.specs.Events.{IsByDevice, IsLowerByPortThenId, RepliesMatch, answers_of, reply_of}
 use Rattle.block_machine.specs.Histories.{IsReachable}
 use Rattle.block_machine.specs.Expected.{after}
 use Rattle.block_machine.specs.State.{Machine, Pending}
 use Rattle.block_machine.specs.Steps.{Step, WaitAgain, Answer, IsEnabled, after_step, is_kept_at_answer, unlend}
 use Rattle.dma_frames.specs.Loan.{Lending}
 use Rattle.dma_frames.specs.FrameTables.{OwnersAndLoans, lent_to}
-use Rattle.request_queue.specs.BookEntries.{IssuesAreWithinLimit, BookEntry, IsWellFormedEntry, IsEarlier, BookIsWellFormed, update_if_id, requeued_request, without_entry}
+use Rattle.request_queue.specs.BookEntries.{IssuesAreWithinLimit, BookEntry, IsWellFormedEntry, IsEarlier, BookIsWellFormed, update_if_id, waiting_again_request, without_entry}
 use Rattle.request_queue.specs.Dispositions.{KeepsOrEndsLoan, BookAndLoans, AreResolved, IsResolved, keeps_loan, reply_to}
 use Rattle.request_queue.specs.BookRelation.{BookRelation, EntryRelation}
 use Rattle.request_queue.specs.declared.PendingRequest.{PendingRequest}
 use Rattle.request_queue.specs.declared.disposition.Disposition.{Disposition}
 use Rattle.request_queue.specs.declared.disposition.Disposition.TheVariants.{Complete, Requeue, Wait}
 use Rattle.server_history.specs.Prerequisites.{PrerequisiteLaws}
-use Rattle.server_history.specs.ResolvedRequests.{IsResolveStep, IsResolvedAndReleased, AreResolvable, AreResolvedInMachine, keeps_frames_lent, loan_of, loans_of}
+use Rattle.server_history.specs.ResolvedRequests.{IsResolveStep, IsRequeuedOrAnsweredWithoutKeptLoan, AreResolvable, AreResolvedInMachine, completes_keeping_loan, loan_of, loans_newest_first}
 use Rattle.server_history.specs.ServerState.{DifferInRequest, RevokedMarkAgrees}
 use Rattle.server_history.proofs.dispositions.FittingFates.{AllFit, FitsEntry}
 use Rattle.server_history.proofs.healthy_turn.OneAnswer.{given_back}
@@ -51,12 +51,12 @@ stays_is outcome.PortDead e p same = same
 
 -- ---- loans that are kept
 
-pub loans_append : (late early : List Pending) → loans_of (late ++ early) ≡ loans_of early ++ loans_of late
-loans_append [] early = sym (append-nil (loans_of early))
-loans_append (e ∷ late) early = ap (λ (loans : List Lending). loans ++ loan_of e ∷ []) (loans_append late early) ∙ append_assoc (loans_of early) (loans_of late) (loan_of e ∷ [])
+pub loans_append : (late early : List Pending) → loans_newest_first (late ++ early) ≡ loans_newest_first early ++ loans_newest_first late
+loans_append [] early = sym (append-nil (loans_newest_first early))
+loans_append (e ∷ late) early = ap (λ (loans : List Lending). loans ++ loan_of e ∷ []) (loans_append late early) ∙ append_assoc (loans_newest_first early) (loans_newest_first late) (loan_of e ∷ [])
 
 -- each is of one of them
-pub loans_in : (held : List Pending) (loan : Lending) → Contains (loans_of held) loan → (e : Pending) × Contains held e × (loan ≡ loan_of e)
+pub loans_in : (held : List Pending) (loan : Lending) → Contains (loans_newest_first held) loan → (e : Pending) × Contains held e × (loan ≡ loan_of e)
 loans_in [] loan here = absurd (nowhere loan here)
 loans_in (x ∷ held) loan here = ⊎_elim
     (λ early. let r = loans_in held loan early in (r.0, Contains-append_right (x ∷ []) held r.0 r.1, r.2))
@@ -64,13 +64,13 @@ loans_in (x ∷ held) loan here = ⊎_elim
     (λ (is : loan ≡ loan_of x). (x, Contains-get_or (x ∷ held) 0 x (omega arith), is))
     (λ none. absurd (nowhere loan none))
     (first_or_later (loan_of x) [] loan last))
-    (Contains-append_cases (loans_of held) (loan_of x ∷ []) loan here)
+    (Contains-append_cases (loans_newest_first held) (loan_of x ∷ []) loan here)
 
-pub in_loans : (held : List Pending) (e : Pending) → Contains held e → Contains (loans_of held) (loan_of e)
+pub in_loans : (held : List Pending) (e : Pending) → Contains held e → Contains (loans_newest_first held) (loan_of e)
 in_loans [] e here = absurd (nowhere e here)
 in_loans (x ∷ held) e here = ⊎_elim
-    (λ (is : e ≡ x). Contains-append_right (loans_of held) (loan_of x ∷ []) (loan_of e) (0, omega arith, ap loan_of (sym is)))
-    (λ there. Contains-append_left (loans_of held) (loan_of x ∷ []) (loan_of e) (in_loans held e there))
+    (λ (is : e ≡ x). Contains-append_right (loans_newest_first held) (loan_of x ∷ []) (loan_of e) (0, omega arith, ap loan_of (sym is)))
+    (λ there. Contains-append_left (loans_newest_first held) (loan_of x ∷ []) (loan_of e) (in_loans held e there))
     (first_or_later x held e here)
 
 -- ---- what is parked
@@ -112,7 +112,7 @@ in_but id (y ∷ xs) x here ne = ⊎_elim
 abbrev decided : (ℕ → List RequestId) → ℕ → RequestId → ℕ → List RequestId
 decided parked port id = changed parked port (but id (parked port))
 
-forgets_it : (parked : ℕ → List RequestId) (port : ℕ) (id : RequestId) → ForgetsAtMost id parked (decided parked port id)
+forgets_it : (parked : ℕ → List RequestId) (port : ℕ) (id : RequestId) → OthersStayParked id parked (decided parked port id)
 unfolding changed
 forgets_it parked port id q other here ne =
     elim (eqb_tells q port) [
@@ -162,14 +162,14 @@ module _ (laws : PrerequisiteLaws) (port : Port) (disposition : PendingRequest �
     its_mark : RevokedMarkAgrees m.rows request.request
     its_mark = may.revoked_marks_agree request (Contains-get_or (request ∷ rest) 0 request (omega arith))
 
-    unserved : keeps_frames_lent (disposition request.request) request.request ≡ false → HasNoSlot k.slot_states p.request.id
+    unserved : completes_keeping_loan (disposition request.request) request.request ≡ false → HasNoSlot k.slot_states p.request.id
     unserved never = subst (HasNoSlot k.slot_states) (sym id_is) (may.released_have_no_slot request (Contains-get_or (request ∷ rest) 0 request (omega arith)) never)
 
     abbrev pub left_known : DriverState
     left_known = record k { awaiting_disposition = decided k.awaiting_disposition port.0 request.request.id }
 
-    forgets : ForgetsAtMost p.request.id k.awaiting_disposition (decided k.awaiting_disposition port.0 request.request.id)
-    forgets = subst (λ (id : RequestId). ForgetsAtMost id k.awaiting_disposition (decided k.awaiting_disposition port.0 request.request.id)) (sym id_is) (forgets_it k.awaiting_disposition port.0 request.request.id)
+    forgets : OthersStayParked p.request.id k.awaiting_disposition (decided k.awaiting_disposition port.0 request.request.id)
+    forgets = subst (λ (id : RequestId). OthersStayParked id k.awaiting_disposition (decided k.awaiting_disposition port.0 request.request.id)) (sym id_is) (forgets_it k.awaiting_disposition port.0 request.request.id)
 
     -- what is parked then was before, and isn't this one
     left_parked : (id : RequestId) → Contains (decided k.awaiting_disposition port.0 request.request.id port.0) id → Contains (k.awaiting_disposition port.0) id × (request.request.id ≢ id)
@@ -182,9 +182,9 @@ module _ (laws : PrerequisiteLaws) (port : Port) (disposition : PendingRequest �
     -- this step decides it, by which these are kept
     module _ (step : Step) (its later replies : List Reply) (new : BookAndLoans) (split : replies ≡ its ++ later) (comes : IsEnabled m step) (of_port : IsResolveStep port step) (own : IsByDevice step → ⊥)
         (parked : ℕ → List RequestId) (elsewhere : (q : ℕ) → q ≢ port.0 → parked q ≡ k.awaiting_disposition q)
-        (its_still : (id : RequestId) → Contains (parked port.0) id → Contains (k.awaiting_disposition port.0) id × (IsResolvedAndReleased disposition request → request.request.id ≢ id))
-        (gone : List Pending) (keeps : (after_step m step).kept ≡ gone ++ m.kept) (lends : mid.kept ≡ now.kept ++ loans_of gone) (alone : AllPairs DifferInRequest (loans_of gone))
-        (its_own : (e : Pending) → Contains gone e → EntryRelation request e × (keeps_frames_lent (disposition request.request) request.request ≡ true))
+        (its_still : (id : RequestId) → Contains (parked port.0) id → Contains (k.awaiting_disposition port.0) id × (IsRequeuedOrAnsweredWithoutKeptLoan disposition request → request.request.id ≢ id))
+        (gone : List Pending) (keeps : (after_step m step).kept ≡ gone ++ m.kept) (lends : mid.kept ≡ now.kept ++ loans_newest_first gone) (alone : AllPairs DifferInRequest (loans_newest_first gone))
+        (its_own : (e : Pending) → Contains gone e → EntryRelation request e × (completes_keeping_loan (disposition request.request) request.request ≡ true))
         (told : (e : Pending) (o : Outcome) → Answer e o ≡ step → EntryRelation request e × (disposition request.request ≡ Complete o))
         (waits : (e : Pending) → WaitAgain e ≡ step → EntryRelation request e × (disposition request.request ≡ Requeue))
         (r : AreResolvedInMachine port disposition rest later mid new (record k { awaiting_disposition = parked }) (after_step m step)) where
@@ -209,26 +209,26 @@ module _ (laws : PrerequisiteLaws) (port : Port) (disposition : PendingRequest �
           (first_or_later step [] (WaitAgain e) last))
           (Contains-append_cases r.steps (step ∷ []) (WaitAgain e) there)
 
-      kept_by : (e : Pending) → Contains (r.newly_kept ++ gone) e → (y : BookEntry) × Contains (request ∷ rest) y × EntryRelation y e × (keeps_frames_lent (disposition y.request) y.request ≡ true)
+      kept_by : (e : Pending) → Contains (r.newly_kept ++ gone) e → (y : BookEntry) × Contains (request ∷ rest) y × EntryRelation y e × (completes_keeping_loan (disposition y.request) y.request ≡ true)
       kept_by e there = ⊎_elim
           (λ late. let w = r.newly_kept_are_of_requests e late in (w.0, in_rest w.0 w.1, w.2, w.3))
           (λ first. let w = its_own e first in (request, Contains-get_or (request ∷ rest) 0 request (omega arith), w.0, w.1))
           (Contains-append_cases r.newly_kept gone e there)
 
-      two : AllPairs DifferInRequest (loans_of (r.newly_kept ++ gone))
-      two = subst (AllPairs DifferInRequest) (sym (loans_append r.newly_kept gone)) (all_pairs_append DifferInRequest (loans_of gone) (loans_of r.newly_kept) alone r.loans_differ_in_request (λ a b first late same.
+      two : AllPairs DifferInRequest (loans_newest_first (r.newly_kept ++ gone))
+      two = subst (AllPairs DifferInRequest) (sym (loans_append r.newly_kept gone)) (all_pairs_append DifferInRequest (loans_newest_first gone) (loans_newest_first r.newly_kept) alone r.loans_differ_in_request (λ a b first late same.
           let x = loans_in gone a first in
           let y = loans_in r.newly_kept b late in
           let w = r.newly_kept_are_of_requests y.0 y.1 in
           differs w.0 w.1 (sym w.2.id ∙ sym (ap (λ (l : Lending). l.request) y.2) ∙ sym same ∙ ap (λ (l : Lending). l.request) x.2 ∙ (its_own x.0 x.1).0.id)))
 
-      still_by : (id : RequestId) → Contains (r.parked port.0) id → Contains (k.awaiting_disposition port.0) id × ((e : BookEntry) → Contains (request ∷ rest) e → IsResolvedAndReleased disposition e → e.request.id ≢ id)
+      still_by : (id : RequestId) → Contains (r.parked port.0) id → Contains (k.awaiting_disposition port.0) id × ((e : BookEntry) → Contains (request ∷ rest) e → IsRequeuedOrAnsweredWithoutKeptLoan disposition e → e.request.id ≢ id)
       still_by id there =
           let late = r.parked_was_parked_and_not_freed id there in
           let first = its_still id late.0 in (
             first.0,
             λ e here goes. ⊎_elim
-                (λ (same : e ≡ request). subst (λ (y : BookEntry). y.request.id ≢ id) (sym same) (first.1 (subst (IsResolvedAndReleased disposition) same goes)))
+                (λ (same : e ≡ request). subst (λ (y : BookEntry). y.request.id ≢ id) (sym same) (first.1 (subst (IsRequeuedOrAnsweredWithoutKeptLoan disposition) same goes)))
                 (λ (later_on : Contains rest e). late.1 e later_on goes)
                 (first_or_later request rest e here),
           )
@@ -247,7 +247,7 @@ module _ (laws : PrerequisiteLaws) (port : Port) (disposition : PendingRequest �
         loans_agree = λ frame. ap (λ (n : Machine). n.lent frame) whole_is ∙ r.loans_agree frame;
         newly_kept = r.newly_kept ++ gone;
         newly_kept_are_kept = ap (λ (n : Machine). n.kept) whole_is ∙ r.newly_kept_are_kept ∙ ap (λ (kept : List Pending). r.newly_kept ++ kept) keeps ∙ sym (append_assoc r.newly_kept gone m.kept);
-        loans_of_newly_kept = r.loans_of_newly_kept ∙ ap (λ (loans : List Lending). loans ++ loans_of r.newly_kept) lends ∙ append_assoc now.kept (loans_of gone) (loans_of r.newly_kept) ∙ ap (λ (loans : List Lending). now.kept ++ loans) (sym (loans_append r.newly_kept gone));
+        loans_of_newly_kept = r.loans_of_newly_kept ∙ ap (λ (loans : List Lending). loans ++ loans_newest_first r.newly_kept) lends ∙ append_assoc now.kept (loans_newest_first gone) (loans_newest_first r.newly_kept) ∙ ap (λ (loans : List Lending). now.kept ++ loans) (sym (loans_append r.newly_kept gone));
         loans_differ_in_request = two;
         newly_kept_are_of_requests = kept_by;
         answers_are_as_decided = answered_by;
@@ -274,8 +274,8 @@ module _ (laws : PrerequisiteLaws) (port : Port) (disposition : PendingRequest �
     of_port : x.request.port ≡ port
     of_port = its_entry.port ∙ its_port request rest now mid k m may
 
-    fate_is : keeps_frames_lent (disposition request.request) request.request ≡ keeps_loan o request.request
-    fate_is = ap (λ (f : Disposition). keeps_frames_lent f request.request) is
+    fate_is : completes_keeping_loan (disposition request.request) request.request ≡ keeps_loan o request.request
+    fate_is = ap (λ (f : Disposition). completes_keeping_loan f request.request) is
 
     stay : is_kept_at_answer x o ≡ keeps_loan o request.request
     stay = stays_is o request.request x its_entry.issued
@@ -300,15 +300,15 @@ module _ (laws : PrerequisiteLaws) (port : Port) (disposition : PendingRequest �
 
     -- what comes of it, once the rest met their fates
     module _ (parked : ℕ → List RequestId) (elsewhere : (q : ℕ) → q ≢ port.0 → parked q ≡ k.awaiting_disposition q)
-        (its_still : (id : RequestId) → Contains (parked port.0) id → Contains (k.awaiting_disposition port.0) id × (IsResolvedAndReleased disposition request → request.request.id ≢ id)) (gone : List Pending) (keeps : (after_step m (Answer x o)).kept ≡ gone ++ m.kept)
-        (lends : mid.kept ≡ now.kept ++ loans_of gone) (alone : AllPairs DifferInRequest (loans_of gone)) (its_own : (e : Pending) → Contains gone e → EntryRelation request e × (keeps_frames_lent (disposition request.request) request.request ≡ true))
+        (its_still : (id : RequestId) → Contains (parked port.0) id → Contains (k.awaiting_disposition port.0) id × (IsRequeuedOrAnsweredWithoutKeptLoan disposition request → request.request.id ≢ id)) (gone : List Pending) (keeps : (after_step m (Answer x o)).kept ≡ gone ++ m.kept)
+        (lends : mid.kept ≡ now.kept ++ loans_newest_first gone) (alone : AllPairs DifferInRequest (loans_newest_first gone)) (its_own : (e : Pending) → Contains gone e → EntryRelation request e × (completes_keeping_loan (disposition request.request) request.request ≡ true))
         (goes : AreResolvable port disposition rest mid (record k { awaiting_disposition = parked }) (after_step m (Answer x o))) where
       r : AreResolvedInMachine port disposition rest later mid new (record k { awaiting_disposition = parked }) (after_step m (Answer x o))
       r = more (record k { awaiting_disposition = parked }) (after_step m (Answer x o)) goes
 
       -- it is told first
-      first : All (IsToldBefore (x, o)) r.replies_match.answers
-      first = All-weaker (Contains r.replies_match.answers) (IsToldBefore (x, o)) (λ a there.
+      first : All (IsLowerByPortThenId (x, o)) r.replies_match.answers
+      first = All-weaker (Contains r.replies_match.answers) (IsLowerByPortThenId (x, o)) (λ a there.
           let w = r.answers_are_as_decided a.0 a.1 (answers_there r.steps a (Contains-permutation r.replies_match.answers (answers_of r.steps) a r.replies_match.is_permutation there)) in
           let lt = later_id request rest now mid k m may w.0 w.1 in
           let mine = ap (λ (i : RequestId). i.0) its_entry.id in
@@ -328,7 +328,7 @@ module _ (laws : PrerequisiteLaws) (port : Port) (disposition : PendingRequest �
             answers = (x, o) ∷ r.replies_match.answers;
             is_permutation = subst (IsPermutation ((x, o) ∷ r.replies_match.answers)) (sym (answers_append r.steps (Answer x o ∷ [])))
                 (IsPermutation-trans _ _ _ (IsPermutation-append_comm ((x, o) ∷ []) r.replies_match.answers) (IsPermutation-append _ _ _ _ r.replies_match.is_permutation (IsPermutation-refl ((x, o) ∷ []))));
-            ordered = AllPairs-cons IsToldBefore (x, o) r.replies_match.answers first r.replies_match.ordered;
+            ordered = AllPairs-cons IsLowerByPortThenId (x, o) r.replies_match.answers first r.replies_match.ordered;
             replies_are_of_answers = split ∙ ap (λ (y : List Reply). y ++ later) meets.0 ∙ (λ i. reply_is i ∷ r.replies_match.replies_are_of_answers i);
           })
 
@@ -405,7 +405,7 @@ module _ (laws : PrerequisiteLaws) (port : Port) (disposition : PendingRequest �
     loans_agree = r.loans_agree;
     newly_kept = r.newly_kept;
     newly_kept_are_kept = r.newly_kept_are_kept;
-    loans_of_newly_kept = r.loans_of_newly_kept ∙ ap (λ (h : BookAndLoans). h.kept ++ loans_of r.newly_kept) meets.1;
+    loans_of_newly_kept = r.loans_of_newly_kept ∙ ap (λ (h : BookAndLoans). h.kept ++ loans_newest_first r.newly_kept) meets.1;
     loans_differ_in_request = r.loans_differ_in_request;
     newly_kept_are_of_requests = λ e here. let w = r.newly_kept_are_of_requests e here in (w.0, in_rest request rest now mid k m may w.0 w.1, w.2, w.3);
     answers_are_as_decided = λ e o here. let w = r.answers_are_as_decided e o here in (w.0, in_rest request rest now mid k m may w.0 w.1, w.2, w.3);
@@ -463,17 +463,17 @@ module _ (laws : PrerequisiteLaws) (port : Port) (disposition : PendingRequest �
       of_port : x.request.port ≡ port
       of_port = (entry request rest now mid k m may).2.port ∙ its_port request rest now mid k m may
 
-      goes : AreResolvable port disposition rest (record now { book = map (update_if_id request.request.id requeued_request) now.book }) (left_known request rest now mid k m may) (after_step m (WaitAgain x))
+      goes : AreResolvable port disposition rest (record now { book = map (update_if_id request.request.id waiting_again_request) now.book }) (left_known request rest now mid k m may) (after_step m (WaitAgain x))
       goes = record {
         reached = laws.steps_and_accesses.reachable_stays_reachable m (WaitAgain x ∷ []) may.reached (tt, comes);
-        driver_relation = laws.slots.wait_again_agrees k m x (decided k.awaiting_disposition port.0 request.request.id) may.reached may.driver_relation comes.0 (unserved request rest now mid k m may (ap (λ (f : Disposition). keeps_frames_lent f request.request) is)) (forgets request rest now mid k m may);
-        book_relation = subst (λ (id : RequestId). BookRelation (map (update_if_id id requeued_request) now.book) (after_step m (WaitAgain x)).book) (id_is request rest now mid k m may) (laws.requeue_keeps_book_relation now.book m x may.book_relation);
+        driver_relation = laws.slots.wait_again_agrees k m x (decided k.awaiting_disposition port.0 request.request.id) may.reached may.driver_relation comes.0 (unserved request rest now mid k m may (ap (λ (f : Disposition). completes_keeping_loan f request.request) is)) (forgets request rest now mid k m may);
+        book_relation = subst (λ (id : RequestId). BookRelation (map (update_if_id id waiting_again_request) now.book) (after_step m (WaitAgain x)).book) (id_is request rest now mid k m may) (laws.requeue_keeps_book_relation now.book m x may.book_relation);
         loans_agree = may.loans_agree;
         book_is_well_formed = laws.requeueing_keeps_book_well_formed now.book request.request.id may.book_is_well_formed (request, here request rest now mid k m may, refl, its_issue.0, few);
         entries_are_well_formed = laws.requeue_keeps_entries_well_formed now.table now.book request.request.id may.entries_are_well_formed;
         are_in_book_of_port = λ e there.
             let w = may.are_in_book_of_port e (in_rest request rest now mid k m may e there) in
-            (laws.update_keeps_other_entries now.book request.request.id requeued_request e w.0 (differs request rest now mid k m may e there), w.1);
+            (laws.update_keeps_other_entries now.book request.request.id waiting_again_request e w.0 (differs request rest now mid k m may e there), w.1);
         revoked_marks_agree = λ e there. may.revoked_marks_agree e (in_rest request rest now mid k m may e there);
         are_in_order = earlier request rest now mid k m may;
         released_have_no_slot = λ e there never. may.released_have_no_slot e (in_rest request rest now mid k m may e there) never;
@@ -512,7 +512,7 @@ meet laws port disposition (request ∷ rest) fit replies old new k m may (mid, 
 
 -- Where no loan is kept, and who was parked of the port are issued ones among these, none of the port is.
 pub none_parked : (port : Port) (disposition : PendingRequest → Disposition) (requests : List BookEntry) → AllFit disposition requests → (replies : List Reply) (old new : BookAndLoans) (k : DriverState) (m : Machine)
-    (r : AreResolvedInMachine port disposition requests replies old new k m) → ((e : PendingRequest) → keeps_frames_lent (disposition e) e ≡ false)
+    (r : AreResolvedInMachine port disposition requests replies old new k m) → ((e : PendingRequest) → completes_keeping_loan (disposition e) e ≡ false)
     → ((id : RequestId) → Contains (k.awaiting_disposition port.0) id → (e : BookEntry) × Contains requests e × (e.request.id ≡ id) × (e.request.issued ≡ true)) → r.parked port.0 ≡ []
 none_parked port disposition requests fit replies old new k m r quiet its = nobody (r.parked port.0) (λ id here.
     let s = r.parked_was_parked_and_not_freed id here in

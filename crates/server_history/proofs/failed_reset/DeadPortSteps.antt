@@ -5,7 +5,7 @@ use Rattle.std.proofs.lemmas.List.Elements.{All-head, All-tail}
 use Rattle.ata_types.specs.declared.PortState.TheVariants.{Dead}
 use Rattle.ata_types.specs.declared.request.Outcome.{Outcome}
 use Rattle.ata_types.specs.declared.request.Outcome.TheVariants as outcome
-use Rattle.block_machine.specs.Events.{IsLawfulAnswer, AbstractState, UnpluggedEmptiesPort}
+use Rattle.block_machine.specs.Events.{IsLawfulAnswer, AbstractState, UnpluggedOutcomeEmptiesPort}
 use Rattle.block_machine.specs.Ports.{Evidence, Ports}
 use Rattle.block_machine.specs.State.{Machine, Pending}
 use Rattle.block_machine.specs.Steps.{Step, Answer}
@@ -27,7 +27,7 @@ module _ (ports : Ports) where
       (deaths_grounded evidence steps (All-tail (IsAnswerOf (IsDeath ports)) (Answer e o) steps all))
   deaths_grounded evidence (step ∷ steps) all = absurd (All-head (IsAnswerOf (IsDeath ports)) step steps all)
 
-  pub deaths_unplug_none : (steps : List Step) → All (IsAnswerOf (IsDeath ports)) steps → (m : Machine) → UnpluggedEmptiesPort steps m
+  pub deaths_unplug_none : (steps : List Step) → All (IsAnswerOf (IsDeath ports)) steps → (m : Machine) → UnpluggedOutcomeEmptiesPort steps m
   deaths_unplug_none steps all m = record { none_is_left = λ e other here. absurd (never e here); none_is_told_dead = λ e other here. absurd (never e here) }
     where
       never : (e : Pending) → Contains steps (Answer e outcome.Unplugged) → ⊥

@@ -36,7 +36,7 @@ use Rattle.server_history.proofs.state.ListMembers.{contains_cases}
 use Rattle.dma_frames.specs.FrameTables.{lent_to, owner_of}
 use Rattle.driver_history.specs.AccessTrace.{UsesPortsAndNotGhc, WritesNeitherCmdNorSctl}
 use Rattle.server_history.specs.Prerequisites.{PrerequisiteLaws}
-use Rattle.server_history.specs.Histories.{ExtendsHistory, ExtendsStuck, LeadsToServer, load_result, store_result}
+use Rattle.server_history.specs.Histories.{ExtendsHistory, ExtendsToStuck, LeadsToServer, load_result, store_result}
 use Rattle.server_history.specs.ServerState.{ServerState, MachineRelation, ports_of, admission_context}
 use Rattle.server_history.specs.StuckServer.{ServerInvariant, StuckInvariant}
 use Rattle.server_history.proofs.plain_calls.RefusalsAndBytes.{GoesTo, device_event, load_ends, load_event, load_refused_event, revoke_refused_event, state_event, store_ends, store_event, store_refused_event, submit_refused_event, undone_event}
@@ -86,9 +86,9 @@ module _ (laws : PrerequisiteLaws) (s : ServerState) (t : StuckInvariant s) wher
   moved : (new : Device) → Steps s.device new → StuckInvariant (record s { device = new })
   moved new moves =
       let x = (laws.steps_and_accesses.device_steps_are_simulated (driver_state_of b.machine_relation.uses b.machine_relation.awaiting_disposition s.device) new moves).simulates b.machine b.reached b.machine_relation.driver_relation in
-      then_stalled new (steps_same laws s.device new moves) (steps_idle laws s.device new moves) (never_on new moves) x.0 x.1 (machine_on laws s new b.machine x.0 b.machine_relation x.3.all_steps_are_devices x.2)
+      then_stalled new (steps_same laws s.device new moves) (steps_idle laws s.device new moves) (never_on new moves) x.0 x.1 (machine_on laws s new b.machine x.0 b.machine_relation x.3.all_steps_are_by_device x.2)
 
-  pub stalled_device : (new : Device) (step : DeviceStep) → DoesOrFailsStep step s.device new → Steps s.device new → ExtendsStuck s (record s { device = new }) (Told step) (Stepped true)
+  pub stalled_device : (new : Device) (step : DeviceStep) → DoesOrFailsStep step s.device new → Steps s.device new → ExtendsToStuck s (record s { device = new }) (Told step) (Stepped true)
   stalled_device new step asked moves = record { stuck_invariant = moved new moves; extends_history = device_event laws s new (goes new (moved new moves)) step asked moves }
 
   -- ---- calls that do nothing
@@ -125,7 +125,7 @@ module _ (laws : PrerequisiteLaws) (s : ServerState) (t : StuckInvariant s) wher
         let x = load_ends laws s new client frame offset bytes opens loads b.machine b.reached b.machine_relation in
         then_stalled new (steps_same laws s.device new loads.steps) (steps_idle laws s.device new loads.steps) (never_on new loads.steps) (Load client frame offset bytes ∷ x.0.steps) x.0.steps_are_enabled x.1
 
-    load_adds : Loads (4096 * frame.0 + offset) bytes s.device new → ExtendsStuck s (record s { device = new }) (LoadAt client frame offset (length bytes)) (load_result (Ok tt) bytes)
+    load_adds : Loads (4096 * frame.0 + offset) bytes s.device new → ExtendsToStuck s (record s { device = new }) (LoadAt client frame offset (length bytes)) (load_result (Ok tt) bytes)
     load_adds loads = record { stuck_invariant = loaded loads; extends_history = load_event laws s new (goes new (loaded loads)) client frame offset bytes opens loads }
 
     stored : Stores (4096 * frame.0 + offset) bytes s.device new → StuckInvariant (record s { device = new })
@@ -139,16 +139,16 @@ module _ (laws : PrerequisiteLaws) (s : ServerState) (t : StuckInvariant s) wher
         off : IsOn new → ⊥
         off on = let then_on = subst IsOn stores.effect on in never_on stores.at_access stores.steps (record { ae_is_set = then_on.ae_is_set; no_reset = then_on.no_reset })
 
-    pub stalled_store : Stores (4096 * frame.0 + offset) bytes s.device new → ExtendsStuck s (record s { device = new }) (StoreAt client frame offset bytes) (store_result (Ok tt))
+    pub stalled_store : Stores (4096 * frame.0 + offset) bytes s.device new → ExtendsToStuck s (record s { device = new }) (StoreAt client frame offset bytes) (store_result (Ok tt))
     stalled_store stores = record { stuck_invariant = stored stores; extends_history = store_event laws s new (goes new (stored stores)) client frame offset bytes opens stores }
 
   -- of so many bytes
   pub stalled_load : (new : Device) (client : ClientId) (frame : Frame) (offset count : ℕ) (bytes : List ℕ) → length bytes ≡ count
       → MayAccessFrame (owner_of s.table) (lent_to s.table) client frame offset count → Loads (4096 * frame.0 + offset) bytes s.device new
-      → ExtendsStuck s (record s { device = new }) (LoadAt client frame offset count) (load_result (Ok tt) bytes)
+      → ExtendsToStuck s (record s { device = new }) (LoadAt client frame offset count) (load_result (Ok tt) bytes)
   stalled_load new client frame offset count bytes long opens loads =
       let here : MayAccessFrame (owner_of s.table) (lent_to s.table) client frame offset (length bytes) = subst (λ (n : ℕ). MayAccessFrame (owner_of s.table) (lent_to s.table) client frame offset n) (sym long) opens in
-      subst (λ (n : ℕ). ExtendsStuck s (record s { device = new }) (LoadAt client frame offset n) (load_result (Ok tt) bytes)) long (load_adds new client frame offset bytes here loads)
+      subst (λ (n : ℕ). ExtendsToStuck s (record s { device = new }) (LoadAt client frame offset n) (load_result (Ok tt) bytes)) long (load_adds new client frame offset bytes here loads)
 
   -- ---- a tick
 
@@ -176,13 +176,13 @@ module _ (laws : PrerequisiteLaws) (s : ServerState) (t : StuckInvariant s) wher
         each_port_is_same_or_restarts = λ port. inl (not_hung port, ports_same old.ports (ports_of s) leads.state_is_at_history_end.ports_are port);
         only_timed_out_wait_again = λ e here. absurd (never_here (WaitAgain e) (λ port. false) (λ is. let z : WaitAgain e ≡ Age (λ port. false) = is in cc) here);
         only_timed_out_are_answered = λ e o here. absurd (none_answered e o here);
-        answers_ended = λ port hung. absurd (not_hung port hung);
-        none_stays_issued = λ port hung. absurd (not_hung port hung);
+        answers_ok_what_had_ended = λ port hung. absurd (not_hung port hung);
+        issued_are_issued_in_steps = λ port hung. absurd (not_hung port hung);
         timed_out_iff_stopped_or_stuck = λ port. (λ hung. absurd (not_hung port hung), λ i. absurd (uninterrupted s.device old.ports port i));
         unplugged_lost_disk = λ e here. absurd (none_answered e _ here);
         shown_disk_was_in_or_came = λ port hung. absurd (not_hung port hung);
       };
-      unplugged_empties_port = record { none_is_left = λ e other here. absurd (none_answered e _ here); none_is_told_dead = λ e other here. absurd (none_answered e _ here) };
+      unplugged_outcome_empties_port = record { none_is_left = λ e other here. absurd (none_answered e _ here); none_is_told_dead = λ e other here. absurd (none_answered e _ here) };
       none_is_due_where_ready = λ port ready. absurd (never_ready s t.served_ports_are_dead port.0 ready);
       was_ready_empty_unless_ready = λ port ready. absurd (was_never port ready);
     }
@@ -207,5 +207,5 @@ module _ (laws : PrerequisiteLaws) (s : ServerState) (t : StuckInvariant s) wher
         (laws.drivers_own_step_is_backed s.device old.machine (Age (λ port. false)) (λ none. none))
         (subst (λ (book : List Pending). MachineRelation s (record (old.machine) { book = book })) (sym (none_older old.machine.book)) leads.state_is_at_history_end.machine_stands_for_it)
 
-  pub stalled_tick : ExtendsStuck s s Tick (Replied [])
+  pub stalled_tick : ExtendsToStuck s s Tick (Replied [])
   stalled_tick = record { stuck_invariant = t; extends_history = ticked }

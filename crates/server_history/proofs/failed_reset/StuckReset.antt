@@ -31,7 +31,7 @@ use Rattle.identify.specs.declared.DiskInfo.{DiskInfo}
 use Rattle.std.specs.Prelude.{Option}
 use Rattle.request_queue.specs.BookEntries.{BookEntry}
 use Rattle.server_history.specs.Prerequisites.{PrerequisiteLaws}
-use Rattle.server_history.specs.Histories.{ExtendsStuck, LeadsToServer}
+use Rattle.server_history.specs.Histories.{ExtendsToStuck, LeadsToServer}
 use Rattle.server_history.specs.ServerState.{ServerState, MachineRelation, last_disk_in, last_disk_of, is_served, ports_of, remembered_at, last_sectors_of, last_serial_of, state_of, slot_state_of}
 use Rattle.server_history.specs.StuckServer.{ServedPortsAreDead, ResetGetsStuck, ServerInvariant, StuckInvariant, found_after_stuck_reset}
 use Rattle.server_history.proofs.state.DeviceSteps.{devices_belong, devices_last, devices_lawful}
@@ -149,7 +149,7 @@ module _ (laws : PrerequisiteLaws) (s new : ServerState) (b : ServerInvariant s)
   follows : (m : Machine) → IsReachable m → MachineRelation s m → Follows m
   follows m reached is =
       let x = (followed_adds laws g.reset_stays_pending.followed is.uses is.awaiting_disposition tt).simulates m reached is.driver_relation in
-      record { steps = x.0; only = x.3.all_steps_are_devices; may = x.1; backed = x.3.is_backed; with_device_alone = machine_on laws s new.device m x.0 is x.3.all_steps_are_devices x.2 }
+      record { steps = x.0; only = x.3.all_steps_are_by_device; may = x.1; backed = x.3.is_backed; with_device_alone = machine_on laws s new.device m x.0 is x.3.all_steps_are_by_device x.2 }
 
   booked_then : (m : Machine) → IsReachable m → MachineRelation (record s { device = new.device }) m → ServerInvariant n
   booked_then m reached is =
@@ -233,7 +233,7 @@ module _ (laws : PrerequisiteLaws) (s new : ServerState) (b : ServerInvariant s)
         let leaves = All-weaker IsResetAccess (WritesNeitherCmdNorSctl port) (leaves_engine port) its_accesses g.reset_stays_pending.followed.is_driven.accesses_are_of_kind in
         let base = evidenced_of four Reset (WasReset None) its_accesses began (ports_of n) new.device port (λ ready. in_four port (laws.steps_and_accesses.ready_ports_are_served old.abstract.ports port fit ready).1) leaves in
         record {
-          named_lost_may_have_lost_disk = base.named_lost_may_have_lost_disk;
+          named_lost_showed_loss_or_changed = base.named_lost_showed_loss_or_changed;
           shown_loss_of_ready_is_named = base.shown_loss_of_ready_is_named;
           named_link_changed_had_change_or_no_device = base.named_link_changed_had_change_or_no_device;
           shown_failure_of_ready_is_named = base.shown_failure_of_ready_is_named;
@@ -283,5 +283,5 @@ module _ (laws : PrerequisiteLaws) (s new : ServerState) (b : ServerInvariant s)
         f.backed
         (stands_then (after old.abstract.machine f.steps) f.with_device_alone)
 
-  pub stuck_adds : ExtendsStuck s new Reset (WasReset None)
-  stuck_adds = subst (λ (x : ServerState). ExtendsStuck s x Reset (WasReset None)) (sym g.server_is) (record { stuck_invariant = stalled; extends_history = event })
+  pub stuck_adds : ExtendsToStuck s new Reset (WasReset None)
+  stuck_adds = subst (λ (x : ServerState). ExtendsToStuck s x Reset (WasReset None)) (sym g.server_is) (record { stuck_invariant = stalled; extends_history = event })

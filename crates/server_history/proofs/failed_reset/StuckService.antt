@@ -33,7 +33,7 @@ use Rattle.request_queue.specs.declared.disposition.Disposition.{Disposition}
 use Rattle.request_queue.specs.declared.disposition.Disposition.TheVariants.{Complete, Requeue}
 use Rattle.request_queue.specs.declared.disposition.Revalidation.{Revalidation}
 use Rattle.request_queue.specs.declared.disposition.Revalidation.TheVariants.{SameDisk, DiskLost, Dead as NoEnd}
-use Rattle.server_history.specs.Histories.{ExtendsStuck, LeadsToServer}
+use Rattle.server_history.specs.Histories.{ExtendsToStuck, LeadsToServer}
 use Rattle.block_machine.specs.Ports.{IsServiced, Ports, SamePort}
 use Rattle.driver_history.specs.Histories.{IsForeignOrUnfit, IsServedAndNotDead, ProbesDisk}
 use Rattle.driver_history.specs.AccessTrace.{UsesPortsAndNotGhc, WritesNeitherCmdNorSctl}
@@ -45,10 +45,10 @@ use Rattle.adapter.specs.Device.{Device}
 use Rattle.std.proofs.lemmas.List.{set_past}
 use Rattle.server_history.proofs.recovery_turn.ReplacedPort.{is_listed}
 use Rattle.server_history.specs.Prerequisites.{PrerequisiteLaws}
-use Rattle.server_history.specs.ResolvedRequests.{IsResolveStep, AreResolvable, AreResolvedInMachine, keeps_frames_lent, loans_of}
+use Rattle.server_history.specs.ResolvedRequests.{IsResolveStep, AreResolvable, AreResolvedInMachine, completes_keeping_loan, loans_newest_first}
 use Rattle.server_history.specs.ErrorHandling.{book_and_loans_of, requests_of}
 use Rattle.server_history.specs.Resets.{IsResetRevalidation, MayResolve, ResolvesEachPort, ResolvesPort, with_book_and_loans}
-use Rattle.server_history.specs.ServerState.{QuarantineRelation, ServerState, MachineRelation, is_served, quarantined_at, ports_of, state_of, RevokedMarkInvariant}
+use Rattle.server_history.specs.ServerState.{KeptRequestsRelation, ServerState, MachineRelation, is_served, quarantined_at, ports_of, state_of, RevokedMarkInvariant}
 use Rattle.server_history.specs.StuckServer.{ServerInvariant, StuckInvariant}
 use Rattle.server_history.proofs.failed_reset.ServerBook.{kept_other, kept_same, left, may_settle, settles_on}
 use Rattle.server_history.proofs.failed_reset.DeadPortSteps.{IsDeath, death_lawful, deaths_grounded, deaths_unplug_none}
@@ -152,17 +152,17 @@ module _ (laws : PrerequisiteLaws) (s : ServerState) (t : StuckInvariant s) wher
     ends_dead : probe_result_of s.probe_results n ≡ Unready Dead → (e : PendingRequest) → disposition e ≡ Complete outcome.PortDead
     ends_dead dead e = ap (λ (x : Revalidation). disposition_of_unfailed x e) (dead_prospect _ (probe_result_of s.probe_results n) one.revalidation one.is_revalidation dead)
 
-    keeps_issued : probe_result_of s.probe_results n ≡ Unready Dead → (e : PendingRequest) → keeps_frames_lent (disposition e) e ≡ e.issued
-    keeps_issued dead e = ap (λ (f : Disposition). keeps_frames_lent f e) (ends_dead dead e)
+    keeps_issued : probe_result_of s.probe_results n ≡ Unready Dead → (e : PendingRequest) → completes_keeping_loan (disposition e) e ≡ e.issued
+    keeps_issued dead e = ap (λ (f : Disposition). completes_keeping_loan f e) (ends_dead dead e)
 
     -- on a port that isn't served no loan is kept
-    quiet : probe_result_of s.probe_results n ≢ Unready Dead → (e : PendingRequest) → keeps_frames_lent (disposition e) e ≡ false
+    quiet : probe_result_of s.probe_results n ≢ Unready Dead → (e : PendingRequest) → completes_keeping_loan (disposition e) e ≡ false
     quiet alive e = kept_dead_alone None one.revalidation e (other_prospect _ (probe_result_of s.probe_results n) one.revalidation one.is_revalidation alive)
 
     not_dead : probe_result_of s.probe_results n ≡ Unserved → probe_result_of s.probe_results n ≢ Unready Dead
     not_dead unserved dead = let z : Unserved ≡ Unready Dead = sym unserved ∙ dead in cc
 
-    unserved : (e : BookEntry) → Contains requests e → keeps_frames_lent (disposition e.request) e.request ≡ false → HasNoSlot p.stands.uses e.request.id
+    unserved : (e : BookEntry) → Contains requests e → completes_keeping_loan (disposition e.request) e.request ≡ false → HasNoSlot p.stands.uses e.request.id
     unserved e here never = ⊎_elim
         (λ none. absurd (none_unserved none e (of_its e here).0 (ap (λ (q : Port). q.0) (of_its e here).1)))
         (λ dead.
@@ -227,7 +227,7 @@ module _ (laws : PrerequisiteLaws) (s : ServerState) (t : StuckInvariant s) wher
         )
 
     -- a loan that was kept is of another request
-    crossed : (x y : Lending) → Contains (quarantined_at kept n) x → Contains (loans_of met.newly_kept) y → x.request ≢ y.request
+    crossed : (x y : Lending) → Contains (quarantined_at kept n) x → Contains (loans_newest_first met.newly_kept) y → x.request ≢ y.request
     crossed x y here there same =
         let old = p.stands.quarantine_relation.each_loan_has_its_request n x here in
         let e = loans_in met.newly_kept y there in
@@ -236,8 +236,8 @@ module _ (laws : PrerequisiteLaws) (s : ServerState) (t : StuckInvariant s) wher
         laws.frame_holders.kept_is_not_in_book w q.0 old.0 w_reached q.1 old.1
         (ap (λ (id : RequestId). id.0) (q.2.id ∙ sym r.2.id ∙ sym (ap (λ (l : Lending). l.request) e.2) ∙ sym same ∙ old.3.0))
 
-    are_kept : QuarantineRelation s.probe_results new.kept_loans z.kept
-    are_kept = subst (QuarantineRelation s.probe_results new.kept_loans) (sym met.newly_kept_are_kept)
+    are_kept : KeptRequestsRelation s.probe_results new.kept_loans z.kept
+    are_kept = subst (KeptRequestsRelation s.probe_results new.kept_loans) (sym met.newly_kept_are_kept)
         (more_kept (port_at n) s.probe_results s.probe_results kept new.kept_loans met.newly_kept w.kept p.stands.quarantine_relation
         (kept_same laws c mid (port_at n) its low p.settle one ∙ met.loans_of_newly_kept)
         (kept_other laws c mid (port_at n) its low p.settle one)
@@ -458,10 +458,10 @@ module _ (laws : PrerequisiteLaws) (s : ServerState) (t : StuckInvariant s) wher
       answers = record {
         replies_match = record { answers = x.told.answers; is_permutation = x.told.permuted; ordered = x.told.ordered; replies_are_of_answers = x.told.told };
         dead_ports_tell_only_port_dead = λ e o here is. (answer_told (IsDeath (ports_of s)) x.steps x.deaths e o here).0;
-        unplugged_empties_port = deaths_unplug_none (ports_of s) x.steps x.deaths (after old.machine x.steps);
+        unplugged_outcome_empties_port = deaths_unplug_none (ports_of s) x.steps x.deaths (after old.machine x.steps);
         none_is_due_where_ready = λ port ready. absurd (never_ready s t.served_ports_are_dead port.0 ready);
         empty_unless_ready = λ port unready. nobody_waits port;
-        answers_ended = λ port ready. absurd (never_ready s t.served_ports_are_dead port.0 ((same_ports port).1 ∙ ready));
+        answers_ok_what_had_ended = λ port ready. absurd (never_ready s t.served_ports_are_dead port.0 ((same_ports port).1 ∙ ready));
         port_is_serviced = becomes;
         shown_disk_was_in_or_came = λ port. inl (same_ports port);
       }
@@ -504,5 +504,5 @@ module _ (laws : PrerequisiteLaws) (s : ServerState) (t : StuckInvariant s) wher
           x.backed
           stands
 
-    pub stalled_service : ExtendsStuck s new Service (Replied replies)
-    stalled_service = subst (λ (y : ServerState). ExtendsStuck s y Service (Replied replies)) (sym same_server) (record { stuck_invariant = stalled_then; extends_history = event })
+    pub stalled_service : ExtendsToStuck s new Service (Replied replies)
+    stalled_service = subst (λ (y : ServerState). ExtendsToStuck s y Service (Replied replies)) (sym same_server) (record { stuck_invariant = stalled_then; extends_history = event })

@@ -20,7 +20,7 @@ use Rattle.host_boot.specs.TakeOver.{probe_result_of}
 use Rattle.host_boot.specs.declared.ProbeResult.{ProbeResult}
 use Rattle.request_queue.specs.BookEntries.{BookEntry, BookIsWellFormed, as_unanswered, unanswered_of, due_ids}
 use Rattle.server_history.specs.Prerequisites.{PrerequisiteLaws}
-use Rattle.server_history.specs.IssuingAndAnswering.{AnswersDoneAndIssues, AnswersEach, AnswersOne, TurnAnswers, HasEnded, PollsInTurnWithoutEvent, SameButDeviceLoansSlotsBook, ok_answers_of}
+use Rattle.server_history.specs.IssuingAndAnswering.{AnswersDoneAndIssues, AnswersEach, AnswersOne, TurnAnswers, HasEnded, PollsInTurnWithoutEvent, SameButDeviceLoansSlotsBook, ok_answers_newest_first}
 use Rattle.server_history.specs.ServerState.{ServerState, InCallInvariant, MachineRelation, SettledInvariant, mode_in, no_slots, slots_at, state_of}
 use Rattle.server_history.proofs.healthy_turn.OneAnswer.{IsAnswer, answer_kept, answer_one}
 use Rattle.server_history.proofs.plain_calls.IssueRounds.{each_apart, each_settings, each_slots, settled}
@@ -40,9 +40,9 @@ answer_order laws port e old new order one = subst (λ (n : ServerState). BookIs
 pub record AreAnswered (port : Port) (requests : List BookEntry) (old new : ServerState) (m : Machine) : Type 0 where
   pub ended : List Pending
   pub each : AllZip (HasEnded port) requests ended
-  pub may : AllEnabled m (ok_answers_of ended)
-  pub backed : TapeBacksSteps old.device new.device m (ok_answers_of ended)
-  pub stands : MachineRelation new (after m (ok_answers_of ended))
+  pub may : AllEnabled m (ok_answers_newest_first ended)
+  pub backed : TapeBacksSteps old.device new.device m (ok_answers_newest_first ended)
+  pub stands : MachineRelation new (after m (ok_answers_newest_first ended))
 
 module _ (laws : PrerequisiteLaws) (port : Port) (done : ℕ) where
   pub answers_apart : (requests : List BookEntry) (old new : ServerState) → BookIsWellFormed old.book → AnswersEach port done requests old new → (other : Port) → other ≢ port
@@ -96,10 +96,10 @@ module _ (laws : PrerequisiteLaws) (port : Port) (done : ℕ) where
       record {
         ended = y.done ∷ z.ended;
         each = (y.has, z.each);
-        may = laws.steps_and_accesses.enabled_lists_join m (ok_answers_of z.ended) first (tt, (y.here, tt)) z.may;
-        backed = laws.backed_parts_join old.device mid.device new.device m first (ok_answers_of z.ended)
+        may = laws.steps_and_accesses.enabled_lists_join m (ok_answers_newest_first z.ended) first (tt, (y.here, tt)) z.may;
+        backed = laws.backed_parts_join old.device mid.device new.device m first (ok_answers_newest_first z.ended)
             (subst (λ (d : Device). TapeBacksSteps old.device d m first) (sym (ap (λ (n : ServerState). n.device) one.server_is)) (laws.drivers_own_step_is_backed old.device m (Answer y.done Ok) (λ none. none))) z.backed;
-        stands = subst (MachineRelation new) (sym (laws.steps_and_accesses.after_joins m (ok_answers_of z.ended) first)) z.stands;
+        stands = subst (MachineRelation new) (sym (laws.steps_and_accesses.after_joins m (ok_answers_newest_first z.ended) first)) z.stands;
       }
 
   pub answers_settle : (replies : List Reply) (s new : ServerState) → SettledInvariant s → state_of (probe_result_of s.probe_results port.0) ≡ Ready → CommandsAreOver port done s.device → AnswersDoneAndIssues port done replies s new → SettledInvariant new

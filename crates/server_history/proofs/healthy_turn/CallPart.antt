@@ -17,7 +17,7 @@ use Rattle.adapter.specs.declared.access.DeviceStep.{DeviceStep}
 use Rattle.adapter.specs.declared.command.Operation.TheVariants.{ReadLog}
 use Rattle.refinement.specs.Fragments.{GainsNoMove}
 use Rattle.refinement.specs.Driver.{TapeBacksSteps}
-use Rattle.block_machine.specs.Events.{AllByDevice, AnswersAndWaitsLawful, AllEnabled, AreStepsOfCall, IsByDevice, IsLawfulAnswer, IssueIsLastOfRequest, IsToldBefore, AbstractState, Replied, Service, RepliesMatch, answers_of, issues_id}
+use Rattle.block_machine.specs.Events.{AllByDevice, AnswersAndWaitsLawful, AllEnabled, AreStepsOfCall, IsByDevice, IsLawfulAnswer, IssueIsLastOfRequest, IsLowerByPortThenId, AbstractState, Replied, Service, RepliesMatch, answers_of, issues_id}
 use Rattle.block_machine.specs.Histories.{IsReachable}
 use Rattle.block_machine.specs.Expected.{after}
 use Rattle.block_machine.specs.Ports.{Evidence, IsServiced, Ports, SamePort}
@@ -32,7 +32,7 @@ use Rattle.port_control.specs.declared.events.PortEvent.TheVariants.{NoEvent}
 use Rattle.request_queue.specs.BookEntries.{BookEntry, IsEarlier}
 use Rattle.slots.specs.declared.SlotUse.{SlotUse}
 use Rattle.server_history.specs.Prerequisites.{PrerequisiteLaws}
-use Rattle.server_history.specs.IssuingAndAnswering.{StepsAnswer, TurnAnswers, HasEnded, PollsInTurnWithoutEvent, IsAnsweredIn, AllByDeviceOrIssue, SameButDeviceLoansSlotsBook, ok_answers_of}
+use Rattle.server_history.specs.IssuingAndAnswering.{StepsAnswer, TurnAnswers, HasEnded, PollsInTurnWithoutEvent, IsAnsweredIn, AllByDeviceOrIssue, SameButDeviceLoansSlotsBook, ok_answers_newest_first}
 use Rattle.server_history.specs.ServerState.{ServerState, MachineRelation, SettledInvariant, mode_in, ports_of, remembered_at, slots_at, state_of, used_for}
 use Rattle.server_history.specs.Turns.{ServingReady, ServicesPort, IsTurnOrDeviceStep, LeavesOtherPortsGrantsAndLastId, SimulatesTurn, PortListsNameOnly, joint_state_of, abstract_state_of}
 use Rattle.server_history.proofs.state.AnswerSteps.{answered_in, ended_stood, issuing_answers, may_parts, no_answer, no_answer_issuing, told_so, with_ok}
@@ -62,10 +62,10 @@ devices_all P device none [] only = none
 devices_all P device none (step ∷ steps) only = device step steps only.1 (devices_all P device none steps only.0)
 
 -- then the answers
-pub answers_all : (P : List Step → Type 0) (ended : List Pending) (early : List Step) → ((e : Pending) (base : List Step) → Contains ended e → P base → P (Answer e Ok ∷ base)) → P early → P (ok_answers_of ended ++ early)
+pub answers_all : (P : List Step → Type 0) (ended : List Pending) (early : List Step) → ((e : Pending) (base : List Step) → Contains ended e → P base → P (Answer e Ok ∷ base)) → P early → P (ok_answers_newest_first ended ++ early)
 answers_all P [] early answer start = start
 answers_all P (e ∷ ended) early answer start =
-    subst P (sym (append_assoc (ok_answers_of ended) (Answer e Ok ∷ []) early))
+    subst P (sym (append_assoc (ok_answers_newest_first ended) (Answer e Ok ∷ []) early))
     (answers_all P ended (Answer e Ok ∷ early) (λ x base here. answer x base (Contains-append_right (e ∷ []) ended x here)) (answer e early (Contains-get_or (e ∷ ended) 0 e (omega arith)) start))
 
 -- then those that issue
@@ -81,7 +81,7 @@ of_turn : (P : List Step → Type 0) (mode : QueueMode) (port : Port) (replies :
     → ((step : Step) (base : List Step) → IsByDevice step → P base → P (step ∷ base)) → ((e : Pending) (base : List Step) → Contains b.ended e → P base → P (Answer e Ok ∷ base))
     → ((e : Pending) (base : List Step) → e.request.port ≡ port → P base → P (Issue mode e ∷ base)) → P steps
 of_turn P mode port replies steps b none device answer issue =
-    subst P (sym b.steps_are) (issues_all P mode port device issue b.later (ok_answers_of b.ended ++ b.before) b.others_come_last (answers_all P b.ended b.before answer (devices_all P device none b.before b.device_steps_come_first)))
+    subst P (sym b.steps_are) (issues_all P mode port device issue b.later (ok_answers_newest_first b.ended ++ b.before) b.others_come_last (answers_all P b.ended b.before answer (devices_all P device none b.before b.device_steps_come_first)))
 
 pub device_own : (port : Port) (step : Step) → IsByDevice step → IsTurnOrDeviceStep port step
 device_own port (Issue mode e) is = absurd is
@@ -118,10 +118,10 @@ devices_answers [] only = refl
 devices_answers (Answer e o ∷ steps) only = absurd only.1
 devices_answers (step ∷ steps) only = devices_answers steps only.0
 
-pub answered_permuted : (ended : List Pending) (early : List Step) → IsPermutation (map with_ok ended ++ answers_of early) (answers_of (ok_answers_of ended ++ early))
+pub answered_permuted : (ended : List Pending) (early : List Step) → IsPermutation (map with_ok ended ++ answers_of early) (answers_of (ok_answers_newest_first ended ++ early))
 answered_permuted [] early = IsPermutation-refl (answers_of early)
 answered_permuted (e ∷ ended) early =
-    subst (λ (steps : List Step). IsPermutation (with_ok e ∷ (map with_ok ended ++ answers_of early)) (answers_of steps)) (sym (append_assoc (ok_answers_of ended) (Answer e Ok ∷ []) early))
+    subst (λ (steps : List Step). IsPermutation (with_ok e ∷ (map with_ok ended ++ answers_of early)) (answers_of steps)) (sym (append_assoc (ok_answers_newest_first ended) (Answer e Ok ∷ []) early))
     (IsPermutation-trans _ _ _ moved (answered_permuted ended (Answer e Ok ∷ early)))
   where
     moved : IsPermutation (with_ok e ∷ (map with_ok ended ++ answers_of early)) (map with_ok ended ++ with_ok e ∷ answers_of early)
@@ -134,13 +134,13 @@ rest_ordered R x xs order i j d lt below = order (suc i) (suc j) d (omega (arith
 first_ordered : {X : Type 0} (R : X → X → Type 0) (x : X) (xs : List X) → AllPairs R (x ∷ xs) → All (R x) xs
 first_ordered R x xs order i d small = order 0 (suc i) d (omega arith) (omega (arith, small))
 
-pub told_ordered : (port : Port) (requests : List BookEntry) (ended : List Pending) → AllZip (HasEnded port) requests ended → AllPairs IsEarlier requests → AllPairs IsToldBefore (map with_ok ended)
+pub told_ordered : (port : Port) (requests : List BookEntry) (ended : List Pending) → AllZip (HasEnded port) requests ended → AllPairs IsEarlier requests → AllPairs IsLowerByPortThenId (map with_ok ended)
 told_ordered port requests [] each order = λ i j d lt below. absurd (omega (arith, lt, below))
 told_ordered port [] (p ∷ ended) each order = absurd each
 told_ordered port (e ∷ requests) (p ∷ ended) each order =
-    AllPairs-cons IsToldBefore (with_ok p) (map with_ok ended) (All-map (IsToldBefore (with_ok p)) with_ok ended first) (told_ordered port requests ended each.1 (rest_ordered IsEarlier e requests order))
+    AllPairs-cons IsLowerByPortThenId (with_ok p) (map with_ok ended) (All-map (IsLowerByPortThenId (with_ok p)) with_ok ended first) (told_ordered port requests ended each.1 (rest_ordered IsEarlier e requests order))
   where
-    first : All (λ q. IsToldBefore (with_ok p) (with_ok q)) ended
+    first : All (λ q. IsLowerByPortThenId (with_ok p) (with_ok q)) ended
     first k d small =
         let x = at_right (HasEnded port) requests ended each.1 _ (All-contains_itself ended k d small) in
         let lt : e.request.id.0 < x.0.request.id.0 = All-contains (IsEarlier e) requests x.0 (first_ordered IsEarlier e requests order) x.1 in
@@ -231,8 +231,8 @@ module _ (laws : PrerequisiteLaws) (port : Port) (replies : List Reply) (old new
         (λ e base here rest. (rest, inr tt))
         (λ e base its_port rest. (rest, inr (ap (ports_of new).state its_port ∙ port_same.1 ∙ ready, ap (ports_of new).mode its_port ∙ mode_same)))
 
-    early_may : AllEnabled m b.before × AllEnabled (after m b.before) (ok_answers_of b.ended)
-    early_may = may_parts laws m (ok_answers_of b.ended) b.before (may_parts laws m b.later (ok_answers_of b.ended ++ b.before) (subst (AllEnabled m) b.steps_are x.may)).0
+    early_may : AllEnabled m b.before × AllEnabled (after m b.before) (ok_answers_newest_first b.ended)
+    early_may = may_parts laws m (ok_answers_newest_first b.ended) b.before (may_parts laws m b.later (ok_answers_newest_first b.ended ++ b.before) (subst (AllEnabled m) b.steps_are x.may)).0
 
     -- who is answered was issued when the turn began, and has ended
     ok_lawful : (e : Pending) → Contains b.ended e → IsLawfulAnswer began its (ports_of new) e Ok
@@ -251,20 +251,20 @@ module _ (laws : PrerequisiteLaws) (port : Port) (replies : List Reply) (old new
     only_ok : (e : Pending) (o : Outcome) → Contains x.steps (Answer e o) → Contains b.ended e × (o ≡ Ok)
     only_ok e o here = ⊎_elim
         (λ later. absurd (no_answer_issuing mode port b.later b.others_come_last e o later))
-        (λ rest. ⊎_elim (answered_in b.ended e o) (λ early. absurd (no_answer b.before b.device_steps_come_first e o early)) (Contains-append_cases (ok_answers_of b.ended) b.before (Answer e o) rest))
-        (Contains-append_cases b.later (ok_answers_of b.ended ++ b.before) (Answer e o) (subst (λ (steps : List Step). Contains steps (Answer e o)) b.steps_are here))
+        (λ rest. ⊎_elim (answered_in b.ended e o) (λ early. absurd (no_answer b.before b.device_steps_come_first e o early)) (Contains-append_cases (ok_answers_newest_first b.ended) b.before (Answer e o) rest))
+        (Contains-append_cases b.later (ok_answers_newest_first b.ended ++ b.before) (Answer e o) (subst (λ (steps : List Step). Contains steps (Answer e o)) b.steps_are here))
 
     never_unplugged : (e : Pending) → Contains x.steps (Answer e Unplugged) → ⊥
     never_unplugged e here = let z : Unplugged ≡ Ok = (only_ok e Unplugged here).1 in absurd cc
 
-    answers_are : answers_of x.steps ≡ answers_of (ok_answers_of b.ended ++ b.before)
-    answers_are = ap answers_of b.steps_are ∙ issuing_answers mode port b.later (ok_answers_of b.ended ++ b.before) b.others_come_last
+    answers_are : answers_of x.steps ≡ answers_of (ok_answers_newest_first b.ended ++ b.before)
+    answers_are = ap answers_of b.steps_are ∙ issuing_answers mode port b.later (ok_answers_newest_first b.ended ++ b.before) b.others_come_last
 
     tells : RepliesMatch x.steps replies
     tells = record {
       answers = map with_ok b.ended;
       is_permutation = subst (IsPermutation (map with_ok b.ended)) (sym answers_are)
-          (subst (λ (list : List (Pending × Outcome)). IsPermutation list (answers_of (ok_answers_of b.ended ++ b.before))) (ap (λ (none : List (Pending × Outcome)). map with_ok b.ended ++ none) (devices_answers b.before b.device_steps_come_first) ∙ append-nil (map with_ok b.ended))
+          (subst (λ (list : List (Pending × Outcome)). IsPermutation list (answers_of (ok_answers_newest_first b.ended ++ b.before))) (ap (λ (none : List (Pending × Outcome)). map with_ok b.ended ++ none) (devices_answers b.before b.device_steps_come_first) ∙ append-nil (map with_ok b.ended))
           (answered_permuted b.ended b.before));
       ordered = told_ordered port b.requests b.ended b.each_has_ended b.ordered;
       replies_are_of_answers = b.replies_are ∙ told_so port b.requests b.ended b.each_has_ended;
@@ -286,7 +286,7 @@ module _ (laws : PrerequisiteLaws) (port : Port) (replies : List Reply) (old new
     -- no trouble was shown
     evidenced : IsEvidencedOf Service (Replied replies) list.driven.accesses (joint_state_of old m) (ports_of new) new.device its port
     evidenced = record {
-      named_lost_may_have_lost_disk = λ here. absurd (nowhere port here);
+      named_lost_showed_loss_or_changed = λ here. absurd (nowhere port here);
       shown_loss_of_ready_is_named = λ _ loss. absurd (never_lost laws port replies old new t ready turn list port_same m reached is x.steps x.may b answered loss);
       named_link_changed_had_change_or_no_device = λ here. absurd (nowhere port here);
       shown_failure_of_ready_is_named = λ _ failure. absurd (unfailing laws port replies old new t ready turn list port_same m reached is x.steps x.may b answered failure);
@@ -310,9 +310,9 @@ module _ (laws : PrerequisiteLaws) (port : Port) (replies : List Reply) (old new
       issues_are_last = x.last;
       names_only_port = names;
       answers_are_lawful = lawful;
-      meets_turn_duty = grounded;
+      requeues_on_failed_port_or_restarts_by_turn = grounded;
       replies_match = tells;
-      unplugged_empties_port = record { none_is_left = λ e other here. absurd (never_unplugged e here); none_is_told_dead = λ e other here. absurd (never_unplugged e here) };
+      unplugged_outcome_empties_port = record { none_is_left = λ e other here. absurd (never_unplugged e here); none_is_told_dead = λ e other here. absurd (never_unplugged e here) };
       port_is_serviced = becomes;
       shown_disk_was_in_or_came = inl port_same;
       same_disk_or_none_unanswered = inl (port_same.2, port_same.3);

@@ -15,10 +15,10 @@ use Rattle.std.proofs.lemmas.Bool.Decides.{eqb_tells}
 use Rattle.adapter.specs.Memory.{changed}
 use Rattle.block_machine.specs.Histories.{IsReachable}
 use Rattle.block_machine.specs.State.{Machine, Pending}
-use Rattle.block_machine.specs.Steps.{Answer, HoldsFrames, after_step, is_lent_to, unlend}
+use Rattle.block_machine.specs.Steps.{Answer, IsInBookOrKept, after_step, is_lent_to, unlend}
 use Rattle.server_history.proofs.state.ListMembers.{contains_cases}
 use Rattle.refinement.specs.Fragments.{driver_state_of}
-use Rattle.refinement.specs.Driver.{ForgetsAtMost, HasNoSlot, DriverState, with_slot_freed_and_request_parked}
+use Rattle.refinement.specs.Driver.{OthersStayParked, HasNoSlot, DriverState, with_slot_freed_and_request_parked}
 use Rattle.refinement.specs.Slots.{Free, Serves, SlotStates, set_slot_state, IsDropped, IsEnded, IsOver, ServesRequest}
 use Rattle.dma_frames.specs.FrameTables.{OwnersAndLoans, lent_to, SetsLoanOnly}
 use Rattle.host_boot.specs.TakeOver.{probe_result_of}
@@ -34,7 +34,7 @@ use Rattle.server_history.proofs.state.PortSlots.{IsServedBy, its_mode, used_low
 -- ---- loans
 
 -- the frames of the request given back, in the machine and in the table
-pub given_back : PrerequisiteLaws → (m : Machine) (e : BookEntry) (x : Pending) (old new : OwnersAndLoans) → IsReachable m → HoldsFrames m x → EntryRelation e x → ((f : Frame) → m.lent f ≡ lent_to old f)
+pub given_back : PrerequisiteLaws → (m : Machine) (e : BookEntry) (x : Pending) (old new : OwnersAndLoans) → IsReachable m → IsInBookOrKept m x → EntryRelation e x → ((f : Frame) → m.lent f ≡ lent_to old f)
     → All (λ f. lent_to old f ≡ Some e.request.id) e.frames → SetsLoanOnly old new e.frames None → (f : Frame) → unlend x.request.id m.lent f ≡ lent_to new f
 given_back laws m e x old new reached lives entry same lent lends f = by (m.lent f) refl
   where
@@ -62,7 +62,7 @@ given_back laws m e x old new reached lives entry same lent lends f = by (m.lent
             false≢true (sym q ∙ eq-eqb o.0 x.request.id.0 (ap (λ (i : RequestId). i.0) (sym w ∙ sym entry.id)))))
 
 -- what is parked last is forgotten
-forgets_one : (uses : SlotStates) (parked : ℕ → List RequestId) (d : Device) (port slot : ℕ) (id : RequestId) → ForgetsAtMost id (with_slot_freed_and_request_parked (driver_state_of uses parked d) port slot id).awaiting_disposition parked
+forgets_one : (uses : SlotStates) (parked : ℕ → List RequestId) (d : Device) (port slot : ℕ) (id : RequestId) → OthersStayParked id (with_slot_freed_and_request_parked (driver_state_of uses parked d) port slot id).awaiting_disposition parked
 unfolding changed
 forgets_one uses parked d port slot id q other =
     elim (eqb_tells q port) [
@@ -135,8 +135,8 @@ module _ (laws : PrerequisiteLaws) (s new : ServerState) (port : Port) (e : Book
     no_slot : HasNoSlot taken.slot_states done.request.id
     no_slot = subst (HasNoSlot taken.slot_states) (sym x.id_is) (laws.slots.parked_frees (driver_state_of is.uses is.awaiting_disposition s.device) port.0 slot id is.driver_relation.state_relation.serve_distinct_requests serves)
 
-    forgets : ForgetsAtMost done.request.id taken.awaiting_disposition is.awaiting_disposition
-    forgets = subst (λ (i : RequestId). ForgetsAtMost i taken.awaiting_disposition is.awaiting_disposition) (sym x.id_is) (forgets_one is.uses is.awaiting_disposition s.device port.0 slot id)
+    forgets : OthersStayParked done.request.id taken.awaiting_disposition is.awaiting_disposition
+    forgets = subst (λ (i : RequestId). OthersStayParked i taken.awaiting_disposition is.awaiting_disposition) (sym x.id_is) (forgets_one is.uses is.awaiting_disposition s.device port.0 slot id)
 
     stands : MachineRelation left answered
     stands = record {

@@ -30,15 +30,15 @@ use Rattle.host_boot.specs.declared.ProbeResult.TheVariants.{Ready}
 use Rattle.driver_history.specs.Histories.{IssuesDue}
 use Rattle.identify.specs.declared.DiskInfo.{DiskInfo}
 use Rattle.commands.specs.Masks.{ReadsDone, FindsEachClearSlot}
-use Rattle.port_control.specs.PortEvents.{IsEventAccess, TakesEvent}
-use Rattle.port_control.specs.ServiceAccesses.{IsServiceAccess}
+use Rattle.port_control.specs.PortEvents.{IsPxisSstsOrOwnIsAccess, TakesEvent}
+use Rattle.port_control.specs.ServiceAccesses.{WritesOnlyHbaIsPxIsCiOrSact}
 use Rattle.port_control.specs.declared.events.PortEvent.TheVariants.{NoEvent}
 use Rattle.request_queue.specs.BookEntries.{BookEntry, unanswered_of, due_ids}
 use Rattle.slots.specs.SlotUses.{PortSlots}
 use Rattle.slots.specs.declared.SlotUse.{SlotUse}
 use Rattle.server_history.specs.Prerequisites.{PrerequisiteLaws}
 use Rattle.commands.specs.Batches.{IsBatchAccess}
-use Rattle.server_history.specs.IssuingAndAnswering.{AnswersDoneAndIssues, AnswersEach, AnswersOne, IsEmptyMask, PollsInTurnWithoutEvent, IsMaskOf, AllByDeviceOrIssue, IsAnsweredIn, ok_answers_of, done_reply, is_used}
+use Rattle.server_history.specs.IssuingAndAnswering.{AnswersDoneAndIssues, AnswersEach, AnswersOne, IsEmptyMask, PollsInTurnWithoutEvent, IsMaskOf, AllByDeviceOrIssue, IsAnsweredIn, ok_answers_newest_first, done_reply, is_used}
 use Rattle.server_history.specs.Turns.{ServicesPort}
 use Rattle.server_history.specs.ServerState.{ServerState, InCallInvariant, MachineRelation, SettledInvariant, mode_in, slots_at, state_of, used_for, with_slot}
 use Rattle.server_history.proofs.healthy_turn.OneAnswer.{answer_kept}
@@ -58,29 +58,29 @@ use Rattle.server_history.proofs.state.PortSlots.{CommandsAreOver, ready_found, 
 use Rattle.server_history.proofs.state.FirstMembers.{nowhere, first_here}
 
 -- accesses of a look, and of finding a transfer done, serve ports
-pub looks_serve : PrerequisiteLaws → (port : Port) (old new : Device) → IsSimulated (IsEventAccess port) AnySlotStates old new → IsSimulated IsServiceAccess AnySlotStates old new
+pub looks_serve : PrerequisiteLaws → (port : Port) (old new : Device) → IsSimulated (IsPxisSstsOrOwnIsAccess port) AnySlotStates old new → IsSimulated WritesOnlyHbaIsPxIsCiOrSact AnySlotStates old new
 looks_serve laws port old new followed = (laws.look_laws.fragments.is_of_wider_kind (Looking port) Serving (λ uses. uses) (laws.look_laws.look_access_is_service_access port) (λ uses any. any) old new followed).is_simulated
 
-pub finds_serve : PrerequisiteLaws → (port : Port) (mask done : ℕ) (old new : Device) → ReadsDone port mask done old new → IsSimulated IsServiceAccess AnySlotStates old new
+pub finds_serve : PrerequisiteLaws → (port : Port) (mask done : ℕ) (old new : Device) → ReadsDone port mask done old new → IsSimulated WritesOnlyHbaIsPxIsCiOrSact AnySlotStates old new
 finds_serve laws port mask done old new finds = (laws.look_laws.fragments.is_of_wider_kind (ReadingMasks port) Serving (λ uses. uses) (finding_serves port) (λ uses any. any) old new (laws.mask_reading_is_simulated port mask done old new finds)).is_simulated
 
 -- one stretch, and then another
-serves_then : PrerequisiteLaws → (old mid new : Device) → IsSimulated IsServiceAccess AnySlotStates old mid → IsSimulated IsServiceAccess AnySlotStates mid new → IsSimulated IsServiceAccess AnySlotStates old new
+serves_then : PrerequisiteLaws → (old mid new : Device) → IsSimulated WritesOnlyHbaIsPxIsCiOrSact AnySlotStates old mid → IsSimulated WritesOnlyHbaIsPxIsCiOrSact AnySlotStates mid new → IsSimulated WritesOnlyHbaIsPxIsCiOrSact AnySlotStates old new
 serves_then laws old mid new a b = (laws.look_laws.fragments.fragments_join Serving Serving (λ uses. uses) (λ uses. uses) (λ access is. is) (λ uses any. any) old mid new a b).is_simulated
 
 -- answers issue nothing
-pub answers_issue_none : (id : RequestId) (ended : List Pending) → list_any (issues_id id) (ok_answers_of ended) ≡ false
+pub answers_issue_none : (id : RequestId) (ended : List Pending) → list_any (issues_id id) (ok_answers_newest_first ended) ≡ false
 answers_issue_none id [] = refl
-answers_issue_none id (e ∷ ended) = any_append (issues_id id) (ok_answers_of ended) (Answer e Ok ∷ []) ∙ ap (λ (b : Bool). b || false) (answers_issue_none id ended)
+answers_issue_none id (e ∷ ended) = any_append (issues_id id) (ok_answers_newest_first ended) (Answer e Ok ∷ []) ∙ ap (λ (b : Bool). b || false) (answers_issue_none id ended)
 
 -- the steps of a stretch in which nobody is answered
-pub followed_steps : PrerequisiteLaws → (s : ServerState) (new : Device) → IsSimulated IsServiceAccess AnySlotStates s.device new → (m : Machine) → IsReachable m → MachineRelation s m
+pub followed_steps : PrerequisiteLaws → (s : ServerState) (new : Device) → IsSimulated WritesOnlyHbaIsPxIsCiOrSact AnySlotStates s.device new → (m : Machine) → IsReachable m → MachineRelation s m
     → (steps : List Step) × AllEnabled m steps × MachineRelation (record s { device = new }) (after m steps) × TapeBacksSteps s.device new m steps × AllByDevice steps
 followed_steps laws s new followed m reached is =
     let x = (followed_adds laws followed is.uses is.awaiting_disposition tt).simulates m reached is.driver_relation in
-    (x.0, x.1, machine_on laws s new m x.0 is x.3.all_steps_are_devices x.2, x.3.is_backed, x.3.all_steps_are_devices)
+    (x.0, x.1, machine_on laws s new m x.0 is x.3.all_steps_are_by_device x.2, x.3.is_backed, x.3.all_steps_are_by_device)
 
-nobody_answered : PrerequisiteLaws → (s : ServerState) (new : Device) (port : Port) → SettledInvariant s → state_of (probe_result_of s.probe_results port.0) ≡ ReadyState → (turn : PollsInTurnWithoutEvent port (slots_at s.slots port.0) [] s.device new) → IsSimulated IsServiceAccess AnySlotStates s.device new
+nobody_answered : PrerequisiteLaws → (s : ServerState) (new : Device) (port : Port) → SettledInvariant s → state_of (probe_result_of s.probe_results port.0) ≡ ReadyState → (turn : PollsInTurnWithoutEvent port (slots_at s.slots port.0) [] s.device new) → IsSimulated WritesOnlyHbaIsPxIsCiOrSact AnySlotStates s.device new
     → ((q : ℕ) → state_of (probe_result_of s.probe_results q) ≢ Dead → GainsNoMove q ReadLog s.device new)
     → (turn.look ≡ NoEvent → (slot : ℕ) (used : SlotUse) → slot < 32 → used_for s.slots port.0 slot ≡ Some used → (s.device.port port.0).ci slot ≡ false → (s.device.port port.0).sact slot ≡ false → ⊥)
     → ServicesPort port [] s (record s { device = new })
@@ -137,7 +137,7 @@ module _ (s : ServerState) (port : Port) (k : InCallInvariant s) (ready : state_
       by (inr (inr (inr d))) = record { is_not_issued = d.is_not_issued; is_not_taken = d.is_not_taken }
 
   -- and they are clear after a look
-  still_clear : PrerequisiteLaws → (seen : Device) → IsDrivenBy (IsEventAccess port) s.device seen → (used : SlotUse) → used_for s.slots port.0 slot ≡ Some used → (s.device.port port.0).ci slot ≡ false
+  still_clear : PrerequisiteLaws → (seen : Device) → IsDrivenBy (IsPxisSstsOrOwnIsAccess port) s.device seen → (used : SlotUse) → used_for s.slots port.0 slot ≡ Some used → (s.device.port port.0).ci slot ≡ false
       → (s.device.port port.0).sact slot ≡ false → ((seen.port port.0).ci slot ≡ false) × ((seen.port port.0).sact slot ≡ false)
   still_clear laws seen driven used its ci sact = (
     (still_over laws port slot s.device seen driven (clear_over used its ci sact)).is_not_issued,
@@ -200,7 +200,7 @@ module _ (laws : PrerequisiteLaws) (port : Port) (low : port.0 < 4) (done : ℕ)
 
 -- ---- the whole
 
-module _ (s : ServerState) (seen : Device) (port : Port) (t : SettledInvariant s) (ready : state_of (probe_result_of s.probe_results port.0) ≡ ReadyState) (looks : IsSimulated (IsEventAccess port) AnySlotStates s.device seen) where
+module _ (s : ServerState) (seen : Device) (port : Port) (t : SettledInvariant s) (ready : state_of (probe_result_of s.probe_results port.0) ≡ ReadyState) (looks : IsSimulated (IsPxisSstsOrOwnIsAccess port) AnySlotStates s.device seen) where
   abbrev k : InCallInvariant s
   k = t.in_call_invariant
 
@@ -276,7 +276,7 @@ module _ (s : ServerState) (seen : Device) (port : Port) (t : SettledInvariant s
         abbrev from : ServerState
         from = record s { device = found }
 
-        served : IsSimulated IsServiceAccess AnySlotStates s.device found
+        served : IsSimulated WritesOnlyHbaIsPxIsCiOrSact AnySlotStates s.device found
         served = serves_then laws s.device seen found (looks_serve laws port s.device seen looks) (finds_serve laws port mask done seen found reads)
 
         found_kept : InCallInvariant from
@@ -333,19 +333,19 @@ module _ (s : ServerState) (seen : Device) (port : Port) (t : SettledInvariant s
             y = each_answered laws port done a.requests from a.server_after_answers found_kept ready over a.answers_each (after m x.0) reached_x x.2
 
             base : List Step
-            base = ok_answers_of y.ended ++ x.0
+            base = ok_answers_newest_first y.ended ++ x.0
 
-            base_is : after m base ≡ after (after m x.0) (ok_answers_of y.ended)
-            base_is = laws.steps_and_accesses.after_joins m (ok_answers_of y.ended) x.0
+            base_is : after m base ≡ after (after m x.0) (ok_answers_newest_first y.ended)
+            base_is = laws.steps_and_accesses.after_joins m (ok_answers_newest_first y.ended) x.0
 
             base_may : AllEnabled m base
-            base_may = laws.steps_and_accesses.enabled_lists_join m (ok_answers_of y.ended) x.0 x.1 y.may
+            base_may = laws.steps_and_accesses.enabled_lists_join m (ok_answers_newest_first y.ended) x.0 x.1 y.may
 
             base_backed : TapeBacksSteps s.device a.server_after_answers.device m base
-            base_backed = laws.backed_parts_join s.device found a.server_after_answers.device m x.0 (ok_answers_of y.ended) x.3 y.backed
+            base_backed = laws.backed_parts_join s.device found a.server_after_answers.device m x.0 (ok_answers_newest_first y.ended) x.3 y.backed
 
             none_in_base : (id : RequestId) → list_any (issues_id id) base ≡ false
-            none_in_base id = any_append (issues_id id) (ok_answers_of y.ended) x.0 ∙ ap (λ (b : Bool). b || list_any (issues_id id) x.0) (answers_issue_none id y.ended) ∙ devices_issue_none id x.0 x.4
+            none_in_base id = any_append (issues_id id) (ok_answers_newest_first y.ended) x.0 ∙ ap (λ (b : Bool). b || list_any (issues_id id) x.0) (answers_issue_none id y.ended) ∙ devices_issue_none id x.0 x.4
 
             z : AreIssued port ids a.server_after_answers new (after m base)
             z = each_issued laws port ids a.server_after_answers new mid_kept a.issued (after m base) (laws.steps_and_accesses.reachable_stays_reachable m base reached base_may) (subst (MachineRelation a.server_after_answers) (sym base_is) y.stands)

@@ -18,7 +18,7 @@ use Rattle.adapter.specs.Device.{Device}
 use Rattle.refinement.specs.Fragments.{TapeGrows, IsDrivenBy}
 use Rattle.refinement.specs.Driver.{TapeBacksSteps}
 use Rattle.refinement.specs.Slots.{IsEmptySlot, RelatesSlot, Serves, ServesRequest, IsInSomeStage, SlotState}
-use Rattle.block_machine.specs.Events.{AllEnabled, AnswersEnded, changes_disk}
+use Rattle.block_machine.specs.Events.{AllEnabled, AnswersOkWhatHadEnded, changes_disk}
 use Rattle.block_machine.specs.Histories.{IsReachable}
 use Rattle.block_machine.specs.Expected.{after}
 use Rattle.block_machine.specs.Ports.{Evidence, IsStoppedOrStuck, SamePort}
@@ -27,15 +27,15 @@ use Rattle.block_machine.specs.Steps.{Step, Answer}
 use Rattle.block_machine.specs.declared.due.QueueMode.{QueueMode}
 use Rattle.server_history.proofs.state.ListMembers.{into_map, map_in}
 use Rattle.driver_history.specs.EvidenceHandling.{ServicesReadyPort, tells_fault}
-use Rattle.driver_history.specs.Evidence.{ShowsFailure, ShowsLoss}
+use Rattle.driver_history.specs.Evidence.{ShowsFailure, BeganWithLinkChangeOrNoDeviceAndNoneComes}
 use Rattle.driver_history.specs.Histories.{FindsDone, IsForeignOrUnfit, IsAnsweredOk, IsIssuedOn}
 use Rattle.driver_history.specs.AccessTrace.{ReadsMasksBeforeCmdWrite}
 use Rattle.host_boot.specs.TakeOver.{probe_result_of}
-use Rattle.port_control.specs.PortEvents.{IsEventAccess}
+use Rattle.port_control.specs.PortEvents.{IsPxisSstsOrOwnIsAccess}
 use Rattle.port_control.specs.declared.events.PortEvent.TheVariants.{LinkChanged, NoEvent}
 use Rattle.slots.specs.declared.SlotUse.{SlotUse}
 use Rattle.server_history.specs.Prerequisites.{PrerequisiteLaws}
-use Rattle.server_history.specs.IssuingAndAnswering.{StepsAnswer, PollsSlots, HasEnded, PollsInTurnWithoutEvent, IsAnsweredIn, IsMaskOf, ok_answers_of, done_reply, is_used}
+use Rattle.server_history.specs.IssuingAndAnswering.{StepsAnswer, PollsSlots, HasEnded, PollsInTurnWithoutEvent, IsAnsweredIn, IsMaskOf, ok_answers_newest_first, done_reply, is_used}
 use Rattle.server_history.proofs.any_turn.TurnSteps.{counts_none}
 use Rattle.server_history.proofs.any_turn.UnusedSlotBits.{unused_clear}
 use Rattle.server_history.specs.Turns.{FindsDoneInTurn, ServingReady, TurnCorresponds, joint_state_of, abstract_state_of}
@@ -93,8 +93,8 @@ module _ (laws : PrerequisiteLaws) (port : Port) (replies : List Reply) (old new
       (λ rest. ⊎_elim
       (λ told. answered_in b.ended e o told)
       (λ early. absurd (no_answer b.before b.device_steps_come_first e o early))
-      (Contains-append_cases (ok_answers_of b.ended) b.before (Answer e o) rest))
-      (Contains-append_cases b.later (ok_answers_of b.ended ++ b.before) (Answer e o) (subst (λ (list : List Step). Contains list (Answer e o)) b.steps_are here))
+      (Contains-append_cases (ok_answers_newest_first b.ended) b.before (Answer e o) rest))
+      (Contains-append_cases b.later (ok_answers_newest_first b.ended ++ b.before) (Answer e o) (subst (λ (list : List Step). Contains list (Answer e o)) b.steps_are here))
 
   has_slot : (e : Pending) → IsIssuedOn port m e → HasSlot old port e.request.id
   has_slot e own = issued_has old m port at kept ready e own.is_in_book own.port_is own.issued
@@ -111,8 +111,8 @@ module _ (laws : PrerequisiteLaws) (port : Port) (replies : List Reply) (old new
       let clear = laws.slots.ended_clear at.uses m old.device port h.slot e reached at.driver_relation.state_relation (inl (own.is_in_book, own.issued)) ended slot in
       (clear.0.over.is_not_issued, clear.0.sact_is_clear)
 
-  early_may : AllEnabled m b.before × AllEnabled (after m b.before) (ok_answers_of b.ended)
-  early_may = may_parts laws m (ok_answers_of b.ended) b.before (may_parts laws m b.later (ok_answers_of b.ended ++ b.before) (subst (AllEnabled m) b.steps_are may)).0
+  early_may : AllEnabled m b.before × AllEnabled (after m b.before) (ok_answers_newest_first b.ended)
+  early_may = may_parts laws m (ok_answers_newest_first b.ended) b.before (may_parts laws m b.later (ok_answers_newest_first b.ended ++ b.before) (subst (AllEnabled m) b.steps_are may)).0
 
   -- who is told is answered, and who is answered is told
   module _ (e : Pending) (own : IsIssuedOn port m e) where
@@ -127,7 +127,7 @@ module _ (laws : PrerequisiteLaws) (port : Port) (replies : List Reply) (old new
           d.0,
           l.2.request ∙ ap (λ (y : Pending). y.request) (sym one),
           subst (λ (steps : List Step). Contains steps (Answer d.0 Ok)) (sym b.steps_are)
-              (Contains-append_right b.later (ok_answers_of b.ended ++ b.before) (Answer d.0 Ok) (Contains-append_left (ok_answers_of b.ended) b.before (Answer d.0 Ok) (in_answered b.ended d.0 d.1))),
+              (Contains-append_right b.later (ok_answers_newest_first b.ended ++ b.before) (Answer d.0 Ok) (Contains-append_left (ok_answers_newest_first b.ended) b.before (Answer d.0 Ok) (in_answered b.ended d.0 d.1))),
         )
 
     answered_told : IsAnsweredOk e steps → IsAnsweredIn (has_slot e own).used.id replies
@@ -146,7 +146,7 @@ module _ (laws : PrerequisiteLaws) (port : Port) (replies : List Reply) (old new
         let clear = ended_clear e own ended in
         answered calm h.slot h.used h.small h.used_is clear.0 clear.1
 
-    heeded : AnswersEnded m steps port
+    heeded : AnswersOkWhatHadEnded m steps port
     heeded e there own ended = let on = ended_on e there own ended in told_answered e on (ended_told e on ended)
 
     -- ---- what is found done in it
@@ -159,7 +159,7 @@ module _ (laws : PrerequisiteLaws) (port : Port) (replies : List Reply) (old new
       abbrev k : PollsSlots port (slots_at old.slots port.0) read.0 replies turn.device_after_look new.device
       k = read.2.0
 
-      looks : IsDrivenBy (IsEventAccess port) old.device turn.device_after_look
+      looks : IsDrivenBy (IsPxisSstsOrOwnIsAccess port) old.device turn.device_after_look
       looks = laws.look_laws.look_is_driven_by_its_accesses port turn.look old.device turn.device_after_look turn.takes_event
 
       masks_read : (mid : Device) × Reads (Px port Ci) k.reads.issued turn.device_after_look mid × Reads (Px port Sact) k.reads.active mid k.device_after_read
@@ -261,7 +261,7 @@ module _ (laws : PrerequisiteLaws) (port : Port) (replies : List Reply) (old new
   later = let over = later_driven laws port (slots_at old.slots port.0) replies (joint_state_of old m) new.device turn kept.adapter_is_on turn.look_is_no_event in grows_over laws over.accesses turn.device_after_look new.device over.all_are_done
 
   -- nor was a loss
-  pub never_lost : ShowsLoss port old.device new.device → ⊥
+  pub never_lost : BeganWithLinkChangeOrNoDeviceAndNoneComes port old.device new.device → ⊥
   never_lost loss = ⊎_elim
       (no_change laws port turn.look old.device turn.device_after_look turn.takes_event kept.adapter_is_on not_lost)
       (λ (out : _ × _). not_missing laws port turn.look old.device turn.device_after_look turn.takes_event kept.adapter_is_on not_lost new.device later undue out.0 out.1)
@@ -289,15 +289,15 @@ module _ (laws : PrerequisiteLaws) (port : Port) (replies : List Reply) (old new
 
     serves_ready : ServicesReadyPort (abstract_state_of old m) its steps (record { machine = after m steps; ports = ports_of new }) port
     serves_ready = record {
-      answers_ended = heeded turn.look_is_no_event;
+      answers_ok_what_had_ended = heeded turn.look_is_no_event;
       link_change_leaves_none = λ gone. absurd (nowhere port gone);
       link_change_tells_alike = λ gone. absurd (nowhere port gone);
-      trouble_interrupts = λ port_error. absurd (⊎_elim (nowhere port) (nowhere port) port_error);
+      trouble_stops_or_sticks = λ port_error. absurd (⊎_elim (nowhere port) (nowhere port) port_error);
       error_or_stop_leaves_no_old_issue = λ port_error. absurd (⊎_elim (nowhere port) (nowhere port) port_error);
       one_fault_at_most = let none = counts_none (tells_fault port) steps (tells_none port steps (λ e o here. (turn_ended e o here).1)) in omega (arith, none);
       fatal_tells_no_fault = λ here. absurd (nowhere port here);
       shown_disk_was_in_or_came = λ shows. had;
-      is_left_alone_if_calm = inr (record { port_is_same = same; only_ok_is_told = λ e o here own. inl (turn_ended e o here).1; is_not_interrupted = uninterrupted });
+      is_left_alone_if_calm = inr (record { port_is_same = same; only_ok_is_told = λ e o here own. inl (turn_ended e o here).1; is_neither_stopped_nor_stuck = uninterrupted });
     }
 
     pub ties : TurnCorresponds ServingReady port replies list.driven.accesses old new m its steps

@@ -31,8 +31,8 @@ use Rattle.dma_frames.specs.FrameTables.{OwnersAndLoans, lent_to, SetsLoanOnly}
 use Rattle.host_boot.specs.TakeOver.{probe_result_of}
 use Rattle.host_boot.specs.declared.ProbeResult.{ProbeResult}
 use Rattle.request_queue.specs.BookEntries.{BookEntry, IsWellFormedEntry, IsEarlier, as_unanswered, unanswered_of, due_ids}
-use Rattle.driver_history.specs.Histories.{IssuesDue, IsIssuingAccess}
-use Rattle.driver_history.specs.AccessTrace.{ClearsNoError, WritesNeitherCmdNorSctl}
+use Rattle.driver_history.specs.Histories.{IssuesDue, StoresOrWritesSactOrCi}
+use Rattle.driver_history.specs.AccessTrace.{WritesOneToNoTroubleBit, WritesNeitherCmdNorSctl}
 use Rattle.refinement.specs.PreservedParts.{DoesNotWrite}
 use Rattle.hba_regs.specs.declared.reg.Reg.TheVariants.{Ghc, Px}
 use Rattle.hba_regs.specs.declared.reg.PortReg.TheVariants.{Ci, Sact}
@@ -40,7 +40,7 @@ use Rattle.hba_regs.specs.declared.reg.PortReg.TheVariants as register
 use Rattle.adapter.specs.Access.{Access}
 use Rattle.adapter.specs.Access.Access.{Loading, Reading, Storing, Writing}
 use Rattle.server_history.specs.Prerequisites.{PrerequisiteLaws}
-use Rattle.server_history.specs.Histories.{ExtendsSettled, LeadsToServer}
+use Rattle.server_history.specs.Histories.{ExtendsToSettled, LeadsToServer}
 use Rattle.commands.specs.Batches.{IsBatchAccess}
 use Rattle.server_history.specs.IssuingAndAnswering.{AcceptsAndIssues, IssuesDueOfPort, accepted_as, with_accepted}
 use Rattle.server_history.specs.ServerState.{ServerState, InCallInvariant, MachineRelation, SettledInvariant, mode_in, ports_of, admission_context, state_of, used_for, RevokedMarkInvariant}
@@ -66,7 +66,7 @@ issuing_spares_host port (Storing at bytes) here = tt
 issuing_spares_host port (Loading at bytes) here = absurd here
 issuing_spares_host port (Reading r v) here = absurd here
 
-pub issuing_clears_none : (port other : Port) (access : Access) → IsBatchAccess port access → ClearsNoError other access
+pub issuing_clears_none : (port other : Port) (access : Access) → IsBatchAccess port access → WritesOneToNoTroubleBit other access
 issuing_clears_none port other (Writing r v) here = record {
   pxis_trouble_is_kept = λ q. absurd (⊎_elim (λ (is : r ≡ Px port Sact). let z : Px port Sact ≡ Px other register.Is = sym is ∙ q in absurd cc) (λ (is : r ≡ Px port Ci). let z : Px port Ci ≡ Px other register.Is = sym is ∙ q in absurd cc) here);
   serr_trouble_is_kept = λ q. absurd (⊎_elim (λ (is : r ≡ Px port Sact). let z : Px port Sact ≡ Px other register.Serr = sym is ∙ q in absurd cc) (λ (is : r ≡ Px port Ci). let z : Px port Ci ≡ Px other register.Serr = sym is ∙ q in absurd cc) here);
@@ -215,10 +215,10 @@ module _ (laws : PrerequisiteLaws) (s : ServerState) (k : InCallInvariant s) (r 
         (allowed, (asked, accepts_on mode port x.steps early x.only, refl), same_ports_are, all_issued)
         tt
         driven.accesses
-        (driven.all_are_done, (row, its_row, All-weaker (IsBatchAccess port) (IsIssuingAccess row.port) (λ access here. subst (λ (p : Port). IsIssuingAccess p access) (sym port_is) (issuing_is port port_low access here)) driven.accesses driven.accesses_are_of_kind))
+        (driven.all_are_done, (row, its_row, All-weaker (IsBatchAccess port) (StoresOrWritesSactOrCi row.port) (λ access here. subst (λ (p : Port). StoresOrWritesSactOrCi p access) (sym port_is) (issuing_is port port_low access here)) driven.accesses driven.accesses_are_of_kind))
         (λ other. All-weaker (IsBatchAccess port) (WritesNeitherCmdNorSctl other) (issuing_leaves laws port other) driven.accesses driven.accesses_are_of_kind)
         (λ other is_ready. due_now other)
-        (λ other. record { finds_done = tt; lone_plain_faults_are_told_unless_dead = tt; probes_disk = tt; boots_anew = tt; loses_no_error = laws.calls.ordinary_accesses_lose_no_error other (with_device s.device old) new.device driven.accesses (told_by s.device old.abstract.ports) (ports_of new) k.adapter_is_on driven.all_are_done (All-weaker (IsBatchAccess port) (DoesNotWrite Ghc) (issuing_spares_host port) driven.accesses driven.accesses_are_of_kind) (All-weaker (IsBatchAccess port) (ClearsNoError other) (issuing_clears_none port other) driven.accesses driven.accesses_are_of_kind); runs_well_anew = λ i. absurd (uninterrupted s.device old.abstract.ports other i); handles_evidence = uninterrupted s.device old.abstract.ports other })
+        (λ other. record { finds_done = tt; lone_plain_faults_are_told_unless_dead = tt; probes_disk = tt; boots_anew = tt; loses_no_error = laws.calls.ordinary_accesses_lose_no_error other (with_device s.device old) new.device driven.accesses (told_by s.device old.abstract.ports) (ports_of new) k.adapter_is_on driven.all_are_done (All-weaker (IsBatchAccess port) (DoesNotWrite Ghc) (issuing_spares_host port) driven.accesses driven.accesses_are_of_kind) (All-weaker (IsBatchAccess port) (WritesOneToNoTroubleBit other) (issuing_clears_none port other) driven.accesses driven.accesses_are_of_kind); runs_well_anew = λ i. absurd (uninterrupted s.device old.abstract.ports other i); handles_evidence = uninterrupted s.device old.abstract.ports other })
         (laws.backed_parts_join s.device s.device new.device m early x.steps (laws.drivers_own_step_is_backed s.device m (Accept asked) (λ no. no)) x.backed)
         stands
       where
@@ -281,7 +281,7 @@ module _ (laws : PrerequisiteLaws) (s : ServerState) (k : InCallInvariant s) (r 
             (λ u here own. sym (any_append (issues_id u.id) x.steps early ∙ or_none (list_any (issues_id u.id) x.steps)))
             (dues laws port more new accept_kept issues (next m was is) x other (none_other other))))
 
-pub acceptance : PrerequisiteLaws → (s new : ServerState) (port : Port) (r : Request) (id : RequestId) → SettledInvariant s → IsAcceptable (admission_context s) r → AcceptsAndIssues port r id s new → ExtendsSettled s new (Submit r) (Submitted (Ok id))
+pub acceptance : PrerequisiteLaws → (s new : ServerState) (port : Port) (r : Request) (id : RequestId) → SettledInvariant s → IsAcceptable (admission_context s) r → AcceptsAndIssues port r id s new → ExtendsToSettled s new (Submit r) (Submitted (Ok id))
 acceptance laws s new port r id k acc a = record {
   settled_invariant = settles laws s k.in_call_invariant r acc a.row a.named port a.port_is id a.id_is a.table a.lends_only k.nothing_is_due new a.issues_due;
   extends_history = event laws s k.in_call_invariant r acc a.row a.named port a.port_is id a.id_is a.table a.lends_only k.nothing_is_due new a.issues_due;

@@ -13,7 +13,7 @@ use Rattle.refinement.specs.Slots.{client_operation_of}
 use Rattle.refinement.specs.Driver.{TapeBacksSteps}
 use Rattle.server_history.proofs.state.DrivenAccesses.{by_none}
 use Rattle.block_machine.specs.DueRequests.{AreAllDueInOrder, IsDue, NoneDue, due_of, mark_issued, requests_of_port, with_issued}
-use Rattle.block_machine.specs.Events.{AbstractCall, AbstractState, AllByDevice, AnswersAndWaitsLawful, AllEnabled, AreStepsOfCall, IsIssuedIn, IsByServer, IssueIsLastOfRequest, accepts_of, handles_id, issues_id}
+use Rattle.block_machine.specs.Events.{AbstractCall, AbstractState, AllByDevice, AnswersAndWaitsLawful, AllEnabled, AreStepsOfCall, IsIssuedIn, IsByServer, IssueIsLastOfRequest, accepts_of, issues_requeues_or_answers_id, issues_id}
 use Rattle.block_machine.specs.Histories.{IsReachable}
 use Rattle.block_machine.specs.Expected.{after}
 use Rattle.block_machine.specs.Ports.{Ports, Evidence}
@@ -23,7 +23,7 @@ use Rattle.block_machine.specs.declared.due.QueueMode.{QueueMode}
 use Rattle.block_machine.specs.declared.due.Unanswered.{Unanswered}
 use Rattle.server_history.proofs.state.ListMembers.{contains_cases, contains_here, contains_there, into_map, map_in}
 use Rattle.driver_history.specs.Histories.{IssuesDue, with_issue_undone}
-use Rattle.commands.specs.Batches.{IsBatchAccess, PlacedTask, issues_of}
+use Rattle.commands.specs.Batches.{IsBatchAccess, PlacedTask, issues_newest_first}
 use Rattle.request_queue.specs.BookEntries.{BookEntry, BookIsWellFormed, IsWaiting, as_unanswered, unanswered_of, due_ids}
 use Rattle.server_history.specs.Prerequisites.{PrerequisiteLaws}
 use Rattle.server_history.specs.IssuingAndAnswering.{AllByDeviceOrIssue, IssuesDueOfPort, IssuesTogetherIfAny, PutsInSlot, PutsInSlots}
@@ -100,7 +100,7 @@ module _ (mode : QueueMode) (port : Port) where
       rest (Issue its e) only = only.2
       rest step only = only.1
 
-      issues : (step : Step) → AllByDeviceOrIssue mode port (step ∷ late) → (id : RequestId) → handles_id id step ≡ true → issues_id id step ≡ true
+      issues : (step : Step) → AllByDeviceOrIssue mode port (step ∷ late) → (id : RequestId) → issues_requeues_or_answers_id id step ≡ true → issues_id id step ≡ true
       issues (Issue its e) only id h = h
       issues step only id h = absurd (not_handled id step only.0 h)
 
@@ -147,37 +147,37 @@ are_put port (id ∷ ids) old new issues = record { tasks = issues.tasks; taken 
 module _ (laws : PrerequisiteLaws) (port : Port) where
   -- ---- the issues of requests
 
-  issues_only : (mode : QueueMode) (ids : List RequestId) (requests : List Pending) → HaveIds port ids requests → AllByDeviceOrIssue mode port (issues_of mode requests)
+  issues_only : (mode : QueueMode) (ids : List RequestId) (requests : List Pending) → HaveIds port ids requests → AllByDeviceOrIssue mode port (issues_newest_first mode requests)
   issues_only mode ids [] are = tt
   issues_only mode [] (e ∷ requests) are = absurd are
-  issues_only mode (id ∷ ids) (e ∷ requests) are = only_append mode port (issues_of mode requests) (Issue mode e ∷ []) (issues_only mode ids requests are.1) (refl, are.0.1, tt)
+  issues_only mode (id ∷ ids) (e ∷ requests) are = only_append mode port (issues_newest_first mode requests) (Issue mode e ∷ []) (issues_only mode ids requests are.1) (refl, are.0.1, tt)
 
-  issues_named : (mode : QueueMode) (ids : List RequestId) (requests : List Pending) → HaveIds port ids requests → (id : RequestId) → IsIssuedIn id (issues_of mode requests) → Contains ids id
+  issues_named : (mode : QueueMode) (ids : List RequestId) (requests : List Pending) → HaveIds port ids requests → (id : RequestId) → IsIssuedIn id (issues_newest_first mode requests) → Contains ids id
   issues_named mode ids [] are id i = absurd (false≢true i)
   issues_named mode [] (e ∷ requests) are id i = absurd are
   issues_named mode (first ∷ ids) (e ∷ requests) are id i = ⊎_elim
-      (λ (late : IsIssuedIn id (issues_of mode requests)). contains_there first ids id (issues_named mode ids requests are.1 id late))
+      (λ (late : IsIssuedIn id (issues_newest_first mode requests)). contains_there first ids id (issues_named mode ids requests are.1 id late))
       (λ (here : IsIssuedIn id (Issue mode e ∷ [])). contains_here first ids id (its_issue mode first e are.0.0 id here))
-      (issued_parts id (issues_of mode requests) (Issue mode e ∷ []) i)
+      (issued_parts id (issues_newest_first mode requests) (Issue mode e ∷ []) i)
     where
       its_issue : (mode : QueueMode) (first : RequestId) (e : Pending) → e.request.id ≡ first → (id : RequestId) → IsIssuedIn id (Issue mode e ∷ []) → id ≡ first
       its_issue mode first e is id here = same_id id first (sym (eqb-true e.request.id.0 id.0 (sym (or_none (e.request.id.0 == id.0)) ∙ here)) ∙ ap (λ (r : RequestId). r.0) is)
 
-  issues_all : (mode : QueueMode) (ids : List RequestId) (requests : List Pending) → HaveIds port ids requests → (id : RequestId) → Contains ids id → IsIssuedIn id (issues_of mode requests)
+  issues_all : (mode : QueueMode) (ids : List RequestId) (requests : List Pending) → HaveIds port ids requests → (id : RequestId) → Contains ids id → IsIssuedIn id (issues_newest_first mode requests)
   issues_all mode [] requests are id there = absurd (nowhere id there)
   issues_all mode (first ∷ ids) [] are id there = absurd are
   issues_all mode (first ∷ ids) (e ∷ requests) are id there = ⊎_elim
-      (λ (same : id ≡ first). issued_early id (issues_of mode requests) (Issue mode e ∷ []) (or_left _ _ (eq-eqb e.request.id.0 id.0 (ap (λ (r : RequestId). r.0) (are.0.0 ∙ sym same)))))
-      (λ (later : Contains ids id). issued_late id (issues_of mode requests) (Issue mode e ∷ []) (issues_all mode ids requests are.1 id later))
+      (λ (same : id ≡ first). issued_early id (issues_newest_first mode requests) (Issue mode e ∷ []) (or_left _ _ (eq-eqb e.request.id.0 id.0 (ap (λ (r : RequestId). r.0) (are.0.0 ∙ sym same)))))
+      (λ (later : Contains ids id). issued_late id (issues_newest_first mode requests) (Issue mode e ∷ []) (issues_all mode ids requests are.1 id later))
       (contains_cases first ids id there)
 
   -- none is issued twice
-  issues_last : (mode : QueueMode) (ids : List RequestId) (tasks : List PlacedTask) (s new : ServerState) → BookAndSlotsInvariant s → PutsInSlots port ids tasks s new → (requests : List Pending) → HaveIds port ids requests → IssueIsLastOfRequest (issues_of mode requests)
+  issues_last : (mode : QueueMode) (ids : List RequestId) (tasks : List PlacedTask) (s new : ServerState) → BookAndSlotsInvariant s → PutsInSlots port ids tasks s new → (requests : List Pending) → HaveIds port ids requests → IssueIsLastOfRequest (issues_newest_first mode requests)
   issues_last mode [] [] s new k none [] are = tt
   issues_last mode [] [] s new k none (e ∷ requests) are = absurd are
   issues_last mode (first ∷ ids) (t ∷ tasks) s new k (mid, one, more) [] are = absurd are
   issues_last mode (first ∷ ids) (t ∷ tasks) s new k (mid, one, more) (e ∷ requests) are =
-      last_on mode port (issues_of mode requests) (Issue mode e ∷ []) (issues_only mode ids requests are.1)
+      last_on mode port (issues_newest_first mode requests) (Issue mode e ∷ []) (issues_only mode ids requests are.1)
       (issues_last mode ids tasks mid new (put_keeps laws s mid port first t k one) more requests are.1)
       (tt, λ id h i. false≢true i)
       (λ id late i.
@@ -200,7 +200,7 @@ module _ (laws : PrerequisiteLaws) (port : Port) where
   each_issued (first ∷ ids) old new k issues m reached is =
       let x : AreIssuedTogether port (first ∷ ids) old new m = issued_together laws old new port first ids k issues m reached is in
       let mode : QueueMode = mode_in old port in
-      let own : List Step = issues_of mode x.requests in
+      let own : List Step = issues_newest_first mode x.requests in
       let only : AllByDeviceOrIssue mode port own = issues_only mode (first ∷ ids) x.requests x.ids_are in
       record {
         steps = own ++ x.steps;

@@ -24,13 +24,13 @@ use Rattle.block_machine.specs.State.{Machine, Pending, unanswered}
 use Rattle.block_machine.specs.Steps.{Step, Issue, IsEnabled, after_step}
 use Rattle.block_machine.specs.declared.due.QueueMode.{QueueMode}
 use Rattle.block_machine.specs.declared.due.Unanswered.{Unanswered}
-use Rattle.commands.specs.Batches.{IsBatchAccess, IssuesBatchAtEnd, MayServeBatch, PlacedTask, issues_of, with_serving_batch}
+use Rattle.commands.specs.Batches.{IsBatchAccess, IssuesBatchAtEnd, MayServeBatch, PlacedTask, issues_newest_first, with_serving_batch}
 use Rattle.commands.specs.Tasks.{IsTaskOf, piece_addresses_of, meaning_of, task_operation, with_serving}
 use Rattle.commands.specs.declared.ncq.Task.{Task}
 use Rattle.host_boot.specs.TakeOver.{probe_result_of}
 use Rattle.host_boot.specs.declared.ProbeResult.{ProbeResult}
 use Rattle.host_boot.specs.declared.ProbeResult.TheVariants.{Unready}
-use Rattle.port_control.specs.ServiceAccesses.{IsServiceAccess}
+use Rattle.port_control.specs.ServiceAccesses.{WritesOnlyHbaIsPxIsCiOrSact}
 use Rattle.refinement.specs.Acts.{ActsReach, DriverSlots, driver_state_of_slots}
 use Rattle.refinement.specs.Fragments.{IsDrivenBy, GainsNoMove, SparesOtherPorts}
 use Rattle.refinement.specs.Driver.{EndsInSteps, TapeBacksSteps}
@@ -38,13 +38,13 @@ use Rattle.refinement.specs.PreservedParts.{DoesNotWrite}
 use Rattle.refinement.specs.ReadySlots.{IsStoredOnPortWithStSet}
 use Rattle.refinement.specs.Relation.{port_at}
 use Rattle.refinement.specs.Slots.{Serves, client_operation_of, set_slot_state}
-use Rattle.refinement.specs.SparedBook.{KeepsLoansAndBookOnlyAdvances}
+use Rattle.refinement.specs.SparedBook.{KeepsLoansAndPendingsOnlyAdvance}
 use Rattle.request_queue.specs.BookEntries.{BookEntry, unanswered_of, issued_request, update_if_id}
 use Rattle.request_queue.specs.BookRelation.{BookRelation, EntryRelation}
 use Rattle.slots.specs.declared.SlotUse.{SlotUse}
 use Rattle.server_history.specs.Prerequisites.{PrerequisiteLaws}
 use Rattle.server_history.specs.IssuingAndAnswering.{IssuesTogether, PutsInSlot, PutsInSlots, task_of, use_for}
-use Rattle.server_history.specs.ServerState.{HasStoredCommand, InCallInvariant, SlotUseAgreesUnlessDead, MachineRelation, PortInvariant, QuarantineRelation, RevokedMarkInvariant, ServerState, mode_in, state_of, used_for, with_slot}
+use Rattle.server_history.specs.ServerState.{HasStoredCommand, InCallInvariant, SlotUseAgreesUnlessDead, MachineRelation, PortInvariant, KeptRequestsRelation, RevokedMarkInvariant, ServerState, mode_in, state_of, used_for, with_slot}
 use Rattle.server_history.proofs.plain_calls.Looks.{behind_served}
 use Rattle.server_history.proofs.plain_calls.RequestsInSlots.{BookAndSlotsInvariant, book_and_slots, put_head, put_keeps, put_ready, put_slot_placed, put_usable, puts_free, puts_keep, puts_ready, puts_settings, puts_used}
 use Rattle.server_history.proofs.state.DrivenAccesses.{driven_as}
@@ -61,7 +61,7 @@ use Rattle.server_history.proofs.state.TransferAccesses.{issuing_serves}
 -- What of `MachineRelation` says which requests may be issued.
 pub record BookAgrees (s : ServerState) (m : Machine) : Type 0 where
   pub book : BookRelation s.book m.book
-  pub kept : QuarantineRelation s.probe_results s.kept_loans m.kept
+  pub kept : KeptRequestsRelation s.probe_results s.kept_loans m.kept
   pub rows : m.rows ≡ s.grants
 
 -- the requests have these ids, each at its place, and are the port's
@@ -72,7 +72,7 @@ HaveIds port ids requests = AllZip (λ id e. (e.request.id ≡ id) × (e.request
 pub record AreTheRequests (port : Port) (mode : QueueMode) (ids : List RequestId) (tasks : List PlacedTask) (m : Machine) (requests : List Pending) : Type 0 where
   pub ids_are : HaveIds port ids requests
   pub tasks_are : AllZip (λ t e. IsTaskOf port t.slot t.task t.frames mode e) tasks requests
-  pub may : AllEnabled m (issues_of mode requests)
+  pub may : AllEnabled m (issues_newest_first mode requests)
 
 module _ (laws : PrerequisiteLaws) (s mid : ServerState) (port : Port) (id : RequestId) (t : PlacedTask) (k : BookAndSlotsInvariant s) (one : PutsInSlot port id t s mid) (m : Machine) (is : BookAgrees s m) where
   abbrev request : BookEntry
@@ -144,7 +144,7 @@ module _ (laws : PrerequisiteLaws) (port : Port) where
         record {
           ids_are = ((its_id laws s mid port id t k one m is, its_port laws s mid port id t k one m is), later.1.ids_are);
           tasks_are = (subst (λ (q : QueueMode). IsTaskOf port t.slot t.task t.frames q P) same (its_task laws s mid port id t k one m is), later.1.tasks_are);
-          may = laws.steps_and_accesses.enabled_lists_join m (issues_of mode later.0) (Issue mode P ∷ []) (tt, first) later.1.may;
+          may = laws.steps_and_accesses.enabled_lists_join m (issues_newest_first mode later.0) (Issue mode P ∷ []) (tt, first) later.1.may;
         },
       )
   requests_of_tasks mode [] (t ∷ tasks) s new k more same m is = absurd more
@@ -154,10 +154,10 @@ module _ (laws : PrerequisiteLaws) (port : Port) where
 
   -- its book is the server's
   issues_book : (mode : QueueMode) (ids : List RequestId) (tasks : List PlacedTask) (s new : ServerState) → PutsInSlots port ids tasks s new → (requests : List Pending) → HaveIds port ids requests → (m : Machine) → BookRelation s.book m.book
-      → BookRelation new.book (after m (issues_of mode requests)).book
+      → BookRelation new.book (after m (issues_newest_first mode requests)).book
   issues_book mode [] [] s new none [] are m is = subst (λ (n : ServerState). BookRelation n.book m.book) (sym none) is
   issues_book mode (id ∷ ids) (t ∷ tasks) s new (mid, one, more) (e ∷ requests) are m is =
-      subst (λ (n : Machine). BookRelation new.book n.book) (sym (laws.steps_and_accesses.after_joins m (issues_of mode requests) (Issue mode e ∷ [])))
+      subst (λ (n : Machine). BookRelation new.book n.book) (sym (laws.steps_and_accesses.after_joins m (issues_newest_first mode requests) (Issue mode e ∷ [])))
       (issues_book mode ids tasks mid new more requests are.1 (after_step m (Issue mode e))
       (subst (λ (n : ServerState). BookRelation n.book (after_step m (Issue mode e)).book) (sym one.server_is)
       (subst (λ (i : RequestId). BookRelation (map (update_if_id i issued_request) s.book) (after_step m (Issue mode e)).book) are.0.0 (laws.issue_keeps_book_relation s.book m mode e is))))
@@ -193,11 +193,11 @@ record SameButBook (old new : Machine) : Type 0 where
   pub lent : new.lent ≡ old.lent
   pub next : new.next_id ≡ old.next_id
 
-issues_leave : PrerequisiteLaws → (mode : QueueMode) (requests : List Pending) (m : Machine) → SameButBook m (after m (issues_of mode requests))
+issues_leave : PrerequisiteLaws → (mode : QueueMode) (requests : List Pending) (m : Machine) → SameButBook m (after m (issues_newest_first mode requests))
 issues_leave laws mode [] m = record { kept = refl; rows = refl; owner = refl; lent = refl; next = refl }
 issues_leave laws mode (e ∷ requests) m =
     let rest = issues_leave laws mode requests (after_step m (Issue mode e)) in
-    subst (SameButBook m) (sym (laws.steps_and_accesses.after_joins m (issues_of mode requests) (Issue mode e ∷ [])))
+    subst (SameButBook m) (sym (laws.steps_and_accesses.after_joins m (issues_newest_first mode requests) (Issue mode e ∷ [])))
     (record { kept = rest.kept; rows = rest.rows; owner = rest.owner; lent = rest.lent; next = rest.next })
 
 -- ---- they are issued
@@ -208,9 +208,9 @@ pub record AreIssuedTogether (port : Port) (ids : List RequestId) (old new : Ser
   pub ids_are : HaveIds port ids requests
   pub steps : List Step
   pub only : AllByDevice steps
-  pub may : AllEnabled m (issues_of (mode_in old port) requests ++ steps)
-  pub backed : TapeBacksSteps old.device new.device m (issues_of (mode_in old port) requests ++ steps)
-  pub stands : MachineRelation new (after m (issues_of (mode_in old port) requests ++ steps))
+  pub may : AllEnabled m (issues_newest_first (mode_in old port) requests ++ steps)
+  pub backed : TapeBacksSteps old.device new.device m (issues_newest_first (mode_in old port) requests ++ steps)
+  pub stands : MachineRelation new (after m (issues_newest_first (mode_in old port) requests ++ steps))
 
 -- it writes no PxCMD
 issuing_commands : (port : Port) (q : Port) (access : Access) → IsBatchAccess port access → DoesNotWrite (Px q Cmd) access
@@ -288,14 +288,14 @@ module _ (laws : PrerequisiteLaws) (s new : ServerState) (port : Port) (first : 
     abbrev slots_then : DriverSlots
     slots_then = with_serving_batch port tasks requests its_slots
 
-    ends : EndsInSteps (driver_state_of_slots its_slots s.device) m (issues_of (mode_in s port) requests) (driver_state_of_slots slots_then new.device)
+    ends : EndsInSteps (driver_state_of_slots its_slots s.device) m (issues_newest_first (mode_in s port) requests) (driver_state_of_slots slots_then new.device)
     ends = laws.batch_issue_is_simulated port tasks (mode_in s port) requests s.device new.device its_slots m i.issued.issues found.1.tasks_are reached is.driver_relation serves
 
-    spares : KeepsLoansAndBookOnlyAdvances m (after m ends.steps)
-    spares = laws.steps_and_accesses.device_steps_spare_book m ends.steps ends.all_steps_are_devices
+    spares : KeepsLoansAndPendingsOnlyAdvance m (after m ends.steps)
+    spares = laws.steps_and_accesses.device_steps_spare_book m ends.steps ends.all_steps_are_by_device
 
     abbrev own : List Step
-    own = issues_of (mode_in s port) requests
+    own = issues_newest_first (mode_in s port) requests
 
     leaves : SameButBook (after m ends.steps) (after m (own ++ ends.steps))
     leaves = subst (SameButBook (after m ends.steps)) (sym (laws.steps_and_accesses.after_joins m own ends.steps)) (issues_leave laws (mode_in s port) requests (after m ends.steps))
@@ -309,7 +309,7 @@ module _ (laws : PrerequisiteLaws) (s new : ServerState) (port : Port) (first : 
       driver_relation = ends.driver_relation;
       book = subst (λ (n : Machine). BookRelation i.server_with_slots.book n.book) (sym (laws.steps_and_accesses.after_joins m own ends.steps))
           (issues_book laws port (mode_in s port) all_ids tasks s i.server_with_slots i.puts requests found.1.ids_are (after m ends.steps) (book_on s.book m.book (after m ends.steps).book spares.book is.book));
-      quarantine_relation = subst (QuarantineRelation s.probe_results s.kept_loans) (sym leaves.kept) (still_kept laws s.probe_results s.kept_loans m.kept (after m ends.steps).kept spares.kept is.quarantine_relation);
+      quarantine_relation = subst (KeptRequestsRelation s.probe_results s.kept_loans) (sym leaves.kept) (still_kept laws s.probe_results s.kept_loans m.kept (after m ends.steps).kept spares.kept is.quarantine_relation);
       rows = leaves.rows ∙ spares.rows ∙ is.rows;
       owner = λ frame. ap (λ f. f frame) (leaves.owner ∙ spares.owner) ∙ is.owner frame;
       lent = λ frame. ap (λ f. f frame) (leaves.lent ∙ spares.lent) ∙ is.lent frame;
@@ -321,7 +321,7 @@ module _ (laws : PrerequisiteLaws) (s new : ServerState) (port : Port) (first : 
       requests = requests;
       ids_are = found.1.ids_are;
       steps = ends.steps;
-      only = ends.all_steps_are_devices;
+      only = ends.all_steps_are_by_device;
       may = ends.steps_are_enabled;
       backed = ends.is_backed;
       stands = subst (λ (n : ServerState). MachineRelation n (after m (own ++ ends.steps))) (sym new_is) stands;
@@ -334,8 +334,8 @@ module _ (laws : PrerequisiteLaws) (s new : ServerState) (port : Port) (first : 
       k.reached k.machine_relation.driver_relation (serves k.machine k.reached k.machine_relation) q o own_op
       (not_own (probe_result_of s.probe_results q) (used_for s.slots q 0) (k.machine_relation.uses q 0) o other (k.machine_relation.slot_uses_agree_unless_dead q 0))
 
-  served : IsDrivenBy IsServiceAccess s.device new.device
-  served = driven_as (IsBatchAccess port) IsServiceAccess s.device new.device (issuing_serves port) i.issued.issues.driven
+  served : IsDrivenBy WritesOnlyHbaIsPxIsCiOrSact s.device new.device
+  served = driven_as (IsBatchAccess port) WritesOnlyHbaIsPxIsCiOrSact s.device new.device (issuing_serves port) i.issued.issues.driven
 
   -- the acts that do it
   comes : ActsReach i.issued.issues.driven.accesses (driver_state_of_slots (its_slots k.machine k.reached k.machine_relation) s.device) k.machine (driver_state_of_slots (slots_then k.machine k.reached k.machine_relation) new.device)
@@ -390,5 +390,5 @@ module _ (laws : PrerequisiteLaws) (s new : ServerState) (port : Port) (first : 
       (kept_then s new.device s.grants s.table i.server_with_slots.slots i.server_with_slots.book s.last_id k k.rows_are_valid
       (laws.look_laws.service_keeps_adapter_on s.device new.device k.adapter_is_on served) (laws.look_laws.service_keeps_adapter s.device new.device served) behind refl
       book_then.four book_then.slots book_then.kinds commands_then book_then.alone book_then.accepted book_then.ordered book_then.marked book_then.handed_out book_then.ready
-      (after k.machine (issues_of (mode_in s port) x.requests ++ x.steps)) (laws.steps_and_accesses.reachable_stays_reachable k.machine (issues_of (mode_in s port) x.requests ++ x.steps) k.reached x.may)
-      (subst (λ (n : ServerState). MachineRelation n (after k.machine (issues_of (mode_in s port) x.requests ++ x.steps))) new_is x.stands))
+      (after k.machine (issues_newest_first (mode_in s port) x.requests ++ x.steps)) (laws.steps_and_accesses.reachable_stays_reachable k.machine (issues_newest_first (mode_in s port) x.requests ++ x.steps) k.reached x.may)
+      (subst (λ (n : ServerState). MachineRelation n (after k.machine (issues_newest_first (mode_in s port) x.requests ++ x.steps))) new_is x.stands))

@@ -13,7 +13,7 @@ use Rattle.adapter.specs.declared.command.Operation.{Operation}
 use Rattle.adapter.specs.declared.command.Operation.TheVariants.{Identify}
 use Rattle.refinement.specs.Relation.{port_at}
 use Rattle.refinement.specs.Fragments.{AnySlotStates, IsDrivenBy, IsSimulated, SparesOtherPorts, OnlyDeviceChangesPort, NoneWrites, GainsNoMove}
-use Rattle.refinement.specs.Halting.{HaltOfTakenIfSt}
+use Rattle.refinement.specs.Halting.{NotLogOnlyAndQueuedHaltHasTakenCommandIfSt}
 use Rattle.refinement.specs.Slots.{IsOver, SlotStates, client_operation_of}
 use Rattle.server_history.proofs.state.FollowedAccesses.{followed_adds, followed_silent}
 use Rattle.server_history.proofs.state.DrivenAccesses.{driven_as, kept_over as accesses_keep}
@@ -28,8 +28,8 @@ use Rattle.server_history.proofs.state.PortSlots.{CommandsAreOver, busy_used, no
 use Rattle.server_history.proofs.state.StoredCommands.{service_leaves_stored}
 use Rattle.refinement.specs.Acts.{driver_state_of_slots}
 use Rattle.std.specs.List.{All}
-use Rattle.port_control.specs.PortEvents.{IsEventAccess}
-use Rattle.port_control.specs.ServiceAccesses.{IsServiceAccess}
+use Rattle.port_control.specs.PortEvents.{IsPxisSstsOrOwnIsAccess}
+use Rattle.port_control.specs.ServiceAccesses.{WritesOnlyHbaIsPxIsCiOrSact}
 use Rattle.commands.specs.Masks.{ReadsDone, ReadsCiOrSact}
 use Rattle.hba_regs.specs.Bits.{bit}
 use Rattle.server_history.specs.Prerequisites.{PrerequisiteLaws}
@@ -39,9 +39,9 @@ use Rattle.server_history.proofs.state.TransferAccesses.{finding_serves}
 
 -- Accesses that serve a ready port leave what stands behind each, where the others are left to the device, no page comes but on
 -- dead ones, and halts are of taken commands still.
-pub behind_served : PrerequisiteLaws → (s : ServerState) (new : Device) (port : Port) → InCallInvariant s → state_of (probe_result_of s.probe_results port.0) ≡ ReadyState → IsDrivenBy IsServiceAccess s.device new
+pub behind_served : PrerequisiteLaws → (s : ServerState) (new : Device) (port : Port) → InCallInvariant s → state_of (probe_result_of s.probe_results port.0) ≡ ReadyState → IsDrivenBy WritesOnlyHbaIsPxIsCiOrSact s.device new
     → ((q : ℕ) → q < 4 → q ≢ port.0 → OnlyDeviceChangesPort (s.device.port q) (new.port q)) → ((q : ℕ) → probe_result_of s.probe_results q ≢ Unready Dead → GainsNoMove q Identify s.device new)
-    → ((q : ℕ) → HaltOfTakenIfSt (s.device.port q) → HaltOfTakenIfSt (new.port q)) → (q : ℕ) → q < 4 → PortInvariant s.wanted s.probe_results q new
+    → ((q : ℕ) → NotLogOnlyAndQueuedHaltHasTakenCommandIfSt (s.device.port q) → NotLogOnlyAndQueuedHaltHasTakenCommandIfSt (new.port q)) → (q : ℕ) → q < 4 → PortInvariant s.wanted s.probe_results q new
 behind_served laws s new port k ready driven left silent halts q low =
     port_on laws s.wanted s.probe_results q s.device new (laws.look_laws.service_keeps_adapter s.device new driven) k.adapter_is_on driven
     (λ unready. left q low (λ same. unready (ap (λ (n : ℕ). state_of (probe_result_of s.probe_results n)) same ∙ ready))) (silent q) (halts q) (k.port_invariant q low)
@@ -49,7 +49,7 @@ behind_served laws s new port k ready driven left silent halts q low =
 -- ---- the server
 
 -- a look writes of a port's registers PxIS alone
-pub looking_spares : (port q : Port) (r : PortReg) → (Is ≡ r → ⊥) → NoneWrites (IsEventAccess port) (Px q r)
+pub looking_spares : (port q : Port) (r : PortReg) → (Is ≡ r → ⊥) → NoneWrites (IsPxisSstsOrOwnIsAccess port) (Px q r)
 looking_spares port q r other (Writing reg v) (inl e) = λ is. other (let x : Px port Is ≡ Px q r = sym e ∙ is in cc)
 looking_spares port q r other (Writing reg v) (inr e) = λ is. let x : _ ≡ Px q r = sym e.0 ∙ is in absurd cc
 looking_spares port q r other (Reading reg v) here = tt
@@ -65,11 +65,11 @@ module _ (s : ServerState) (new : Device) (port : Port) (k : InCallInvariant s) 
       (not_own (probe_result_of s.probe_results q) (used_for s.slots q 0) (k.machine_relation.uses q 0) o other (k.machine_relation.slot_uses_agree_unless_dead q 0))
 
   -- followed accesses that serve the port, and write no PxCI, where what stands behind each port goes on
-  kept_by : PrerequisiteLaws → (May : Access → Type 0) → ((access : Access) → May access → IsServiceAccess access) → ((access : Access) (at : ℕ) (bytes : List ℕ) → May access → access ≡ Storing at bytes → ⊥) → ((q : Port) → NoneWrites May (Px q Ci) × NoneWrites May (Px q Sact)) → ((q : Port) → NoneWrites May (Px q Cmd))
+  kept_by : PrerequisiteLaws → (May : Access → Type 0) → ((access : Access) → May access → WritesOnlyHbaIsPxIsCiOrSact access) → ((access : Access) (at : ℕ) (bytes : List ℕ) → May access → access ≡ Storing at bytes → ⊥) → ((q : Port) → NoneWrites May (Px q Ci) × NoneWrites May (Px q Sact)) → ((q : Port) → NoneWrites May (Px q Cmd))
       → ((q : ℕ) → q < 4 → PortInvariant s.wanted s.probe_results q new) → IsSimulated May AnySlotStates s.device new → InCallInvariant (record s { device = new })
   kept_by below May service storeless none commandless behind followed =
       let uses : SlotStates = k.machine_relation.uses in
-      let driven : IsDrivenBy IsServiceAccess s.device new = driven_as May IsServiceAccess s.device new service followed.is_driven in
+      let driven : IsDrivenBy WritesOnlyHbaIsPxIsCiOrSact s.device new = driven_as May WritesOnlyHbaIsPxIsCiOrSact s.device new service followed.is_driven in
       let x = (followed_adds below followed uses k.machine_relation.awaiting_disposition tt).simulates k.machine k.reached k.machine_relation.driver_relation in
       kept_on below s new k (below.look_laws.service_keeps_adapter_on s.device new k.adapter_is_on driven) (below.look_laws.service_keeps_adapter s.device new driven)
       behind
@@ -87,7 +87,7 @@ module _ (s : ServerState) (new : Device) (port : Port) (k : InCallInvariant s) 
         is_queued_as_given = h.is_queued_as_given;
       })
       x.0 x.1
-      (machine_on below s new k.machine x.0 k.machine_relation x.3.all_steps_are_devices x.2)
+      (machine_on below s new k.machine x.0 k.machine_relation x.3.all_steps_are_by_device x.2)
 
   finding_spares : (q : Port) (r : PortReg) → NoneWrites (ReadsCiOrSact port) (Px q r)
   finding_spares q r (Writing reg v) here = absurd here
@@ -95,33 +95,33 @@ module _ (s : ServerState) (new : Device) (port : Port) (k : InCallInvariant s) 
   finding_spares q r (Loading at bytes) here = tt
   finding_spares q r (Storing at bytes) here = tt
 
-  looking_stores : (access : Access) (at : ℕ) (bytes : List ℕ) → IsEventAccess port access → access ≡ Storing at bytes → ⊥
-  looking_stores access at bytes is e = subst (IsEventAccess port) e is
+  looking_stores : (access : Access) (at : ℕ) (bytes : List ℕ) → IsPxisSstsOrOwnIsAccess port access → access ≡ Storing at bytes → ⊥
+  looking_stores access at bytes is e = subst (IsPxisSstsOrOwnIsAccess port) e is
 
   finding_stores : (access : Access) (at : ℕ) (bytes : List ℕ) → ReadsCiOrSact port access → access ≡ Storing at bytes → ⊥
   finding_stores access at bytes is e = subst (ReadsCiOrSact port) e is
 
-  pub looking_silent : PrerequisiteLaws → IsSimulated (IsEventAccess port) AnySlotStates s.device new → (q : ℕ) (o : Operation) → client_operation_of o ≡ None → probe_result_of s.probe_results q ≢ Unready Dead → GainsNoMove q o s.device new
-  looking_silent laws followed = silent_over laws (IsEventAccess port) (λ q. (looking_spares port q Ci (λ e. absurd cc), looking_spares port q Sact (λ e. absurd cc))) followed
+  pub looking_silent : PrerequisiteLaws → IsSimulated (IsPxisSstsOrOwnIsAccess port) AnySlotStates s.device new → (q : ℕ) (o : Operation) → client_operation_of o ≡ None → probe_result_of s.probe_results q ≢ Unready Dead → GainsNoMove q o s.device new
+  looking_silent laws followed = silent_over laws (IsPxisSstsOrOwnIsAccess port) (λ q. (looking_spares port q Ci (λ e. absurd cc), looking_spares port q Sact (λ e. absurd cc))) followed
 
   -- a look, whatever the port is, where what stands behind each port goes on
-  pub looked_kept : PrerequisiteLaws → IsSimulated (IsEventAccess port) AnySlotStates s.device new → ((q : ℕ) → q < 4 → PortInvariant s.wanted s.probe_results q new) → InCallInvariant (record s { device = new })
+  pub looked_kept : PrerequisiteLaws → IsSimulated (IsPxisSstsOrOwnIsAccess port) AnySlotStates s.device new → ((q : ℕ) → q < 4 → PortInvariant s.wanted s.probe_results q new) → InCallInvariant (record s { device = new })
   looked_kept laws followed behind =
-      kept_by laws (IsEventAccess port) (laws.look_laws.look_access_is_service_access port) looking_stores (λ q. (looking_spares port q Ci (λ e. absurd cc), looking_spares port q Sact (λ e. absurd cc))) (λ q. looking_spares port q Cmd (λ e. absurd cc)) behind followed
+      kept_by laws (IsPxisSstsOrOwnIsAccess port) (laws.look_laws.look_access_is_service_access port) looking_stores (λ q. (looking_spares port q Ci (λ e. absurd cc), looking_spares port q Sact (λ e. absurd cc))) (λ q. looking_spares port q Cmd (λ e. absurd cc)) behind followed
 
 module _ (s : ServerState) (new : Device) (port : Port) (k : InCallInvariant s) (ready : state_of (probe_result_of s.probe_results port.0) ≡ ReadyState) where
-  kept_over : PrerequisiteLaws → (May : Access → Type 0) → ((access : Access) → May access → IsServiceAccess access) → ((access : Access) (at : ℕ) (bytes : List ℕ) → May access → access ≡ Storing at bytes → ⊥) → ((q : Port) → NoneWrites May (Px q Ci) × NoneWrites May (Px q Sact)) → ((q : Port) → NoneWrites May (Px q Cmd))
+  kept_over : PrerequisiteLaws → (May : Access → Type 0) → ((access : Access) → May access → WritesOnlyHbaIsPxIsCiOrSact access) → ((access : Access) (at : ℕ) (bytes : List ℕ) → May access → access ≡ Storing at bytes → ⊥) → ((q : Port) → NoneWrites May (Px q Ci) × NoneWrites May (Px q Sact)) → ((q : Port) → NoneWrites May (Px q Cmd))
       → ((q : ℕ) → q < 4 → q ≢ port.0 → OnlyDeviceChangesPort (s.device.port q) (new.port q)) → IsSimulated May AnySlotStates s.device new → InCallInvariant (record s { device = new })
   kept_over below May service storeless none commandless left followed =
       kept_by s new port k below May service storeless none commandless
-      (behind_served below s new port k ready (driven_as May IsServiceAccess s.device new service followed.is_driven) left
+      (behind_served below s new port k ready (driven_as May WritesOnlyHbaIsPxIsCiOrSact s.device new service followed.is_driven) left
       (λ q other. silent_over s new port k below May none followed q Identify refl other)
       (λ q. followed_halts below (port_at q) May s k new followed (commandless (port_at q))))
       followed
 
-  pub looking_kept : PrerequisiteLaws → IsSimulated (IsEventAccess port) AnySlotStates s.device new → InCallInvariant (record s { device = new })
+  pub looking_kept : PrerequisiteLaws → IsSimulated (IsPxisSstsOrOwnIsAccess port) AnySlotStates s.device new → InCallInvariant (record s { device = new })
   looking_kept laws followed =
-      kept_over laws (IsEventAccess port) (laws.look_laws.look_access_is_service_access port) (looking_stores s new port k) (λ q. (looking_spares port q Ci (λ e. absurd cc), looking_spares port q Sact (λ e. absurd cc))) (λ q. looking_spares port q Cmd (λ e. absurd cc)) (λ q low other. laws.port_event_laws.other_ports_are_left port q s.device new other k.adapter_is_on (driven_as (IsEventAccess port) (SparesOtherPorts port) s.device new (laws.look_laws.look_access_is_of_port port) followed.is_driven)) followed
+      kept_over laws (IsPxisSstsOrOwnIsAccess port) (laws.look_laws.look_access_is_service_access port) (looking_stores s new port k) (λ q. (looking_spares port q Ci (λ e. absurd cc), looking_spares port q Sact (λ e. absurd cc))) (λ q. looking_spares port q Cmd (λ e. absurd cc)) (λ q low other. laws.port_event_laws.other_ports_are_left port q s.device new other k.adapter_is_on (driven_as (IsPxisSstsOrOwnIsAccess port) (SparesOtherPorts port) s.device new (laws.look_laws.look_access_is_of_port port) followed.is_driven)) followed
 
   module _ (laws : PrerequisiteLaws) (mask done : ℕ) (finds : ReadsDone port mask done s.device new) where
     pub finding_kept : InCallInvariant (record s { device = new })
@@ -147,19 +147,19 @@ module _ (s : ServerState) (new : Device) (port : Port) (k : InCallInvariant s) 
 -- ---- commands that are over
 
 -- a look writes no PxCI
-no_issue : (port : Port) (access : Access) → IsEventAccess port access → (v : ℕ) → access ≡ Writing (Px port Ci) v → ⊥
-no_issue port access is v same = by (subst (IsEventAccess port) same is)
+no_issue : (port : Port) (access : Access) → IsPxisSstsOrOwnIsAccess port access → (v : ℕ) → access ≡ Writing (Px port Ci) v → ⊥
+no_issue port access is v same = by (subst (IsPxisSstsOrOwnIsAccess port) same is)
   where
-    by : IsEventAccess port (Writing (Px port Ci) v) → ⊥
+    by : IsPxisSstsOrOwnIsAccess port (Writing (Px port Ci) v) → ⊥
     by (inl e) = let z : Px port Ci ≡ Px port Is = e in absurd cc
     by (inr e) = absurd (let z = e.0 in cc)
 
-pub still_over : PrerequisiteLaws → (port : Port) (slot : ℕ) (old new : Device) → IsDrivenBy (IsEventAccess port) old new → IsOver (old.port port.0) slot → IsOver (new.port port.0) slot
-still_over laws port slot old new driven = accesses_keep (λ d. IsOver (d.port port.0) slot) (IsEventAccess port)
+pub still_over : PrerequisiteLaws → (port : Port) (slot : ℕ) (old new : Device) → IsDrivenBy (IsPxisSstsOrOwnIsAccess port) old new → IsOver (old.port port.0) slot → IsOver (new.port port.0) slot
+still_over laws port slot old new driven = accesses_keep (λ d. IsOver (d.port port.0) slot) (IsPxisSstsOrOwnIsAccess port)
     (λ access a b is does. laws.slots.over_stays_unless_ci_bit_is_written port slot access a b (λ v same. absurd (no_issue port access is v same)) does) old new driven
 
 -- PxCI and PxSACT, which are read after a look, show the bits of a slot clear that had no command before
-pub both_clear : PrerequisiteLaws → (port : Port) (slot issued active : ℕ) (old seen read new : Device) → slot < 32 → IsDrivenBy (IsEventAccess port) old seen → Reads (Px port Ci) issued seen read
+pub both_clear : PrerequisiteLaws → (port : Port) (slot issued active : ℕ) (old seen read new : Device) → slot < 32 → IsDrivenBy (IsPxisSstsOrOwnIsAccess port) old seen → Reads (Px port Ci) issued seen read
     → Reads (Px port Sact) active read new → IsOver (old.port port.0) slot → (old.port port.0).sact slot ≡ false → (bit issued slot ≡ false) × (bit active slot ≡ false)
 both_clear laws port slot issued active old seen read new small looks reads shows over clear =
     let unarmed = laws.port_event_laws.reads_keep_sact_clear port.0 slot (Px port Ci) issued seen read reads (laws.look_laws.look_keeps_sact_clear port port.0 slot old seen looks clear) in (

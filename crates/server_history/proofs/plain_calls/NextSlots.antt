@@ -7,7 +7,7 @@ use Rattle.ata_types.specs.declared.Port.{Port}
 use Rattle.ata_types.specs.declared.PortState.TheVariants.{Ready as ReadyState}
 use Rattle.ata_types.specs.declared.request.RequestId.{RequestId}
 use Rattle.block_machine.specs.DueRequests.{IsDue, is_plain}
-use Rattle.command_table.specs.TableStores.{IsUnused}
+use Rattle.command_table.specs.TableStores.{IsSlotStateFree}
 use Rattle.commands.specs.Batches.{PlacedTask}
 use Rattle.host_boot.specs.TakeOver.{probe_result_of}
 use Rattle.refinement.specs.Fragments.{SomeMachineAgreesWith}
@@ -117,7 +117,7 @@ module _ (laws : PrerequisiteLaws) (s : ServerState) (request : BookEntry) (k : 
   due_never_full = next_free laws s s its_port [] [] k refl request here refl due
 
   pub due_may : (slot : ℕ) → IsLowestFree (slots_at s.slots its_port.0) slot
-      → (slot < (mode_in s its_port).usable_slots) × (slot < 32) × (slot ≤ s.device.cap / 256 % 32) × (is_plain (mode_in s its_port) request.request.op ≡ true → slot ≡ 0) × SomeMachineAgreesWith (IsUnused its_port.0 slot) s.device
+      → (slot < (mode_in s its_port).usable_slots) × (slot < 32) × (slot ≤ s.device.cap / 256 % 32) × (is_plain (mode_in s its_port) request.request.op ≡ true → slot ≡ 0) × SomeMachineAgreesWith (IsSlotStateFree its_port.0 slot) s.device
   due_may slot lowest = (
     may.slot_is_usable,
     may.slot_is_below_32,

@@ -13,7 +13,7 @@ use Rattle.adapter.specs.Access.{Access, Does, Loads, Stores}
 use Rattle.adapter.specs.Access.Access.{Loading, Reading, Storing, Writing}
 use Rattle.adapter.specs.AskedSteps.{DoesOrFailsStep}
 use Rattle.adapter.specs.Device.{Device}
-use Rattle.adapter.specs.Rules.{IsUnowned, IsStable}
+use Rattle.adapter.specs.Rules.{IsInMemoryNotOwnedByDevice, IsStable}
 use Rattle.adapter.specs.Steps.{Steps}
 use Rattle.adapter.specs.declared.access.DeviceStep.{DeviceStep}
 use Rattle.adapter.specs.declared.command.Operation.TheVariants.{Identify}
@@ -22,7 +22,7 @@ use Rattle.refinement.specs.Driver.{EndsInOneStep}
 use Rattle.refinement.specs.PreservedParts.{SameAdapter, DoesNotWrite}
 use Rattle.hba_regs.specs.declared.reg.PortReg.TheVariants.{Cmd}
 use Rattle.hba_regs.specs.declared.reg.Reg.TheVariants.{Ghc, Px}
-use Rattle.refinement.specs.SparedBook.{KeepsLoansAndBookOnlyAdvances}
+use Rattle.refinement.specs.SparedBook.{KeepsLoansAndPendingsOnlyAdvance}
 use Rattle.server_history.proofs.state.DrivenAccesses.{by_one}
 use Rattle.block_machine.specs.Events.{AbstractCall, Submit, StoreAt, LoadAt, Service, Tick, Reset, RevokeOf, State, AllEnabled, StepDevice as Told, AbstractCallResult, Submitted, PortStateShown, Stepped, ResultMatchesSteps, AbstractState, WasRevoked}
 use Rattle.block_machine.specs.Rules.{HasRow}
@@ -39,12 +39,12 @@ use Rattle.host_boot.specs.TakeOver.{probe_result_of}
 use Rattle.host_boot.specs.declared.ProbeResult.TheVariants.{Unready}
 use Rattle.ata_types.specs.declared.PortState.TheVariants.{Dead}
 use Rattle.ata_types.specs.declared.memory.TheConstants.{DRIVER_BYTES, DRIVER_FRAMES}
-use Rattle.port_control.specs.ServiceAccesses.{IsServiceAccess}
+use Rattle.port_control.specs.ServiceAccesses.{WritesOnlyHbaIsPxIsCiOrSact}
 use Rattle.server_history.specs.Prerequisites.{PrerequisiteLaws}
 use Rattle.driver_history.specs.EvidenceHandling.{OnlyFailedPortsRequeueIfService}
 use Rattle.driver_history.specs.Histories.{ExplainsAccesses, IssuesAllDue, IssuesDue, LosesNoPortError, PortCorresponds}
-use Rattle.driver_history.specs.AccessTrace.{ClearsNoError, WritesNeitherCmdNorSctl}
-use Rattle.server_history.specs.Histories.{ExtendsSettled, ExtendsHistory, LeadsToServer, ServerRelation, load_result, store_result}
+use Rattle.driver_history.specs.AccessTrace.{WritesOneToNoTroubleBit, WritesNeitherCmdNorSctl}
+use Rattle.server_history.specs.Histories.{ExtendsToSettled, ExtendsHistory, LeadsToServer, ServerRelation, load_result, store_result}
 use Rattle.server_history.specs.ServerState.{HasStoredCommand, ServerState, InCallInvariant, MachineRelation, PortInvariant, SettledInvariant, OwnedFramesAreClientsAndInMemory, mode_in, ports_of, admission_context, used_for}
 use Rattle.slots.specs.declared.SlotUse.{SlotUse}
 use Rattle.refinement.specs.Relation.{port_at}
@@ -98,7 +98,7 @@ bytes_spare_commands port (Storing at bytes) its = tt
 bytes_spare_commands port (Reading r v) its = absurd its
 bytes_spare_commands port (Writing r v) its = absurd its
 
-bytes_clear_none : (port : Port) (access : Access) → IsOfBytes access → ClearsNoError port access
+bytes_clear_none : (port : Port) (access : Access) → IsOfBytes access → WritesOneToNoTroubleBit port access
 bytes_clear_none port (Loading at bytes) its = tt
 bytes_clear_none port (Storing at bytes) its = tt
 bytes_clear_none port (Reading r v) its = absurd its
@@ -134,7 +134,7 @@ module _ (laws : PrerequisiteLaws) where
   load_ends s new client frame offset bytes opens loads m r is =
       let x : EndsInOneStep (driver_state_of is.uses is.awaiting_disposition s.device) m (Load client frame offset bytes) (driver_state_of is.uses is.awaiting_disposition new) =
       laws.client_loads (driver_state_of is.uses is.awaiting_disposition s.device) m client frame offset bytes new r is.driver_relation (as_told s m is (λ owner lent. MayAccessFrame owner lent client frame offset (length bytes)) opens) loads in
-      (x, machine_with laws s new m (after m (Load client frame offset bytes ∷ x.steps)) is (laws.steps_and_accesses.device_steps_spare_book m x.steps x.all_steps_are_devices) x.driver_relation)
+      (x, machine_with laws s new m (after m (Load client frame offset bytes ∷ x.steps)) is (laws.steps_and_accesses.device_steps_spare_book m x.steps x.all_steps_are_by_device) x.driver_relation)
 
   pub store_ends : (s : ServerState) (new : Device) (client : ClientId) (frame : Frame) (offset : ℕ) (bytes : List ℕ) → MayAccessFrame (owner_of s.table) (lent_to s.table) client frame offset (length bytes)
       → Stores (4096 * frame.0 + offset) bytes s.device new → (m : Machine) → IsReachable m → (is : MachineRelation s m)
@@ -142,7 +142,7 @@ module _ (laws : PrerequisiteLaws) where
   store_ends s new client frame offset bytes opens stores m r is =
       let x : EndsInOneStep (driver_state_of is.uses is.awaiting_disposition s.device) m (Store client frame offset bytes) (driver_state_of is.uses is.awaiting_disposition new) =
       laws.client_stores (driver_state_of is.uses is.awaiting_disposition s.device) m client frame offset bytes new r is.driver_relation (as_told s m is (λ owner lent. MayAccessFrame owner lent client frame offset (length bytes)) opens) stores in
-      let spares : KeepsLoansAndBookOnlyAdvances m (after m x.steps) = laws.steps_and_accesses.device_steps_spare_book m x.steps x.all_steps_are_devices in (
+      let spares : KeepsLoansAndPendingsOnlyAdvance m (after m x.steps) = laws.steps_and_accesses.device_steps_spare_book m x.steps x.all_steps_are_by_device in (
         x,
         machine_with laws s new m (after m (Store client frame offset bytes ∷ x.steps)) is
             (record { rows = spares.rows; owner = spares.owner; lent = spares.lent; next_id = spares.next_id; book = spares.book; kept = spares.kept }) x.driver_relation,
@@ -231,9 +231,9 @@ module _ (laws : PrerequisiteLaws) where
         let m = at.machine_stands_for_it in
         let x = (laws.steps_and_accesses.device_steps_are_simulated (driver_state_of m.uses m.awaiting_disposition s.device) new moves).simulates old.abstract.machine (reached laws first past s leads) m.driver_relation in
         let steps : List Step = x.0 in
-        lead_by laws first past s then_is (Told step) (Stepped true) steps refl refl leads goes.holds x.1 (devices_belong (Told step) (ports_of s) steps x.3.all_steps_are_devices) (devices_last steps x.3.all_steps_are_devices)
-        (devices_lawful old.abstract no_evidence (ports_of s) steps x.3.all_steps_are_devices)
-        (x.3.all_steps_are_devices, ports_same old.abstract.ports (ports_of s) at.ports_are)
+        lead_by laws first past s then_is (Told step) (Stepped true) steps refl refl leads goes.holds x.1 (devices_belong (Told step) (ports_of s) steps x.3.all_steps_are_by_device) (devices_last steps x.3.all_steps_are_by_device)
+        (devices_lawful old.abstract no_evidence (ports_of s) steps x.3.all_steps_are_by_device)
+        (x.3.all_steps_are_by_device, ports_same old.abstract.ports (ports_of s) at.ports_are)
         tt
         []
         (refl, asked)
@@ -241,7 +241,7 @@ module _ (laws : PrerequisiteLaws) where
         (λ port. tt)
         (λ port. record { finds_done = tt; lone_plain_faults_are_told_unless_dead = tt; probes_disk = tt; boots_anew = tt; loses_no_error = goes.port_error old.abstract at.ports_are port; runs_well_anew = λ i. absurd (uninterrupted s.device old.abstract.ports port i); handles_evidence = uninterrupted s.device old.abstract.ports port })
         x.3.is_backed
-        (machine_on laws s new old.abstract.machine steps m x.3.all_steps_are_devices x.2)
+        (machine_on laws s new old.abstract.machine steps m x.3.all_steps_are_by_device x.2)
 
     module _ (client : ClientId) (frame : Frame) (offset : ℕ) (bytes : List ℕ) (opens : MayAccessFrame (owner_of s.table) (lent_to s.table) client frame offset (length bytes)) where
       pub load_event : Loads (4096 * frame.0 + offset) bytes s.device new → ExtendsHistory s (record s { device = new }) (LoadAt client frame offset (length bytes)) (load_result (Ok tt) bytes)
@@ -250,10 +250,10 @@ module _ (laws : PrerequisiteLaws) where
           let at : ServerRelation old s = leads.state_is_at_history_end in
           let x = load_ends s new client frame offset bytes opens loads old.abstract.machine (reached laws first past s leads) at.machine_stands_for_it in
           lead_by laws first past s then_is (LoadAt client frame offset (length bytes)) (load_result (Ok tt) bytes) (Load client frame offset bytes ∷ x.0.steps) refl refl leads goes.holds
-          x.0.steps_are_enabled (devices_belong {D = DeviceStep} (LoadAt client frame offset (length bytes)) (ports_of s) x.0.steps x.0.all_steps_are_devices, inr (refl, refl, refl, refl))
-          (devices_last x.0.steps x.0.all_steps_are_devices, λ id h i. false≢true h)
-          (devices_lawful old.abstract no_evidence (ports_of s) x.0.steps x.0.all_steps_are_devices)
-          (ports_same old.abstract.ports (ports_of s) at.ports_are, as_told s old.abstract.machine at.machine_stands_for_it (λ owner lent. MayAccessFrame owner lent client frame offset (length bytes)) opens, ap (λ (rest : List (List ℕ)). bytes ∷ rest) (devices_transfer x.0.steps x.0.all_steps_are_devices))
+          x.0.steps_are_enabled (devices_belong {D = DeviceStep} (LoadAt client frame offset (length bytes)) (ports_of s) x.0.steps x.0.all_steps_are_by_device, inr (refl, refl, refl, refl))
+          (devices_last x.0.steps x.0.all_steps_are_by_device, λ id h i. false≢true h)
+          (devices_lawful old.abstract no_evidence (ports_of s) x.0.steps x.0.all_steps_are_by_device)
+          (ports_same old.abstract.ports (ports_of s) at.ports_are, as_told s old.abstract.machine at.machine_stands_for_it (λ owner lent. MayAccessFrame owner lent client frame offset (length bytes)) opens, ap (λ (rest : List (List ℕ)). bytes ∷ rest) (devices_transfer x.0.steps x.0.all_steps_are_by_device))
           tt
           (Loading (4096 * frame.0 + offset) bytes ∷ [])
           ((new, loads, refl), refl)
@@ -268,10 +268,10 @@ module _ (laws : PrerequisiteLaws) where
           let at : ServerRelation old s = leads.state_is_at_history_end in
           let x = store_ends s new client frame offset bytes opens stores old.abstract.machine (reached laws first past s leads) at.machine_stands_for_it in
           lead_by laws first past s then_is (StoreAt client frame offset bytes) (store_result (Ok tt)) (Store client frame offset bytes ∷ x.0.steps) refl refl leads goes.holds
-          x.0.steps_are_enabled (devices_belong {D = DeviceStep} (StoreAt client frame offset bytes) (ports_of s) x.0.steps x.0.all_steps_are_devices, inr (refl, refl, refl, refl))
-          (devices_last x.0.steps x.0.all_steps_are_devices, λ id h i. false≢true h)
-          (devices_lawful old.abstract no_evidence (ports_of s) x.0.steps x.0.all_steps_are_devices)
-          (ports_same old.abstract.ports (ports_of s) at.ports_are, as_told s old.abstract.machine at.machine_stands_for_it (λ owner lent. MayAccessFrame owner lent client frame offset (length bytes)) opens, ap (λ (rest : List (List ℕ)). bytes ∷ rest) (devices_transfer x.0.steps x.0.all_steps_are_devices))
+          x.0.steps_are_enabled (devices_belong {D = DeviceStep} (StoreAt client frame offset bytes) (ports_of s) x.0.steps x.0.all_steps_are_by_device, inr (refl, refl, refl, refl))
+          (devices_last x.0.steps x.0.all_steps_are_by_device, λ id h i. false≢true h)
+          (devices_lawful old.abstract no_evidence (ports_of s) x.0.steps x.0.all_steps_are_by_device)
+          (ports_same old.abstract.ports (ports_of s) at.ports_are, as_told s old.abstract.machine at.machine_stands_for_it (λ owner lent. MayAccessFrame owner lent client frame offset (length bytes)) opens, ap (λ (rest : List (List ℕ)). bytes ∷ rest) (devices_transfer x.0.steps x.0.all_steps_are_by_device))
           tt
           (Storing (4096 * frame.0 + offset) bytes ∷ [])
           ((new, stores, refl), refl)
@@ -287,9 +287,9 @@ module _ (laws : PrerequisiteLaws) where
   open_owned = laws.accessible_frame_is_owned
 
   pub open_free : (s : ServerState) (client : ClientId) (frame : Frame) (offset count : ℕ) → OwnedFramesAreClientsAndInMemory s.table s.device.memory_size → (m : Machine) → IsReachable m → MachineRelation s m
-      → MayAccessFrame (owner_of s.table) (lent_to s.table) client frame offset count → IsStable (IsUnowned (4096 * frame.0 + offset) count) s.device
+      → MayAccessFrame (owner_of s.table) (lent_to s.table) client frame offset count → IsStable (IsInMemoryNotOwnedByDevice (4096 * frame.0 + offset) count) s.device
   open_free s client frame offset count owners m was is opens =
-      laws.accessible_bytes_are_unowned is.uses m s.device was is.driver_relation.state_relation client frame offset count (owners frame client (open_owned (owner_of s.table) (lent_to s.table) client frame offset count opens)).1
+      laws.device_owns_no_accessible_bytes is.uses m s.device was is.driver_relation.state_relation client frame offset count (owners frame client (open_owned (owner_of s.table) (lent_to s.table) client frame offset count opens)).1
       (as_told s m is (λ owner lent. MayAccessFrame owner lent client frame offset count) opens)
 
 -- ---- a server whose adapter is on
@@ -298,20 +298,20 @@ module _ (laws : PrerequisiteLaws) where
   -- ---- trouble that isn't lost
 
   untroubled : (s : ServerState) → InCallInvariant s → (m : AbstractState) (port : Port) → LosesNoPortError (told_by s.device m.ports) (still s m) (ports_of s) s.device port
-  untroubled s k m port = laws.calls.ordinary_accesses_lose_no_error port (still s m) s.device [] (told_by s.device m.ports) (ports_of s) k.adapter_is_on refl (All-nil (DoesNotWrite Ghc)) (All-nil (ClearsNoError port))
+  untroubled s k m port = laws.calls.ordinary_accesses_lose_no_error port (still s m) s.device [] (told_by s.device m.ports) (ports_of s) k.adapter_is_on refl (All-nil (DoesNotWrite Ghc)) (All-nil (WritesOneToNoTroubleBit port))
 
   one_untroubled : (s : ServerState) → InCallInvariant s → (new : Device) (access : Access) → IsOfBytes access → Does access s.device new → (m : AbstractState) (port : Port)
       → LosesNoPortError (told_by s.device m.ports) (still s m) (ports_of s) new port
   one_untroubled s k new access its does m port =
       laws.calls.ordinary_accesses_lose_no_error port (still s m) new (access ∷ []) (told_by s.device m.ports) (ports_of s) k.adapter_is_on (new, does, refl)
       (All-cons (DoesNotWrite Ghc) access [] (bytes_spare_host access its) (All-nil (DoesNotWrite Ghc)))
-      (All-cons (ClearsNoError port) access [] (bytes_clear_none port access its) (All-nil (ClearsNoError port)))
+      (All-cons (WritesOneToNoTroubleBit port) access [] (bytes_clear_none port access its) (All-nil (WritesOneToNoTroubleBit port)))
 
   -- ---- accesses of bytes
 
   module _ (s : ServerState) (k : InCallInvariant s) (new : Device) (access : Access) (its : IsOfBytes access) (above : StoresAbove access) (does : Does access s.device new) where
-    served : IsDrivenBy IsServiceAccess s.device new
-    served = by_one IsServiceAccess access s.device new (bytes_serve access its) does
+    served : IsDrivenBy WritesOnlyHbaIsPxIsCiOrSact s.device new
+    served = by_one WritesOnlyHbaIsPxIsCiOrSact access s.device new (bytes_serve access its) does
 
     same : SameAdapter s.device new
     same = laws.port_event_laws.access_keeps_adapter access s.device new does
@@ -350,7 +350,7 @@ module _ (laws : PrerequisiteLaws) where
   device_kept s new k steps =
       let x = (laws.steps_and_accesses.device_steps_are_simulated (driver_state_of k.machine_relation.uses k.machine_relation.awaiting_disposition s.device) new steps).simulates k.machine k.reached k.machine_relation.driver_relation in
       kept_with s k new (Loading 0 []) tt (loads_above 0 []) (none_loaded s.device new steps) x.0 x.1
-      (machine_on laws s new k.machine x.0 k.machine_relation x.3.all_steps_are_devices x.2)
+      (machine_on laws s new k.machine x.0 k.machine_relation x.3.all_steps_are_by_device x.2)
 
   -- ---- events
 
@@ -358,7 +358,7 @@ module _ (laws : PrerequisiteLaws) where
   stays s k = record { holds = holding s k; port_error = λ m are port. untroubled s k m port }
 
   pub device_adds_event : (s : ServerState) (new : Device) (step : DeviceStep) → SettledInvariant s → DoesOrFailsStep step s.device new → Steps s.device new
-      → ExtendsSettled s (record s { device = new }) (Told step) (Stepped true)
+      → ExtendsToSettled s (record s { device = new }) (Told step) (Stepped true)
   device_adds_event s new step k asked moves = record {
     settled_invariant = record { in_call_invariant = device_kept s new k.in_call_invariant moves; nothing_is_due = k.nothing_is_due };
     extends_history = device_event laws s new (record {
@@ -367,27 +367,27 @@ module _ (laws : PrerequisiteLaws) where
     }) step asked moves;
   }
 
-  pub undone_adds : (s : ServerState) (step : DeviceStep) → SettledInvariant s → ExtendsSettled s s (Told step) (Stepped false)
+  pub undone_adds : (s : ServerState) (step : DeviceStep) → SettledInvariant s → ExtendsToSettled s s (Told step) (Stepped false)
   undone_adds s step k = record { settled_invariant = k; extends_history = undone_event laws s (stays s k.in_call_invariant) step }
 
-  pub state_adds : (s : ServerState) (port : Port) → SettledInvariant s → ExtendsSettled s s (State port) (PortStateShown ((ports_of s).state port))
+  pub state_adds : (s : ServerState) (port : Port) → SettledInvariant s → ExtendsToSettled s s (State port) (PortStateShown ((ports_of s).state port))
   state_adds s port k = record { settled_invariant = k; extends_history = state_event laws s (stays s k.in_call_invariant) port }
 
   pub store_refused : (s : ServerState) (client : ClientId) (frame : Frame) (offset : ℕ) (bytes : List ℕ) (fault : MemFault) → SettledInvariant s
-      → IsFirstMemFault (owner_of s.table) (lent_to s.table) client frame offset (length bytes) fault → ExtendsSettled s s (StoreAt client frame offset bytes) (store_result (Err fault))
+      → IsFirstMemFault (owner_of s.table) (lent_to s.table) client frame offset (length bytes) fault → ExtendsToSettled s s (StoreAt client frame offset bytes) (store_result (Err fault))
   store_refused s client frame offset bytes fault k is = record { settled_invariant = k; extends_history = store_refused_event laws s (stays s k.in_call_invariant) client frame offset bytes fault is }
 
   pub load_refused : (s : ServerState) (client : ClientId) (frame : Frame) (offset count : ℕ) (bytes : List ℕ) (fault : MemFault) → SettledInvariant s
-      → IsFirstMemFault (owner_of s.table) (lent_to s.table) client frame offset count fault → ExtendsSettled s s (LoadAt client frame offset count) (load_result (Err fault) bytes)
+      → IsFirstMemFault (owner_of s.table) (lent_to s.table) client frame offset count fault → ExtendsToSettled s s (LoadAt client frame offset count) (load_result (Err fault) bytes)
   load_refused s client frame offset count bytes fault k is = record { settled_invariant = k; extends_history = load_refused_event laws s (stays s k.in_call_invariant) client frame offset count bytes fault is }
 
-  pub revoke_refused : (s : ServerState) (client : ClientId) (number : ℕ) → SettledInvariant s → (HasRow client number s.grants → ⊥) → ExtendsSettled s s (RevokeOf client number) (WasRevoked None)
+  pub revoke_refused : (s : ServerState) (client : ClientId) (number : ℕ) → SettledInvariant s → (HasRow client number s.grants → ⊥) → ExtendsToSettled s s (RevokeOf client number) (WasRevoked None)
   revoke_refused s client number k none = record {
     settled_invariant = k;
     extends_history = revoke_refused_event laws s (stays s k.in_call_invariant) client number none (λ m at port ready. none_issued s m at [] (λ id. refl) (mode_in s port) port (k.nothing_is_due port));
   }
 
-  pub submit_refused : (s : ServerState) (r : Request) (refusal : Refusal) → SettledInvariant s → IsFirstRefusal (admission_context s) r refusal → ExtendsSettled s s (Submit r) (Submitted (Err refusal))
+  pub submit_refused : (s : ServerState) (r : Request) (refusal : Refusal) → SettledInvariant s → IsFirstRefusal (admission_context s) r refusal → ExtendsToSettled s s (Submit r) (Submitted (Err refusal))
   submit_refused s r refusal k is = record {
     settled_invariant = k;
     extends_history = submit_refused_event laws s (stays s k.in_call_invariant) r refusal is (λ m at port ready. none_issued s m at [] (λ id. refl) (mode_in s port) port (k.nothing_is_due port));
@@ -419,13 +419,13 @@ module _ (laws : PrerequisiteLaws) where
     goes : InCallInvariant (record s { device = new }) → (access : Access) → IsOfBytes access → Does access s.device new → GoesTo s new
     goes then_kept access its does = record { holds = holding (record s { device = new }) then_kept; port_error = λ m are port. one_untroubled s k new access its does m port }
 
-    pub load_adds : Loads (4096 * frame.0 + offset) bytes s.device new → ExtendsSettled s (record s { device = new }) (LoadAt client frame offset (length bytes)) (load_result (Ok tt) bytes)
+    pub load_adds : Loads (4096 * frame.0 + offset) bytes s.device new → ExtendsToSettled s (record s { device = new }) (LoadAt client frame offset (length bytes)) (load_result (Ok tt) bytes)
     load_adds loads = record {
       settled_invariant = record { in_call_invariant = load_kept loads; nothing_is_due = t.nothing_is_due };
       extends_history = load_event laws s new (goes (load_kept loads) (Loading (4096 * frame.0 + offset) bytes) tt loads) client frame offset bytes opens loads;
     }
 
-    pub store_adds : Stores (4096 * frame.0 + offset) bytes s.device new → ExtendsSettled s (record s { device = new }) (StoreAt client frame offset bytes) (store_result (Ok tt))
+    pub store_adds : Stores (4096 * frame.0 + offset) bytes s.device new → ExtendsToSettled s (record s { device = new }) (StoreAt client frame offset bytes) (store_result (Ok tt))
     store_adds stores = record {
       settled_invariant = record { in_call_invariant = store_kept stores; nothing_is_due = t.nothing_is_due };
       extends_history = store_event laws s new (goes (store_kept stores) (Storing (4096 * frame.0 + offset) bytes) tt stores) client frame offset bytes opens stores;
@@ -434,7 +434,7 @@ module _ (laws : PrerequisiteLaws) where
   -- of so many bytes
   pub load_of : (s : ServerState) (new : Device) (client : ClientId) (frame : Frame) (offset count : ℕ) (bytes : List ℕ) → SettledInvariant s → length bytes ≡ count
       → MayAccessFrame (owner_of s.table) (lent_to s.table) client frame offset count → Loads (4096 * frame.0 + offset) bytes s.device new
-      → ExtendsSettled s (record s { device = new }) (LoadAt client frame offset count) (load_result (Ok tt) bytes)
+      → ExtendsToSettled s (record s { device = new }) (LoadAt client frame offset count) (load_result (Ok tt) bytes)
   load_of s new client frame offset count bytes k long opens loads =
       let here : MayAccessFrame (owner_of s.table) (lent_to s.table) client frame offset (length bytes) = subst (λ (n : ℕ). MayAccessFrame (owner_of s.table) (lent_to s.table) client frame offset n) (sym long) opens in
-      subst (λ (n : ℕ). ExtendsSettled s (record s { device = new }) (LoadAt client frame offset n) (load_result (Ok tt) bytes)) long (load_adds s new client frame offset bytes k here loads)
+      subst (λ (n : ℕ). ExtendsToSettled s (record s { device = new }) (LoadAt client frame offset n) (load_result (Ok tt) bytes)) long (load_adds s new client frame offset bytes k here loads)

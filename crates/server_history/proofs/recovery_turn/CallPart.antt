@@ -20,13 +20,13 @@ use Rattle.block_machine.specs.declared.due.QueueMode.{QueueMode}
 use Rattle.host_boot.specs.TakeOver.{probe_result_of}
 use Rattle.host_boot.specs.declared.ProbeResult.TheVariants.{Ready}
 use Rattle.identify.specs.declared.DiskInfo.{DiskInfo}
-use Rattle.port_control.specs.PortEvents.{IsEventAccess}
+use Rattle.port_control.specs.PortEvents.{IsPxisSstsOrOwnIsAccess}
 use Rattle.request_queue.specs.BookEntries.{BookEntry, as_unanswered, unanswered_of, due_ids}
 use Rattle.server_history.specs.Prerequisites.{PrerequisiteLaws}
 use Rattle.server_history.specs.ErrorHandling.{HasResolved, HandlesPortError}
 use Rattle.port_control.specs.declared.events.PortError.TheVariants.{TimedOut}
 use Rattle.server_history.specs.ServerState.{InCallInvariant, MachineRelation, SettledInvariant, ServerState, mode_in, ports_of, state_of}
-use Rattle.server_history.specs.Turns.{IsPortTurn, InRestart, ServingReady, SimulatesTurn, MeetsTurnDuty, ServicesPort, TurnCorresponds, Turn, ask_of_turn}
+use Rattle.server_history.specs.Turns.{IsPortTurn, InRestart, ServingReady, SimulatesTurn, RequeuesOnFailedPortsOrRestartsOrRestsByTurn, ServicesPort, TurnCorresponds, Turn, ask_of_turn}
 use Rattle.server_history.proofs.recovery_turn.TurnAsCall.{heeds_trouble, ties_recovered}
 use Rattle.server_history.proofs.recovery_turn.DecidedSteps.{DecidesTurn, recovered_decides}
 use Rattle.server_history.proofs.recovery_turn.TurnEvidence.{IsEvident, evident}
@@ -39,20 +39,20 @@ use Rattle.server_history.proofs.plain_calls.IssueRounds.{each_apart, each_setti
 use Rattle.server_history.proofs.state.PortSlots.{of_ready, ready_found}
 
 -- where nobody looked, it is as after a look without accesses
-pub unlooked : (port : Port) (old seen : Device) → seen ≡ old → IsSimulated (IsEventAccess port) AnySlotStates old seen
-unlooked port old seen same = subst (IsSimulated (IsEventAccess port) AnySlotStates old) (sym same) (record {
-  is_driven = record { accesses = []; all_are_done = refl; accesses_are_of_kind = All-nil (IsEventAccess port) };
+pub unlooked : (port : Port) (old seen : Device) → seen ≡ old → IsSimulated (IsPxisSstsOrOwnIsAccess port) AnySlotStates old seen
+unlooked port old seen same = subst (IsSimulated (IsPxisSstsOrOwnIsAccess port) AnySlotStates old) (sym same) (record {
+  is_driven = record { accesses = []; all_are_done = refl; accesses_are_of_kind = All-nil (IsPxisSstsOrOwnIsAccess port) };
   acts_reach = λ s m reached knows any. record {
     acts = [];
     acts_are_done = refl;
     accesses_match_acts = refl;
-    acts_are_such = record { all_steps_are_devices = tt; unwritten_ports_keep_slots = λ q issues arms. All-nil (λ (act : Act). act.state_after.slot_states q.0 ≡ s.slot_states q.0) };
+    acts_are_such = record { all_steps_are_by_device = tt; unwritten_ports_keep_slots = λ q issues arms. All-nil (λ (act : Act). act.state_after.slot_states q.0 ≡ s.slot_states q.0) };
   };
 })
 
 -- once its requests met their fates, the server keeps what it keeps
 pub goes_on : PrerequisiteLaws → (port : Port) (later : List Reply) (old new : ServerState) → InCallInvariant old → state_of (probe_result_of old.probe_results port.0) ≡ ReadyState → (a : HasResolved port later old new)
-    → IsSimulated (IsEventAccess port) AnySlotStates old.device a.error_handled.device_after_look → InCallInvariant new
+    → IsSimulated (IsPxisSstsOrOwnIsAccess port) AnySlotStates old.device a.error_handled.device_after_look → InCallInvariant new
 goes_on laws port later old new k ready a looks =
     let f = adds_fates laws port later old new k ready a looks k.machine k.reached k.machine_relation in
     recovered_kept laws port later old new k ready a looks _ (laws.steps_and_accesses.reachable_stays_reachable k.machine _ k.reached f.may) f.stands
@@ -72,7 +72,7 @@ unready_undue laws s k port unready = ap (map (λ (r : Unanswered). r.id)) (nobo
         none_due_unready s k port (λ ready. let found = (ready_found s port.0 k ready).1 in unready found.0 found.1) (mode_in s port) r own ((laws.due_list_is_exact (mode_in s port) port (unanswered_of s.book) r own).0 here)
 
 module _ (laws : PrerequisiteLaws) (port : Port) (replies : List Reply) (old new : ServerState) (t : SettledInvariant old) (ready : state_of (probe_result_of old.probe_results port.0) ≡ ReadyState)
-    (r : HandlesPortError port replies old new) (looks : IsSimulated (IsEventAccess port) AnySlotStates old.device r.has_resolved.error_handled.device_after_look) where
+    (r : HandlesPortError port replies old new) (looks : IsSimulated (IsPxisSstsOrOwnIsAccess port) AnySlotStates old.device r.has_resolved.error_handled.device_after_look) where
   abbrev k : InCallInvariant old
   k = t.in_call_invariant
 
@@ -87,7 +87,7 @@ module _ (laws : PrerequisiteLaws) (port : Port) (replies : List Reply) (old new
     d : DecidesTurn port replies old new r (evidence_by r.has_resolved) m
     d = recovered_decides laws port replies old new k ready r looks kept m reached is
 
-    makes : (turn : Turn) → AreStepsOfCall {D = DeviceStep} (ask_of_turn turn) (ports_of new) d.steps → MeetsTurnDuty turn port e.accesses old new m (evidence_by r.has_resolved) d.steps
+    makes : (turn : Turn) → AreStepsOfCall {D = DeviceStep} (ask_of_turn turn) (ports_of new) d.steps → RequeuesOnFailedPortsOrRestartsOrRestsByTurn turn port e.accesses old new m (evidence_by r.has_resolved) d.steps
         → TurnCorresponds turn port replies e.accesses old new m (evidence_by r.has_resolved) d.steps → SimulatesTurn turn port replies e.accesses old new m
     makes turn belong owes ties = record {
       steps = d.steps;
@@ -100,9 +100,9 @@ module _ (laws : PrerequisiteLaws) (port : Port) (replies : List Reply) (old new
       issues_are_last = d.last;
       names_only_port = e.names;
       answers_are_lawful = d.lawful;
-      meets_turn_duty = owes;
+      requeues_on_failed_port_or_restarts_by_turn = owes;
       replies_match = d.tells;
-      unplugged_empties_port = d.unplugs;
+      unplugged_outcome_empties_port = d.unplugs;
       port_is_serviced = e.becomes;
       shown_disk_was_in_or_came = inr (e.had m is d.steps d.backed);
       same_disk_or_none_unanswered = d.keeps;

@@ -15,7 +15,7 @@ use Rattle.ata_types.specs.declared.request.RequestId.{RequestId}
 use Rattle.adapter.specs.declared.access.DeviceStep.{DeviceStep}
 use Rattle.refinement.specs.Fragments.{AnySlotStates, IsSimulated}
 use Rattle.refinement.specs.Driver.{TapeBacksSteps}
-use Rattle.block_machine.specs.Events.{AllByDevice, AnswersAndWaitsLawful, AllEnabled, AreStepsOfCall, IsOfUndoneRequest, IsIssuedIn, IsLawfulAnswer, IssueIsLastOfRequest, IsToldBefore, AbstractState, Service, RepliesMatch, UnpluggedEmptiesPort, IsIssuedInBook, answers_of, issues_id, reply_of, IsReadyAgainWithSameDisk}
+use Rattle.block_machine.specs.Events.{AllByDevice, AnswersAndWaitsLawful, AllEnabled, AreStepsOfCall, IsOutcomeWithoutDeviceVerdict, IsIssuedIn, IsLawfulAnswer, IssueIsLastOfRequest, IsLowerByPortThenId, AbstractState, Service, RepliesMatch, UnpluggedOutcomeEmptiesPort, IsIssuedInBook, answers_of, issues_id, reply_of, IsReadyAfterStopSerialAndSizeKept}
 use Rattle.block_machine.specs.Histories.{IsReachable}
 use Rattle.block_machine.specs.Expected.{after}
 use Rattle.block_machine.specs.Ports.{Evidence, Ports, SameSerialAndSize}
@@ -35,7 +35,7 @@ use Rattle.host_boot.specs.TakeOver.{probe_result_of}
 use Rattle.host_boot.specs.declared.ProbeResult.{ProbeResult}
 use Rattle.host_boot.specs.declared.ProbeResult.TheVariants.{Unserved, Ready, Unready}
 use Rattle.identify.specs.declared.DiskInfo.{DiskInfo}
-use Rattle.port_control.specs.PortEvents.{IsEventAccess}
+use Rattle.port_control.specs.PortEvents.{IsPxisSstsOrOwnIsAccess}
 use Rattle.port_control.specs.declared.events.PortError.{PortError}
 use Rattle.port_control.specs.declared.events.PortError.TheVariants.{FatalError, TaskFileError, TimedOut, LinkChanged}
 use Rattle.request_queue.specs.BookEntries.{BookEntry, as_unanswered, unanswered_of, due_ids, is_of_port}
@@ -50,7 +50,7 @@ use Rattle.slots.specs.SlotUses.{PortSlots, use_at}
 use Rattle.slots.specs.declared.SlotUse.{SlotUse}
 use Rattle.server_history.specs.Prerequisites.{PrerequisiteLaws}
 use Rattle.server_history.specs.ErrorHandling.{IsFailedRequest, IsRevalidation, HasResolved, HandlesPortError, book_and_loans_of, requests_of}
-use Rattle.server_history.specs.IssuingAndAnswering.{HasEnded, ok_answers_of, done_reply}
+use Rattle.server_history.specs.IssuingAndAnswering.{HasEnded, ok_answers_newest_first, done_reply}
 use Rattle.server_history.specs.ServerState.{InCallInvariant, MachineRelation, ServerState, last_disk_in, last_disk_of, mode_in, ports_of, remembered_at, last_sectors_of, last_serial_of, slots_at, state_of}
 use Rattle.server_history.specs.Turns.{IsTurnOrDeviceStep, abstract_state_of}
 use Rattle.server_history.proofs.state.AnswerSteps.{answered_in, ended_stood, issuing_answers, may_parts, no_answer, no_answer_issuing, told_so, with_ok}
@@ -86,10 +86,10 @@ pub record DecidesTurn (port : Port) (replies : List Reply) (old new : ServerSta
   pub lawful : AnswersAndWaitsLawful (abstract_state_of old m) evidence (ports_of new) steps
   pub grounded : r.has_resolved.error_handled.port_error ≢ TimedOut → OnlyFailedPortsRequeueAbortRevokeOrFault evidence steps
   pub tells : RepliesMatch steps replies
-  pub unplugs : UnpluggedEmptiesPort steps (after m steps)
+  pub unplugs : UnpluggedOutcomeEmptiesPort steps (after m steps)
   pub keeps : SameSerialAndSize (ports_of old) (ports_of new) port ⊎ HasNoUnanswered (after m steps) port
   pub issues : (ports_of new).state port ≡ ReadyState → IssuesDue (mode_in new port) steps (after m steps) port
-  pub gives : r.has_resolved.error_handled.port_error ≢ TaskFileError → (e : Pending) (o : Outcome) → Contains steps (Answer e o) → IsOfUndoneRequest o ⊎ (o ≡ outcome.Ok)
+  pub gives : r.has_resolved.error_handled.port_error ≢ TaskFileError → (e : Pending) (o : Outcome) → Contains steps (Answer e o) → IsOutcomeWithoutDeviceVerdict o ⊎ (o ≡ outcome.Ok)
   pub unplugged : (e : Pending) → Contains steps (Answer e outcome.Unplugged) → (r.has_resolved.revalidation ≡ DiskLost) × (e.request.port ≡ port)
   pub emptied : r.has_resolved.error_handled.port_error ≡ LinkChanged → HasNoUnanswered (after m steps) port
   pub told : r.has_resolved.error_handled.port_error ≡ LinkChanged → ToldOkOr outcome.Unplugged steps port ⊎ ToldOkOr outcome.PortDead steps port
@@ -110,7 +110,7 @@ failed_used slots (Some its) failed x (used, at, names) is =
     (its.slot.0, used, at, ap (λ (f : FailedRequest). f.id) (sym same))
 
 module _ (laws : PrerequisiteLaws) (port : Port) (replies : List Reply) (old new : ServerState) (k : InCallInvariant old) (ready : state_of (probe_result_of old.probe_results port.0) ≡ ReadyState) (r : HandlesPortError port replies old new)
-    (looks : IsSimulated (IsEventAccess port) AnySlotStates old.device r.has_resolved.error_handled.device_after_look) (k_mid : InCallInvariant r.server_after_resolving) where
+    (looks : IsSimulated (IsPxisSstsOrOwnIsAccess port) AnySlotStates old.device r.has_resolved.error_handled.device_after_look) (k_mid : InCallInvariant r.server_after_resolving) where
   abbrev a : HasResolved port r.later_replies old r.server_after_resolving
   a = r.has_resolved
 
@@ -279,7 +279,7 @@ module _ (laws : PrerequisiteLaws) (port : Port) (replies : List Reply) (old new
         was : w.0.request.issued ≡ true → IsIssuedInBook m e.request.id
         was issued = subst (IsIssuedInBook m) (sym w.2.id) (was_issued w.0 there issued)
 
-        goes_on : a.revalidation ≡ Same → IsReadyAgainWithSameDisk began evidence (ports_of new) e.request.port
+        goes_on : a.revalidation ≡ Same → IsReadyAfterStopSerialAndSizeKept began evidence (ports_of new) e.request.port
         goes_on same = (
           ap (ports_of new).state its_port ∙ same_ready same,
           subst (Contains evidence.stopped) (sym its_port) (same_stopped same),
@@ -306,8 +306,8 @@ module _ (laws : PrerequisiteLaws) (port : Port) (replies : List Reply) (old new
     again_same : (e : Pending) → Contains f.dispositions (WaitAgain e) → (a.revalidation ≡ Same) × (e.request.port ≡ port)
     again_same e here = let w = f.again e here in (why_again a.failed a.revalidation w.0.request w.3, w.2.port ∙ (of_its w.0 w.1).1)
 
-    early_may : AllEnabled m f.first × AllEnabled (after m f.first) (ok_answers_of f.ended)
-    early_may = may_parts laws m (ok_answers_of f.ended) f.first (may_parts laws m f.middle (ok_answers_of f.ended ++ f.first) (may_parts laws m f.dispositions (f.middle ++ (ok_answers_of f.ended ++ f.first)) f.may).0).0
+    early_may : AllEnabled m f.first × AllEnabled (after m f.first) (ok_answers_newest_first f.ended)
+    early_may = may_parts laws m (ok_answers_newest_first f.ended) f.first (may_parts laws m f.middle (ok_answers_newest_first f.ended ++ f.first) (may_parts laws m f.dispositions (f.middle ++ (ok_answers_newest_first f.ended ++ f.first)) f.may).0).0
 
     ended_by : (e : Pending) → Contains f.ended e → (request : BookEntry) × Contains a.error_handled.requests request × HasEnded port request e
     ended_by e here = at_right (HasEnded port) a.error_handled.requests f.ended f.each e here
@@ -325,9 +325,9 @@ module _ (laws : PrerequisiteLaws) (port : Port) (replies : List Reply) (old new
     lawful : AnswersAndWaitsLawful began evidence (ports_of new) (z.steps ++ base)
     lawful =
         lawful_on (mode_in r.server_after_resolving port) port began evidence (ports_of new) z.steps base z.only
-        (lawful_join began evidence (ports_of new) f.dispositions (f.middle ++ (ok_answers_of f.ended ++ f.first))
+        (lawful_join began evidence (ports_of new) f.dispositions (f.middle ++ (ok_answers_newest_first f.ended ++ f.first))
         (deciding_lawful port began evidence (ports_of new) f.dispositions f.own fate_lawful (λ e here. let s = again_same e here in subst (Contains evidence.stopped) (sym s.1) (same_stopped s.0)))
-        (lawful_join began evidence (ports_of new) f.middle (ok_answers_of f.ended ++ f.first) (devices_lawful began evidence (ports_of new) f.middle f.middle_only)
+        (lawful_join began evidence (ports_of new) f.middle (ok_answers_newest_first f.ended ++ f.first) (devices_lawful began evidence (ports_of new) f.middle f.middle_only)
         (answers_all (AnswersAndWaitsLawful began evidence (ports_of new)) f.ended f.first (λ e steps here l. (l, ok_lawful e here)) (devices_lawful began evidence (ports_of new) f.first f.first_only))))
 
     again_failed : a.error_handled.port_error ≢ TimedOut → (e : Pending) → Contains f.dispositions (WaitAgain e) → Contains evidence.showing_error port
@@ -349,8 +349,8 @@ module _ (laws : PrerequisiteLaws) (port : Port) (replies : List Reply) (old new
     grounded : a.error_handled.port_error ≢ TimedOut → OnlyFailedPortsRequeueAbortRevokeOrFault evidence (z.steps ++ base)
     grounded unhung =
         issues_all (OnlyFailedPortsRequeueAbortRevokeOrFault evidence) (mode_in r.server_after_resolving port) port (device_grounded evidence) (λ e steps own g. g) z.steps base z.only
-        (grounded_join evidence f.dispositions (f.middle ++ (ok_answers_of f.ended ++ f.first)) (deciding_grounded port evidence f.dispositions f.own (again_failed unhung) (answer_failed unhung))
-        (grounded_join evidence f.middle (ok_answers_of f.ended ++ f.first) (devices_all (OnlyFailedPortsRequeueAbortRevokeOrFault evidence) (device_grounded evidence) tt f.middle f.middle_only)
+        (grounded_join evidence f.dispositions (f.middle ++ (ok_answers_newest_first f.ended ++ f.first)) (deciding_grounded port evidence f.dispositions f.own (again_failed unhung) (answer_failed unhung))
+        (grounded_join evidence f.middle (ok_answers_newest_first f.ended ++ f.first) (devices_all (OnlyFailedPortsRequeueAbortRevokeOrFault evidence) (device_grounded evidence) tt f.middle f.middle_only)
         (answers_all (OnlyFailedPortsRequeueAbortRevokeOrFault evidence) f.ended f.first (λ e steps here g. g) (devices_all (OnlyFailedPortsRequeueAbortRevokeOrFault evidence) (device_grounded evidence) tt f.first f.first_only))))
 
     -- ---- its steps
@@ -365,8 +365,8 @@ module _ (laws : PrerequisiteLaws) (port : Port) (replies : List Reply) (old new
 
     own : All (IsTurnOrDeviceStep port) (z.steps ++ base)
     own = All-append (IsTurnOrDeviceStep port) z.steps base issuing_own
-        (All-append (IsTurnOrDeviceStep port) f.dispositions (f.middle ++ (ok_answers_of f.ended ++ f.first)) (deciding_own port f.dispositions f.own)
-        (All-append (IsTurnOrDeviceStep port) f.middle (ok_answers_of f.ended ++ f.first) (devices_own f.middle f.middle_only)
+        (All-append (IsTurnOrDeviceStep port) f.dispositions (f.middle ++ (ok_answers_newest_first f.ended ++ f.first)) (deciding_own port f.dispositions f.own)
+        (All-append (IsTurnOrDeviceStep port) f.middle (ok_answers_newest_first f.ended ++ f.first) (devices_own f.middle f.middle_only)
         (answers_all (All (IsTurnOrDeviceStep port)) f.ended f.first (λ e rest here more. All-cons (IsTurnOrDeviceStep port) (Answer e outcome.Ok) rest (ended_port e here) more) (devices_own f.first f.first_only))))
 
     -- what is issued is of a ready port
@@ -381,15 +381,15 @@ module _ (laws : PrerequisiteLaws) (port : Port) (replies : List Reply) (old new
     belong : AreStepsOfCall {D = DeviceStep} Service (ports_of new) (z.steps ++ base)
     belong =
         belong_join Service (ports_of new) z.steps base (issuing_belong port (mode_in r.server_after_resolving port) (ports_of new) mode_new z.steps z.only issued_ready)
-        (belong_join Service (ports_of new) f.dispositions (f.middle ++ (ok_answers_of f.ended ++ f.first)) (deciding_belong port (ports_of new) f.dispositions f.own (λ e here. let s = again_same e here in ap (ports_of new).state s.1 ∙ same_ready s.0))
-        (belong_join Service (ports_of new) f.middle (ok_answers_of f.ended ++ f.first) (devices_belong {D = DeviceStep} Service (ports_of new) f.middle f.middle_only)
+        (belong_join Service (ports_of new) f.dispositions (f.middle ++ (ok_answers_newest_first f.ended ++ f.first)) (deciding_belong port (ports_of new) f.dispositions f.own (λ e here. let s = again_same e here in ap (ports_of new).state s.1 ∙ same_ready s.0))
+        (belong_join Service (ports_of new) f.middle (ok_answers_newest_first f.ended ++ f.first) (devices_belong {D = DeviceStep} Service (ports_of new) f.middle f.middle_only)
         (answers_all (AreStepsOfCall {D = DeviceStep} Service (ports_of new)) f.ended f.first (λ e rest here b. (b, inr tt)) (devices_belong {D = DeviceStep} Service (ports_of new) f.first f.first_only))))
 
     none_in_base : (id : RequestId) → list_any (issues_id id) base ≡ false
     none_in_base id =
-        any_append (issues_id id) f.dispositions (f.middle ++ (ok_answers_of f.ended ++ f.first)) ∙ ap (λ (b : Bool). b || list_any (issues_id id) (f.middle ++ (ok_answers_of f.ended ++ f.first))) (deciding_issues_none port id f.dispositions f.own)
-        ∙ any_append (issues_id id) f.middle (ok_answers_of f.ended ++ f.first) ∙ ap (λ (b : Bool). b || list_any (issues_id id) (ok_answers_of f.ended ++ f.first)) (devices_issue_none id f.middle f.middle_only)
-        ∙ any_append (issues_id id) (ok_answers_of f.ended) f.first ∙ ap (λ (b : Bool). b || list_any (issues_id id) f.first) (answers_issue_none id f.ended) ∙ devices_issue_none id f.first f.first_only
+        any_append (issues_id id) f.dispositions (f.middle ++ (ok_answers_newest_first f.ended ++ f.first)) ∙ ap (λ (b : Bool). b || list_any (issues_id id) (f.middle ++ (ok_answers_newest_first f.ended ++ f.first))) (deciding_issues_none port id f.dispositions f.own)
+        ∙ any_append (issues_id id) f.middle (ok_answers_newest_first f.ended ++ f.first) ∙ ap (λ (b : Bool). b || list_any (issues_id id) (ok_answers_newest_first f.ended ++ f.first)) (devices_issue_none id f.middle f.middle_only)
+        ∙ any_append (issues_id id) (ok_answers_newest_first f.ended) f.first ∙ ap (λ (b : Bool). b || list_any (issues_id id) f.first) (answers_issue_none id f.ended) ∙ devices_issue_none id f.first f.first_only
 
     last : IssueIsLastOfRequest (z.steps ++ base)
     last = last_on (mode_in r.server_after_resolving port) port z.steps base z.only z.last (none_last base none_in_base) (λ id late early. false≢true (sym (none_in_base id) ∙ early))
@@ -429,20 +429,20 @@ module _ (laws : PrerequisiteLaws) (port : Port) (replies : List Reply) (old new
     replies_are = ap (λ (list : List Reply). list ++ r.later_replies) (told_so port a.error_handled.requests f.ended f.each) ∙ ap (λ (list : List Reply). map reply_of (map with_ok f.ended) ++ list) f.tells.replies_are_of_answers
         ∙ sym (map-append reply_of (map with_ok f.ended) f.tells.answers)
 
-    in_order : (list : List (Pending × Outcome)) × IsPermutation list (map with_ok f.ended ++ f.tells.answers) × AllPairs IsToldBefore list × (replies ≡ map reply_of list)
+    in_order : (list : List (Pending × Outcome)) × IsPermutation list (map with_ok f.ended ++ f.tells.answers) × AllPairs IsLowerByPortThenId list × (replies ≡ map reply_of list)
     in_order = told_in_order port (map with_ok f.ended ++ f.tells.answers) replies (subst (IsPermutation replies) replies_are r.replies_are) r.ordered (All-append (λ x. x.0.request.port ≡ port) (map with_ok f.ended) f.tells.answers ended_of fates_of) apart
 
     none_first : map with_ok f.ended ++ answers_of f.first ≡ map with_ok f.ended
     none_first = ap (λ (none : List (Pending × Outcome)). map with_ok f.ended ++ none) (devices_answers f.first f.first_only) ∙ append-nil (map with_ok f.ended)
 
-    answers_are : answers_of (z.steps ++ base) ≡ answers_of f.dispositions ++ answers_of (ok_answers_of f.ended ++ f.first)
-    answers_are = issuing_answers (mode_in r.server_after_resolving port) port z.steps base z.only ∙ answers_append f.dispositions (f.middle ++ (ok_answers_of f.ended ++ f.first))
-        ∙ ap (λ (list : List (Pending × Outcome)). answers_of f.dispositions ++ list) (answers_append f.middle (ok_answers_of f.ended ++ f.first) ∙ ap (λ (none : List (Pending × Outcome)). none ++ answers_of (ok_answers_of f.ended ++ f.first)) (devices_answers f.middle f.middle_only))
+    answers_are : answers_of (z.steps ++ base) ≡ answers_of f.dispositions ++ answers_of (ok_answers_newest_first f.ended ++ f.first)
+    answers_are = issuing_answers (mode_in r.server_after_resolving port) port z.steps base z.only ∙ answers_append f.dispositions (f.middle ++ (ok_answers_newest_first f.ended ++ f.first))
+        ∙ ap (λ (list : List (Pending × Outcome)). answers_of f.dispositions ++ list) (answers_append f.middle (ok_answers_newest_first f.ended ++ f.first) ∙ ap (λ (none : List (Pending × Outcome)). none ++ answers_of (ok_answers_newest_first f.ended ++ f.first)) (devices_answers f.middle f.middle_only))
 
     all_told : IsPermutation (map with_ok f.ended ++ f.tells.answers) (answers_of (z.steps ++ base))
     all_told = subst (IsPermutation (map with_ok f.ended ++ f.tells.answers)) (sym answers_are)
         (IsPermutation-trans _ _ _ (IsPermutation-append_comm (map with_ok f.ended) f.tells.answers)
-        (IsPermutation-append _ _ _ _ f.tells.is_permutation (subst (λ (list : List (Pending × Outcome)). IsPermutation list (answers_of (ok_answers_of f.ended ++ f.first))) none_first (answered_permuted f.ended f.first))))
+        (IsPermutation-append _ _ _ _ f.tells.is_permutation (subst (λ (list : List (Pending × Outcome)). IsPermutation list (answers_of (ok_answers_newest_first f.ended ++ f.first))) none_first (answered_permuted f.ended f.first))))
 
     tells : RepliesMatch (z.steps ++ base) replies
     tells = record {
@@ -462,23 +462,23 @@ module _ (laws : PrerequisiteLaws) (port : Port) (replies : List Reply) (old new
         (λ disposition. disposition)
         (λ rest. ⊎_elim
         (λ mid. absurd (no_answer f.middle f.middle_only e o mid))
-        (λ rest. ⊎_elim (λ ok. absurd (other (answered_in f.ended e o ok).1)) (λ early. absurd (no_answer f.first f.first_only e o early)) (Contains-append_cases (ok_answers_of f.ended) f.first (Answer e o) rest))
-        (Contains-append_cases f.middle (ok_answers_of f.ended ++ f.first) (Answer e o) rest))
-        (Contains-append_cases f.dispositions (f.middle ++ (ok_answers_of f.ended ++ f.first)) (Answer e o) rest))
+        (λ rest. ⊎_elim (λ ok. absurd (other (answered_in f.ended e o ok).1)) (λ early. absurd (no_answer f.first f.first_only e o early)) (Contains-append_cases (ok_answers_newest_first f.ended) f.first (Answer e o) rest))
+        (Contains-append_cases f.middle (ok_answers_newest_first f.ended ++ f.first) (Answer e o) rest))
+        (Contains-append_cases f.dispositions (f.middle ++ (ok_answers_newest_first f.ended ++ f.first)) (Answer e o) rest))
         (Contains-append_cases z.steps base (Answer e o) here)
 
     -- no fault is told unless a command had failed
-    gives : a.error_handled.port_error ≢ TaskFileError → (e : Pending) (o : Outcome) → Contains (z.steps ++ base) (Answer e o) → IsOfUndoneRequest o ⊎ (o ≡ outcome.Ok)
+    gives : a.error_handled.port_error ≢ TaskFileError → (e : Pending) (o : Outcome) → Contains (z.steps ++ base) (Answer e o) → IsOutcomeWithoutDeviceVerdict o ⊎ (o ≡ outcome.Ok)
     gives other e o here = by_ok (ok_or_not o)
       where
-        by : (entry : PendingRequest) → Why a.failed a.revalidation entry o → IsOfUndoneRequest o
+        by : (entry : PendingRequest) → Why a.failed a.revalidation entry o → IsOutcomeWithoutDeviceVerdict o
         by entry (inl x) = let y : None ≡ Some x.0 = sym (nobody other) ∙ x.1 in absurd cc
-        by entry (inr (inl x)) = subst IsOfUndoneRequest (sym x.3) tt
-        by entry (inr (inr (inl x))) = subst IsOfUndoneRequest (sym x.1) tt
-        by entry (inr (inr (inr (inl x)))) = subst IsOfUndoneRequest (sym x.1) tt
-        by entry (inr (inr (inr (inr x)))) = subst IsOfUndoneRequest (sym x.3) tt
+        by entry (inr (inl x)) = subst IsOutcomeWithoutDeviceVerdict (sym x.3) tt
+        by entry (inr (inr (inl x))) = subst IsOutcomeWithoutDeviceVerdict (sym x.1) tt
+        by entry (inr (inr (inr (inl x)))) = subst IsOutcomeWithoutDeviceVerdict (sym x.1) tt
+        by entry (inr (inr (inr (inr x)))) = subst IsOutcomeWithoutDeviceVerdict (sym x.3) tt
 
-        by_ok : (o ≡ outcome.Ok) ⊎ (o ≢ outcome.Ok) → IsOfUndoneRequest o ⊎ (o ≡ outcome.Ok)
+        by_ok : (o ≡ outcome.Ok) ⊎ (o ≢ outcome.Ok) → IsOutcomeWithoutDeviceVerdict o ⊎ (o ≡ outcome.Ok)
         by_ok (inl ok) = inr ok
         by_ok (inr told) = let w = f.answered e o (fated e o told here) in inl (by w.0.request (why a.failed a.revalidation w.0.request o w.3))
 
@@ -558,7 +558,7 @@ module _ (laws : PrerequisiteLaws) (port : Port) (replies : List Reply) (old new
             rest)
             reason))
 
-    unplugs : UnpluggedEmptiesPort (z.steps ++ base) (after m (z.steps ++ base))
+    unplugs : UnpluggedOutcomeEmptiesPort (z.steps ++ base) (after m (z.steps ++ base))
     unplugs = record {
       none_is_left = λ e other here there same. let w = unplugged_why e here in none_waits (disk_lost w.0) other there (same ∙ w.1);
       none_is_told_dead = λ e other here there same. let y : DiskLost ≡ NoEnd = sym (unplugged_why e here).0 ∙ dead_why other there in absurd cc;
@@ -600,7 +600,7 @@ module _ (laws : PrerequisiteLaws) (port : Port) (replies : List Reply) (old new
 
 -- So it is from each machine that stands for the server.
 pub recovered_decides : PrerequisiteLaws → (port : Port) (replies : List Reply) (old new : ServerState) → InCallInvariant old → state_of (probe_result_of old.probe_results port.0) ≡ ReadyState → (r : HandlesPortError port replies old new)
-    → IsSimulated (IsEventAccess port) AnySlotStates old.device r.has_resolved.error_handled.device_after_look → InCallInvariant r.server_after_resolving → (m : Machine) → IsReachable m → MachineRelation old m
+    → IsSimulated (IsPxisSstsOrOwnIsAccess port) AnySlotStates old.device r.has_resolved.error_handled.device_after_look → InCallInvariant r.server_after_resolving → (m : Machine) → IsReachable m → MachineRelation old m
     → DecidesTurn port replies old new r (evidence_by r.has_resolved) m
 recovered_decides laws port replies old new k ready r looks k_mid m reached is =
     decides_turn laws port replies old new k ready r looks k_mid m reached is (adds_fates laws port r.later_replies old r.server_after_resolving k ready r.has_resolved looks m reached is)

@@ -17,7 +17,7 @@ use Rattle.adapter.specs.Access.Access.{Reading}
 use Rattle.adapter.specs.Device.{Device}
 use Rattle.refinement.specs.Fragments.{AnySlotStates, IsSimulated}
 use Rattle.refinement.specs.Slots.{Serves, ServesRequest}
-use Rattle.block_machine.specs.Events.{AllEnabled, AnswersEnded}
+use Rattle.block_machine.specs.Events.{AllEnabled, AnswersOkWhatHadEnded}
 use Rattle.block_machine.specs.Histories.{IsReachable}
 use Rattle.block_machine.specs.Expected.{after}
 use Rattle.block_machine.specs.State.{Machine, Pending}
@@ -26,7 +26,7 @@ use Rattle.server_history.proofs.state.ListMembers.{contains_cases, contains_the
 use Rattle.driver_history.specs.Histories.{FindsDone, IsAnsweredOk, IsIssuedOn}
 use Rattle.driver_history.specs.AccessTrace.{ReadsMasksBeforeCmdWrite}
 use Rattle.host_boot.specs.TakeOver.{probe_result_of}
-use Rattle.port_control.specs.PortEvents.{IsEventAccess}
+use Rattle.port_control.specs.PortEvents.{IsPxisSstsOrOwnIsAccess}
 use Rattle.request_queue.specs.BookEntries.{BookEntry}
 use Rattle.request_queue.specs.Dispositions.{disposition_of}
 use Rattle.request_queue.specs.BookRelation.{EntryRelation}
@@ -34,7 +34,7 @@ use Rattle.request_queue.specs.declared.disposition.Disposition.TheVariants.{Com
 use Rattle.slots.specs.declared.SlotUse.{SlotUse}
 use Rattle.server_history.specs.Prerequisites.{PrerequisiteLaws}
 use Rattle.server_history.specs.ErrorHandling.{IsErrorHandled, HasResolved, HandlesPortError, requests_of}
-use Rattle.server_history.specs.IssuingAndAnswering.{AnswersEach, HasEnded, ok_answers_of, is_used}
+use Rattle.server_history.specs.IssuingAndAnswering.{AnswersEach, HasEnded, ok_answers_newest_first, is_used}
 use Rattle.server_history.specs.ServerState.{ServerState, InCallInvariant, MachineRelation, mode_in, state_of, used_for}
 use Rattle.server_history.proofs.any_turn.UnusedSlotBits.{unused_clear}
 use Rattle.server_history.specs.Turns.{FindsDoneInTurn, joint_state_of}
@@ -100,7 +100,7 @@ module _ (laws : PrerequisiteLaws) (port : Port) (low : port.0 < 4) (done : ℕ)
 -- ---- the whole
 
 module _ (laws : PrerequisiteLaws) (port : Port) (replies : List Reply) (old new : ServerState) (k : InCallInvariant old) (ready : state_of (probe_result_of old.probe_results port.0) ≡ ReadyState) (r : HandlesPortError port replies old new)
-    (looks : IsSimulated (IsEventAccess port) AnySlotStates old.device r.has_resolved.error_handled.device_after_look) (kept : InCallInvariant r.server_after_resolving) (evident : IsEvident port replies old new r) (m : Machine) (reached : IsReachable m) (is : MachineRelation old m)
+    (looks : IsSimulated (IsPxisSstsOrOwnIsAccess port) AnySlotStates old.device r.has_resolved.error_handled.device_after_look) (kept : InCallInvariant r.server_after_resolving) (evident : IsEvident port replies old new r) (m : Machine) (reached : IsReachable m) (is : MachineRelation old m)
     (d : DecidesTurn port replies old new r (evidence_by r.has_resolved) m) where
   abbrev a : HasResolved port r.later_replies old r.server_after_resolving
   a = r.has_resolved
@@ -126,9 +126,9 @@ module _ (laws : PrerequisiteLaws) (port : Port) (replies : List Reply) (old new
       (λ rest. ⊎_elim
       (λ mid. absurd (no_answer d.dispositions.middle d.dispositions.middle_only e outcome.Ok mid))
       (λ rest. ⊎_elim (λ ok. (answered_in d.dispositions.ended e outcome.Ok ok).0) (λ early. absurd (no_answer d.dispositions.first d.dispositions.first_only e outcome.Ok early))
-      (Contains-append_cases (ok_answers_of d.dispositions.ended) d.dispositions.first (Answer e outcome.Ok) rest))
-      (Contains-append_cases d.dispositions.middle (ok_answers_of d.dispositions.ended ++ d.dispositions.first) (Answer e outcome.Ok) rest))
-      (Contains-append_cases d.dispositions.dispositions (d.dispositions.middle ++ (ok_answers_of d.dispositions.ended ++ d.dispositions.first)) (Answer e outcome.Ok) rest))
+      (Contains-append_cases (ok_answers_newest_first d.dispositions.ended) d.dispositions.first (Answer e outcome.Ok) rest))
+      (Contains-append_cases d.dispositions.middle (ok_answers_newest_first d.dispositions.ended ++ d.dispositions.first) (Answer e outcome.Ok) rest))
+      (Contains-append_cases d.dispositions.dispositions (d.dispositions.middle ++ (ok_answers_newest_first d.dispositions.ended ++ d.dispositions.first)) (Answer e outcome.Ok) rest))
       (Contains-append_cases d.issuing.steps (until_issues d.dispositions) (Answer e outcome.Ok) (subst (λ (steps : List Step). Contains steps (Answer e outcome.Ok)) d.steps_are here))
     where
       no_fate : Contains d.dispositions.dispositions (Answer e outcome.Ok) → ⊥
@@ -147,13 +147,13 @@ module _ (laws : PrerequisiteLaws) (port : Port) (replies : List Reply) (old new
   ended_answered : (e : Pending) → Contains d.dispositions.ended e → Contains d.steps (Answer e outcome.Ok)
   ended_answered e here = subst (λ (steps : List Step). Contains steps (Answer e outcome.Ok)) (sym d.steps_are)
       (Contains-append_right d.issuing.steps (until_issues d.dispositions) (Answer e outcome.Ok)
-      (Contains-append_right d.dispositions.dispositions (d.dispositions.middle ++ (ok_answers_of d.dispositions.ended ++ d.dispositions.first)) (Answer e outcome.Ok)
-      (Contains-append_right d.dispositions.middle (ok_answers_of d.dispositions.ended ++ d.dispositions.first) (Answer e outcome.Ok)
-      (Contains-append_left (ok_answers_of d.dispositions.ended) d.dispositions.first (Answer e outcome.Ok) (in_answered d.dispositions.ended e here)))))
+      (Contains-append_right d.dispositions.dispositions (d.dispositions.middle ++ (ok_answers_newest_first d.dispositions.ended ++ d.dispositions.first)) (Answer e outcome.Ok)
+      (Contains-append_right d.dispositions.middle (ok_answers_newest_first d.dispositions.ended ++ d.dispositions.first) (Answer e outcome.Ok)
+      (Contains-append_left (ok_answers_newest_first d.dispositions.ended) d.dispositions.first (Answer e outcome.Ok) (in_answered d.dispositions.ended e here)))))
 
-  early_may : AllEnabled m d.dispositions.first × AllEnabled (after m d.dispositions.first) (ok_answers_of d.dispositions.ended)
-  early_may = may_parts laws m (ok_answers_of d.dispositions.ended) d.dispositions.first
-      (may_parts laws m d.dispositions.middle (ok_answers_of d.dispositions.ended ++ d.dispositions.first) (may_parts laws m d.dispositions.dispositions (d.dispositions.middle ++ (ok_answers_of d.dispositions.ended ++ d.dispositions.first)) d.dispositions.may).0).0
+  early_may : AllEnabled m d.dispositions.first × AllEnabled (after m d.dispositions.first) (ok_answers_newest_first d.dispositions.ended)
+  early_may = may_parts laws m (ok_answers_newest_first d.dispositions.ended) d.dispositions.first
+      (may_parts laws m d.dispositions.middle (ok_answers_newest_first d.dispositions.ended ++ d.dispositions.first) (may_parts laws m d.dispositions.dispositions (d.dispositions.middle ++ (ok_answers_newest_first d.dispositions.ended ++ d.dispositions.first)) d.dispositions.may).0).0
 
   -- the masks that were read
   masks_read : (read : Device) × Reads (Px port Ci) x.reads_done.issued x.device_after_look read × Reads (Px port Sact) x.reads_done.active read x.device_after_read
@@ -239,5 +239,5 @@ module _ (laws : PrerequisiteLaws) (port : Port) (replies : List Reply) (old new
   found_by_masks = record { finds_done = finding; unused_slots_are_clear = λ slot small none. unused_clear laws old m port.0 is ready x.device_after_look x.device_after_read looks.is_driven x.mask x.done x.reads_done slot small none }
 
   -- what had ended is
-  pub heeding : AnswersEnded m d.steps port
+  pub heeding : AnswersOkWhatHadEnded m d.steps port
   heeding e here own ended = ended_told e (record { is_in_book = here; port_is = own; issued = laws.steps_and_accesses.ended_is_issued m e reached here ended }) ended

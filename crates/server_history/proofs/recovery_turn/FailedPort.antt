@@ -9,13 +9,13 @@ use Rattle.adapter.specs.Access.Access.{Reading}
 use Rattle.adapter.specs.Device.{Device}
 use Rattle.adapter.specs.Rules.{IsOn}
 use Rattle.refinement.specs.Fragments.{SomeMachineAgreesWith, AnySlotStates, IsSimulated}
-use Rattle.refinement.specs.PortFacts.{IsFaulted}
+use Rattle.refinement.specs.PortFacts.{IsHaltedPlainOrQueued}
 use Rattle.error_recovery.specs.Recovery.{PlainUsesSlot0, PlainIsSlot0, PortMayRecover}
 use Rattle.driver_history.specs.PortInvariants.{EngineRuns}
 use Rattle.host_boot.specs.TakeOver.{StillBacksProbeResult, probe_result_of, wanted_of}
 use Rattle.host_boot.specs.declared.ProbeResult.{ProbeResult}
 use Rattle.commands.specs.Masks.{ReadsDone}
-use Rattle.port_control.specs.PortEvents.{IsEventAccess, TakesEvent}
+use Rattle.port_control.specs.PortEvents.{IsPxisSstsOrOwnIsAccess, TakesEvent}
 use Rattle.port_control.specs.declared.events.PortEvent.TheVariants.{TaskFileError}
 use Rattle.slots.specs.declared.SlotUse.{SlotUse}
 use Rattle.server_history.specs.Prerequisites.{PrerequisiteLaws}
@@ -33,7 +33,7 @@ released s port k ready =
     (subst (λ (f : ProbeResult). StillBacksProbeResult (wanted_of s.wanted port.0) f port.0 s.device) r.1.1 (k.port_invariant port.0 r.0).probe_result_is_backed).1.no_comreset
 
 module _ (laws : PrerequisiteLaws) (s : ServerState) (seen found : Device) (port : Port) (mask done : ℕ) (k : InCallInvariant s) (ready : state_of (probe_result_of s.probe_results port.0) ≡ ReadyState)
-    (l : TakesEvent port TaskFileError s.device seen) (looks : IsSimulated (IsEventAccess port) AnySlotStates s.device seen) (finds : ReadsDone port mask done seen found) where
+    (l : TakesEvent port TaskFileError s.device seen) (looks : IsSimulated (IsPxisSstsOrOwnIsAccess port) AnySlotStates s.device seen) (finds : ReadsDone port mask done seen found) where
   low : port.0 < 4
   low = (ready_found s port.0 k ready).0
 
@@ -53,10 +53,10 @@ module _ (laws : PrerequisiteLaws) (s : ServerState) (seen found : Device) (port
   runs : EngineRuns port.0 found
   runs = (found_kept.port_invariant port.0 low).ready_engine_runs ready
 
-  first : IsFaulted (seen.port port.0).halt × ((seen.port port.0).notes.last_ssts % 16 ≡ 3)
+  first : IsHaltedPlainOrQueued (seen.port port.0).halt × ((seen.port port.0).notes.last_ssts % 16 ≡ 3)
   first = laws.look_laws.look_finds_fault_halted port s.device seen k.adapter_is_on l was.st_is_set (λ _. was.faults_are_recorded)
 
-  halted : IsFaulted (found.port port.0).halt × ((found.port port.0).notes.last_ssts % 16 ≡ 3)
+  halted : IsHaltedPlainOrQueued (found.port port.0).halt × ((found.port port.0).notes.last_ssts % 16 ≡ 3)
   halted =
       let r = both_read port mask done seen found finds in
       let mid = r.0 in

@@ -19,7 +19,7 @@ use Rattle.refinement.specs.Driver.{TapeBacksSteps}
 use Rattle.block_machine.specs.Events.{ShowsDisk, changes_disk}
 use Rattle.block_machine.specs.State.{Machine}
 use Rattle.block_machine.specs.Steps.{Step}
-use Rattle.host_boot.specs.Reboots.{RebootsPort, BootsStopped, IsCapPiOrBootAccess}
+use Rattle.host_boot.specs.Reboots.{RebootsPort, EndsReadyOrUnready, IsCapPiOrBootAccess}
 use Rattle.host_boot.specs.declared.Booted.{Booted}
 use Rattle.host_boot.specs.declared.ProbeResult.{ProbeResult}
 use Rattle.host_boot.specs.declared.ProbeResult.TheVariants.{Ready, Unready, Unserved}
@@ -107,7 +107,7 @@ module _ (laws : PrerequisiteLaws) (port : Port) where
   ready_sees old new on g = started old g.up new on g.brings_up (ready_then laws port old new g)
 
   -- each boot that finds a disk
-  pub boot_sees : (wanted : Wanted) (found : ProbeResult) (old new : Device) → IsOn old → BootsStopped wanted port found old new → ShowsDisk (state_of found) → SeesDevice port old new
+  pub boot_sees : (wanted : Wanted) (found : ProbeResult) (old new : Device) → IsOn old → EndsReadyOrUnready wanted port found old new → ShowsDisk (state_of found) → SeesDevice port old new
   boot_sees wanted Unserved old new on none shows = absurd none
   boot_sees wanted (Ready info) old new on e shows = ready_sees old new on e.brings_ready
   boot_sees wanted (Unready state) old new on e shows = unready_sees state old new on (λ is. subst (λ (x : Shown). BacksState (serial_of wanted) x port.0 new) is e.state_is_backed) e.unstarted_state_ends_before_start e.stopped_state_ends_after_start shows

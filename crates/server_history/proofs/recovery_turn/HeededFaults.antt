@@ -15,16 +15,16 @@ use Rattle.ata_types.specs.declared.request.Reply.{Reply}
 use Rattle.ata_types.specs.declared.request.RequestId.{RequestId}
 use Rattle.adapter.specs.Device.{DevicePort}
 use Rattle.refinement.specs.Fragments.{AnySlotStates, IsSimulated}
-use Rattle.block_machine.specs.Events.{IsIssuedIn, NoneStaysIssued, answers_of, issues_id}
+use Rattle.block_machine.specs.Events.{IsIssuedIn, IssuedOnPortAreIssuedInSteps, answers_of, issues_id}
 use Rattle.block_machine.specs.Histories.{IsReachable}
 use Rattle.block_machine.specs.Expected.{after}
 use Rattle.block_machine.specs.State.{Machine, Pending}
 use Rattle.block_machine.specs.Steps.{Answer, Issue, Step, update_pending, newly_issued}
 use Rattle.block_machine.specs.declared.due.QueueMode.{QueueMode}
-use Rattle.driver_history.specs.EvidenceHandling.{IsDisturbed, ServicesReadyPort, tells_fault}
+use Rattle.driver_history.specs.EvidenceHandling.{ShowsErrorOrLinkOrDiskChange, ServicesReadyPort, tells_fault}
 use Rattle.server_history.proofs.state.ListMembers.{at_cases, contains_cases, contains_here, contains_there, map_in}
 use Rattle.host_boot.specs.TakeOver.{probe_result_of}
-use Rattle.port_control.specs.PortEvents.{IsEventAccess}
+use Rattle.port_control.specs.PortEvents.{IsPxisSstsOrOwnIsAccess}
 use Rattle.port_control.specs.declared.events.PortError.{PortError}
 use Rattle.port_control.specs.declared.events.PortError.TheVariants.{FatalError, TaskFileError, TimedOut, LinkChanged}
 use Rattle.request_queue.specs.BookEntries.{BookEntry}
@@ -35,7 +35,7 @@ use Rattle.request_queue.specs.declared.disposition.Disposition.TheVariants.{Com
 use Rattle.slots.specs.SlotUses.{PortSlots, use_at}
 use Rattle.server_history.specs.Prerequisites.{PrerequisiteLaws}
 use Rattle.server_history.specs.ErrorHandling.{HasResolved, HandlesPortError, requests_of}
-use Rattle.server_history.specs.IssuingAndAnswering.{AllByDeviceOrIssue, ok_answers_of}
+use Rattle.server_history.specs.IssuingAndAnswering.{AllByDeviceOrIssue, ok_answers_newest_first}
 use Rattle.server_history.specs.ServerState.{ServerState, InCallInvariant, MachineRelation, mode_in, no_slots, state_of, used_for}
 use Rattle.server_history.specs.Turns.{IsTurnOrDeviceStep, abstract_state_of}
 use Rattle.server_history.proofs.state.AnswerSteps.{answered_in, no_answer, no_answer_issuing}
@@ -160,7 +160,7 @@ failed_id None = 0
 failed_id (Some failed) = failed.id.0
 
 module _ (laws : PrerequisiteLaws) (port : Port) (replies : List Reply) (old new : ServerState) (k : InCallInvariant old) (ready : state_of (probe_result_of old.probe_results port.0) ≡ ReadyState) (r : HandlesPortError port replies old new)
-    (looks : IsSimulated (IsEventAccess port) AnySlotStates old.device r.has_resolved.error_handled.device_after_look) (kept : InCallInvariant r.server_after_resolving) (evident : IsEvident port replies old new r) (m : Machine) (reached : IsReachable m) (is : MachineRelation old m)
+    (looks : IsSimulated (IsPxisSstsOrOwnIsAccess port) AnySlotStates old.device r.has_resolved.error_handled.device_after_look) (kept : InCallInvariant r.server_after_resolving) (evident : IsEvident port replies old new r) (m : Machine) (reached : IsReachable m) (is : MachineRelation old m)
     (d : DecidesTurn port replies old new r (evidence_by r.has_resolved) m) where
   abbrev a : HasResolved port r.later_replies old r.server_after_resolving
   a = r.has_resolved
@@ -189,7 +189,7 @@ module _ (laws : PrerequisiteLaws) (port : Port) (replies : List Reply) (old new
       let h : HasSlot r.server_after_resolving port e.request.id = issued_has r.server_after_resolving (after m base) port d.dispositions.stands kept is_ready e here own issued in
       let z : None ≡ Some h.used = sym (unused h.slot) ∙ h.used_is in absurd cc
 
-  pub anew : NoneStaysIssued d.steps (after m d.steps) port
+  pub anew : IssuedOnPortAreIssuedInSteps d.steps (after m d.steps) port
   anew e here own issued =
       let all : after m d.steps ≡ after (after m base) d.issuing.steps = ap (after m) d.steps_are ∙ laws.steps_and_accesses.after_joins m d.issuing.steps base in
       subst (IsIssuedIn e.request.id) (sym d.steps_are) (⊎_elim
@@ -201,7 +201,7 @@ module _ (laws : PrerequisiteLaws) (port : Port) (replies : List Reply) (old new
 
   fate_there : (e : Pending) (o : Outcome) → Contains d.dispositions.dispositions (Answer e o) → Contains d.steps (Answer e o)
   fate_there e o here = subst (λ (steps : List Step). Contains steps (Answer e o)) (sym d.steps_are)
-      (Contains-append_right d.issuing.steps base (Answer e o) (Contains-append_left d.dispositions.dispositions (d.dispositions.middle ++ (ok_answers_of d.dispositions.ended ++ d.dispositions.first)) (Answer e o) here))
+      (Contains-append_right d.issuing.steps base (Answer e o) (Contains-append_left d.dispositions.dispositions (d.dispositions.middle ++ (ok_answers_newest_first d.dispositions.ended ++ d.dispositions.first)) (Answer e o) here))
 
   differ : AreDifferent (answers_of d.dispositions.dispositions)
   differ = still_differ d.dispositions.tells.answers (answers_of d.dispositions.dispositions) d.dispositions.tells.is_permutation (told_differ port d.dispositions.tells.answers
@@ -256,12 +256,12 @@ module _ (laws : PrerequisiteLaws) (port : Port) (replies : List Reply) (old new
   counted =
       let issuing = silent d.issuing.steps (λ e o here. absurd (no_answer_issuing (mode_in r.server_after_resolving port) port d.issuing.steps d.issuing.only e o here)) in
       let middle = silent d.dispositions.middle (λ e o here. absurd (no_answer d.dispositions.middle d.dispositions.middle_only e o here)) in
-      let ended = silent (ok_answers_of d.dispositions.ended) (λ e o here. (answered_in d.dispositions.ended e o here).1) in
+      let ended = silent (ok_answers_newest_first d.dispositions.ended) (λ e o here. (answered_in d.dispositions.ended e o here).1) in
       let first = silent d.dispositions.first (λ e o here. absurd (no_answer d.dispositions.first d.dispositions.first_only e o here)) in
       let c = ap (count_by (tells_fault port)) d.steps_are ∙ count_append (tells_fault port) d.issuing.steps base in
-      let c1 = count_append (tells_fault port) d.dispositions.dispositions (d.dispositions.middle ++ (ok_answers_of d.dispositions.ended ++ d.dispositions.first)) in
-      let c2 = count_append (tells_fault port) d.dispositions.middle (ok_answers_of d.dispositions.ended ++ d.dispositions.first) in
-      let c3 = count_append (tells_fault port) (ok_answers_of d.dispositions.ended) d.dispositions.first in
+      let c1 = count_append (tells_fault port) d.dispositions.dispositions (d.dispositions.middle ++ (ok_answers_newest_first d.dispositions.ended ++ d.dispositions.first)) in
+      let c2 = count_append (tells_fault port) d.dispositions.middle (ok_answers_newest_first d.dispositions.ended ++ d.dispositions.first) in
+      let c3 = count_append (tells_fault port) (ok_answers_newest_first d.dispositions.ended) d.dispositions.first in
       omega (arith, issuing, middle, ended, first, c, c1, c2, c3)
 
   single : count_by (tells_fault port) d.steps ≤ 1
@@ -290,10 +290,10 @@ module _ (laws : PrerequisiteLaws) (port : Port) (replies : List Reply) (old new
 
   pub serves_ready : a.error_handled.port_error ≢ TimedOut → ServicesReadyPort (abstract_state_of old m) (evidence_by a) d.steps (abstract_state_of new (after m d.steps)) port
   serves_ready unhung = record {
-    answers_ended = heeding laws port replies old new k ready r looks kept evident m reached is d;
+    answers_ok_what_had_ended = heeding laws port replies old new k ready r looks kept evident m reached is d;
     link_change_leaves_none = λ here. d.emptied (gone_is port shown a.error_handled.port_error unhung here);
     link_change_tells_alike = λ here. d.told (gone_is port shown a.error_handled.port_error unhung here);
-    trouble_interrupts = λ _. interrupted laws port replies old new k ready r looks kept;
+    trouble_stops_or_sticks = λ _. interrupted laws port replies old new k ready r looks kept;
     error_or_stop_leaves_no_old_issue = λ _. anew;
     one_fault_at_most = single;
     fatal_tells_no_fault = fatal;
@@ -301,7 +301,7 @@ module _ (laws : PrerequisiteLaws) (port : Port) (replies : List Reply) (old new
     is_left_alone_if_calm = inl disturbed;
   }
     where
-      disturbed : IsDisturbed (evidence_by a) d.steps port
+      disturbed : ShowsErrorOrLinkOrDiskChange (evidence_by a) d.steps port
       disturbed = ⊎_elim
           (λ lost. inr (inl (subst (λ (t : PortError). Contains (gone_of port t shown) port) (sym lost) (first_here port []))))
           (λ other. inl (failed_named laws port replies old new k ready r looks kept unhung other))

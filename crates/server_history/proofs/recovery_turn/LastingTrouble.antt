@@ -14,13 +14,13 @@ use Rattle.adapter.specs.Rules.{IsOn}
 use Rattle.refinement.specs.Fragments.{AnySlotStates, IsDrivenBy, IsSimulated, SparesOtherPorts}
 use Rattle.server_history.proofs.state.DrivenAccesses.{by_then, driven_as}
 use Rattle.block_machine.specs.State.{Machine}
-use Rattle.disk_page.specs.PageRequests.{IsPageAccess}
+use Rattle.disk_page.specs.PageRequests.{IsSlot0CiOrPageMemoryAccess}
 use Rattle.driver_history.specs.Histories.{LosesNoPortError}
 use Rattle.error_recovery.specs.Evidence.{HidesNoTrouble}
 use Rattle.error_recovery.specs.Recovery.{EndsAsNext, RunsAgain}
 use Rattle.error_recovery.specs.declared.Next.{Next}
 use Rattle.error_recovery.specs.declared.Next.TheVariants as next
-use Rattle.host_boot.specs.Reboots.{RebootsPort, BootsStopped, IsCapPiOrBootAccess}
+use Rattle.host_boot.specs.Reboots.{RebootsPort, EndsReadyOrUnready, IsCapPiOrBootAccess}
 use Rattle.identify.specs.Wanted.{serial_of}
 use Rattle.port_boot.specs.Outcomes.{EndsReady}
 use Rattle.host_boot.specs.TakeOver.{probe_result_of, wanted_of}
@@ -29,7 +29,7 @@ use Rattle.host_boot.specs.declared.ProbeResult.{ProbeResult}
 use Rattle.host_boot.specs.declared.ProbeResult.TheVariants.{Ready, Unready}
 use Rattle.identify.specs.declared.DiskInfo.{DiskInfo}
 use Rattle.port_boot.specs.States.{BringsReady, IsBootAccess}
-use Rattle.port_control.specs.PortEvents.{IsEventAccess}
+use Rattle.port_control.specs.PortEvents.{IsPxisSstsOrOwnIsAccess}
 use Rattle.request_queue.specs.BookEntries.{unanswered_of, due_ids}
 use Rattle.identify.specs.declared.wanted.Wanted.{Wanted}
 use Rattle.server_history.specs.Prerequisites.{PrerequisiteLaws}
@@ -86,7 +86,7 @@ issuing_leaves at port (Writing r v) is = ⊎_elim
 issuing_leaves at port (Loading a bytes) is = (tt, tt, tt, tt, stays_on (Loading a bytes) tt)
 issuing_leaves at port (Storing a bytes) is = (tt, tt, tt, tt, stays_on (Storing a bytes) tt)
 
-asking_leaves : (port : Port) (access : Access) → IsPageAccess port access → LeavesTrouble port access
+asking_leaves : (port : Port) (access : Access) → IsSlot0CiOrPageMemoryAccess port access → LeavesTrouble port access
 asking_leaves port (Reading r v) is = (tt, tt, tt, tt, stays_on (Reading r v) tt)
 asking_leaves port (Writing r v) is = subst (λ (x : Reg). LeavesTrouble port (Writing x v)) (sym is.0) (ci_apart port port v)
 asking_leaves port (Loading at bytes) is = (tt, tt, tt, tt, stays_on (Loading at bytes) tt)
@@ -101,7 +101,7 @@ module _ (laws : PrerequisiteLaws) (port : Port) (old asked mid new : Device) (o
   -- what came since ST was set leaves what the port shows
   pub ready_since : IsDrivenBy (LeavesTrouble port) way.up new
   ready_since =
-      by_then laws (driven_as (IsPageAccess port) (LeavesTrouble port) way.up way.asks_disk.asked (asking_leaves port) way.asks_disk.asks)
+      by_then laws (driven_as (IsSlot0CiOrPageMemoryAccess port) (LeavesTrouble port) way.up way.asks_disk.asked (asking_leaves port) way.asks_disk.asks)
       (by_then laws
       (record { accesses = Writing (Px port Ie) named_causes_mask ∷ []; all_are_done = (mid, way.asks_disk.enables_interrupts, refl); accesses_are_of_kind = All-cons (LeavesTrouble port) (Writing (Px port Ie) named_causes_mask) [] (ie_apart port named_causes_mask) (All-nil (LeavesTrouble port)) })
       later)
@@ -117,7 +117,7 @@ module _ (laws : PrerequisiteLaws) (port : Port) (low : port.0 < 4) (wanted : Wa
   boot_asked_on = laws.one_port_keeps_adapter_on port d b.device_after_survey on (driven_as (IsCapPiOrBootAccess port) (SparesOtherPorts port) d b.device_after_survey (λ access s. (start_part laws port low access s).1) b.surveys.is_driven)
 
   pub boot_ends : EndsReady (serial_of wanted) port info b.device_after_survey mid
-  boot_ends = subst (λ (f : ProbeResult). BootsStopped wanted port f b.device_after_survey mid) found b.boots
+  boot_ends = subst (λ (f : ProbeResult). EndsReadyOrUnready wanted port f b.device_after_survey mid) found b.boots
 
   abbrev boot_way : BringsReady port b.device_after_survey mid
   boot_way = boot_ends.brings_ready
@@ -128,7 +128,7 @@ module _ (laws : PrerequisiteLaws) (port : Port) (low : port.0 < 4) (wanted : Wa
 -- ---- the whole
 
 module _ (laws : PrerequisiteLaws) (port : Port) (replies : List Reply) (old new : ServerState) (k : InCallInvariant old) (ready : state_of (probe_result_of old.probe_results port.0) ≡ ReadyState) (r : HandlesPortError port replies old new)
-    (looks : IsSimulated (IsEventAccess port) AnySlotStates old.device r.has_resolved.error_handled.device_after_look) (kept : InCallInvariant r.server_after_resolving) (t : TurnParts port replies old new r) where
+    (looks : IsSimulated (IsPxisSstsOrOwnIsAccess port) AnySlotStates old.device r.has_resolved.error_handled.device_after_look) (kept : InCallInvariant r.server_after_resolving) (t : TurnParts port replies old new r) where
   abbrev a : HasResolved port r.later_replies old r.server_after_resolving
   a = r.has_resolved
 

@@ -16,10 +16,10 @@ use Rattle.adapter.specs.Device.{Device}
 use Rattle.refinement.specs.Fragments.{ReadsPortOrWrites, IsDrivenBy}
 use Rattle.refinement.specs.PreservedParts.{DoesNotWrite}
 use Rattle.server_history.proofs.state.DrivenAccesses.{by_none, by_then, driven_as}
-use Rattle.disk_page.specs.PageRequests.{IsPageAccess}
+use Rattle.disk_page.specs.PageRequests.{IsSlot0CiOrPageMemoryAccess}
 use Rattle.driver_history.specs.AccessTrace.{ResetsLink}
 use Rattle.error_recovery.specs.Recovery.{IsCmdSerrOrIs, IsRecoveryAccess}
-use Rattle.port_boot.specs.States.{EndsBeforeStart, EndsAfterStart, BringsReady, BringsUpPort, IsBootRegister, IsBootAccess}
+use Rattle.port_boot.specs.States.{EndsBeforeStart, EndsAfterStart, BringsReady, BringsUpPort, IsWrittenInBootButCi, IsBootAccess}
 use Rattle.port_control.specs.Ports.{ClearsErrors, FindsLinkAndClearsErrors, FindsSignature, IsPlacingRegister, SeesResetFault, IsVainReading, ReadsUntil, ReadsInVain, IsCommandRegister}
 use Rattle.port_control.specs.declared.PortFault.{PortFault}
 use Rattle.port_control.specs.declared.PortFault.TheVariants.{NoDevice, Busy, EngineStuck, NotAta}
@@ -62,7 +62,7 @@ apart : (port at : Port) (r other : PortReg) → r ≢ other → Px at r ≢ Px 
 apart port at r other ne same = ne cc
 
 module _ (laws : PrerequisiteLaws) (port : Port) where
-  control_beside : (Such : PortReg → Type 0) → ((r : PortReg) → Such r → IsBootRegister r × (r ≢ Sctl)) → (access : Access) → ReadsPortOrWrites Such port access → IsBeside port access
+  control_beside : (Such : PortReg → Type 0) → ((r : PortReg) → Such r → IsWrittenInBootButCi r × (r ≢ Sctl)) → (access : Access) → ReadsPortOrWrites Such port access → IsBeside port access
   control_beside Such each (Reading (Px at r) v) is = (inl is, tt)
   control_beside Such each (Reading r v) is = absurd is
   control_beside Such each (Writing (Px at r) v) is = let e = each r is.1 in (inl (is.0, e.0), apart port at r Sctl e.1)
@@ -70,10 +70,10 @@ module _ (laws : PrerequisiteLaws) (port : Port) where
   control_beside Such each (Loading at bytes) is = absurd is
   control_beside Such each (Storing at bytes) is = absurd is
 
-  command_beside : (r : PortReg) → IsCommandRegister r → IsBootRegister r × (r ≢ Sctl)
+  command_beside : (r : PortReg) → IsCommandRegister r → IsWrittenInBootButCi r × (r ≢ Sctl)
   command_beside r is = (inl (inl is), λ same. let z : Cmd ≡ Sctl = sym is ∙ same in absurd cc)
 
-  placing_beside : (r : PortReg) → IsPlacingRegister r → IsBootRegister r × (r ≢ Sctl)
+  placing_beside : (r : PortReg) → IsPlacingRegister r → IsWrittenInBootButCi r × (r ≢ Sctl)
   placing_beside r is = (inl is, no is)
     where
       no : IsPlacingRegister r → r ≢ Sctl
@@ -86,14 +86,14 @@ module _ (laws : PrerequisiteLaws) (port : Port) where
   pub placing_boots : (access : Access) → ReadsPortOrWrites IsPlacingRegister port access → IsBootAccess port access
   placing_boots access is = (control_beside IsPlacingRegister placing_beside access is).0
 
-  asking_beside : (access : Access) → IsPageAccess port access → IsBeside port access
+  asking_beside : (access : Access) → IsSlot0CiOrPageMemoryAccess port access → IsBeside port access
   asking_beside (Reading r v) is = (inr is, tt)
   asking_beside (Writing r v) is = (inr is, λ same. let z : Px port Ci ≡ Px port Sctl = sym is.0 ∙ same in absurd cc)
   asking_beside (Loading at bytes) is = (inr is, tt)
   asking_beside (Storing at bytes) is = (inr is, tt)
 
   unread : (r : PortReg) (Sees : ℕ → Type 0) (access : Access) → IsVainReading port r Sees access → IsBeside port access
-  unread r Sees (Reading at v) is = (inl (subst (λ (x : Reg). ReadsPortOrWrites IsBootRegister port (Reading x v)) (sym is.0) refl), tt)
+  unread r Sees (Reading at v) is = (inl (subst (λ (x : Reg). ReadsPortOrWrites IsWrittenInBootButCi port (Reading x v)) (sym is.0) refl), tt)
   unread r Sees (Writing at v) is = absurd is
   unread r Sees (Loading at bytes) is = absurd is
   unread r Sees (Storing at bytes) is = absurd is
@@ -105,7 +105,7 @@ module _ (laws : PrerequisiteLaws) (port : Port) where
   read_one : (r : PortReg) (v : ℕ) (old new : Device) → Reads (Px port r) v old new → IsDrivenBy (IsBeside port) old new
   read_one r v old new reads = one (Reading (Px port r) v) old new (inl refl, tt) reads
 
-  write_one : (r : PortReg) (v : ℕ) (old new : Device) → IsBootRegister r → r ≢ Sctl → Writes (Px port r) v old new → IsDrivenBy (IsBeside port) old new
+  write_one : (r : PortReg) (v : ℕ) (old new : Device) → IsWrittenInBootButCi r → r ≢ Sctl → Writes (Px port r) v old new → IsDrivenBy (IsBeside port) old new
   write_one r v old new is other writes = one (Writing (Px port r) v) old new (inl (refl, is), apart port port r Sctl other) writes
 
   pub without : (r : PortReg) (Sees : ℕ → Type 0) (count : ℕ) (old new : Device) → ReadsInVain port r Sees count old new → IsDrivenBy (IsBeside port) old new
@@ -142,8 +142,8 @@ module _ (laws : PrerequisiteLaws) (port : Port) where
   pub commanding : (old new : Device) → IsDrivenBy (ReadsPortOrWrites IsCommandRegister port) old new → IsDrivenBy (IsBeside port) old new
   commanding old new driven = driven_as (ReadsPortOrWrites IsCommandRegister port) (IsBeside port) old new (control_beside IsCommandRegister command_beside) driven
 
-  asking : (old new : Device) → IsDrivenBy (IsPageAccess port) old new → IsDrivenBy (IsBeside port) old new
-  asking old new driven = driven_as (IsPageAccess port) (IsBeside port) old new asking_beside driven
+  asking : (old new : Device) → IsDrivenBy (IsSlot0CiOrPageMemoryAccess port) old new → IsDrivenBy (IsBeside port) old new
+  asking old new driven = driven_as (IsSlot0CiOrPageMemoryAccess port) (IsBeside port) old new asking_beside driven
 
   -- what comes once the link was found of a port that is started, and then
   pub started_then : (old up new : Device) (g : BringsUpPort port old up) → IsDrivenBy (IsBeside port) up new → IsDrivenBy (IsBeside port) g.resets.does_rest.linked new

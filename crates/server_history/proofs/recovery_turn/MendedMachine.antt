@@ -16,7 +16,7 @@ use Rattle.refinement.specs.Acts.{DriverSlots, driver_state_of_slots}
 use Rattle.refinement.specs.Fragments.{AnySlotStates, IsSimulated}
 use Rattle.refinement.specs.Driver.{HasNoSlot, TapeBacksSteps}
 use Rattle.refinement.specs.Slots.{Serves}
-use Rattle.refinement.specs.SparedBook.{KeepsLoansAndBookOnlyAdvances}
+use Rattle.refinement.specs.SparedBook.{KeepsLoansAndPendingsOnlyAdvance}
 use Rattle.block_machine.specs.Events.{AllByDevice, AllEnabled}
 use Rattle.block_machine.specs.Histories.{IsReachable}
 use Rattle.block_machine.specs.Expected.{after}
@@ -30,7 +30,7 @@ use Rattle.host_boot.specs.TakeOver.{probe_result_of, wanted_of}
 use Rattle.host_boot.specs.declared.ProbeResult.{ProbeResult}
 use Rattle.host_boot.specs.declared.ProbeResult.TheVariants.{Unserved, Ready, Unready}
 use Rattle.identify.specs.declared.DiskInfo.{DiskInfo}
-use Rattle.port_control.specs.PortEvents.{IsEventAccess}
+use Rattle.port_control.specs.PortEvents.{IsPxisSstsOrOwnIsAccess}
 use Rattle.request_queue.specs.BookEntries.{BookEntry, IsEarlier, is_of_port}
 use Rattle.request_queue.specs.Dispositions.{KeepsOrEndsLoan, BookAndLoans, AreResolved, IsResolved, disposition_of, disposition_of_unfailed, keeps_loan}
 use Rattle.request_queue.specs.BookRelation.{EntryRelation}
@@ -42,10 +42,10 @@ use Rattle.request_queue.specs.declared.disposition.Revalidation.{Revalidation}
 use Rattle.request_queue.specs.declared.disposition.Revalidation.TheVariants.{SameDisk, DiskLost, Dead as NoEnd}
 use Rattle.slots.specs.SlotUses.{PortSlots}
 use Rattle.server_history.specs.Prerequisites.{PrerequisiteLaws}
-use Rattle.server_history.specs.ResolvedRequests.{IsResolveStep, AreResolvable, AreResolvedInMachine, keeps_frames_lent}
+use Rattle.server_history.specs.ResolvedRequests.{IsResolveStep, AreResolvable, AreResolvedInMachine, completes_keeping_loan}
 use Rattle.server_history.specs.ErrorHandling.{HasAllSlotsFreeAndCountOfMode, IsFailedRequest, IsFoundAfterError, IsRevalidation, HasResolved, book_and_loans_of, requests_of, with_port_resolved}
-use Rattle.server_history.specs.IssuingAndAnswering.{ok_answers_of}
-use Rattle.server_history.specs.ServerState.{QuarantineRelation, SlotUsesAgreeUnlessDead, InCallInvariant, MachineRelation, ServerState, is_served, quarantined_at, slots_at, state_of, RevokedMarkInvariant}
+use Rattle.server_history.specs.IssuingAndAnswering.{ok_answers_newest_first}
+use Rattle.server_history.specs.ServerState.{KeptRequestsRelation, SlotUsesAgreeUnlessDead, InCallInvariant, MachineRelation, ServerState, is_served, quarantined_at, slots_at, state_of, RevokedMarkInvariant}
 use Rattle.server_history.proofs.state.HistorySteps.{book_on, still_kept}
 use Rattle.server_history.proofs.state.Quarantine.{none_alive}
 use Rattle.server_history.proofs.plain_calls.Looks.{finding_kept, found_over, looking_kept}
@@ -131,7 +131,7 @@ module _ (laws : PrerequisiteLaws) (port : Port) (mid : ServerState) (k : InCall
   w_reached : IsReachable w
   w_reached = laws.steps_and_accesses.reachable_stays_reachable n passed.passes.steps reached passed.passes.may
 
-  spares : KeepsLoansAndBookOnlyAdvances n w
+  spares : KeepsLoansAndPendingsOnlyAdvance n w
   spares = laws.steps_and_accesses.device_steps_spare_book n passed.passes.steps passed.passes.only
 
   in_its : (e : BookEntry) → Contains mid.book e → e.request.port.0 ≡ port.0 → Contains its e
@@ -144,7 +144,7 @@ module _ (laws : PrerequisiteLaws) (port : Port) (mid : ServerState) (k : InCall
   )
 
   -- one whose loan isn't kept has no slot
-  unserved : (e : BookEntry) → Contains its e → keeps_frames_lent (disposition e.request) e.request ≡ false → HasNoSlot t.slot_states e.request.id
+  unserved : (e : BookEntry) → Contains its e → completes_keeping_loan (disposition e.request) e.request ≡ false → HasNoSlot t.slot_states e.request.id
   unserved e here never = by e.request.issued refl
     where
       entry : (p : Pending) × Contains n.book p × EntryRelation e p
@@ -161,8 +161,8 @@ module _ (laws : PrerequisiteLaws) (port : Port) (mid : ServerState) (k : InCall
       of (Restart token) z issued = served (λ stuck. let y : Restart token ≡ Stuck = sym z ∙ stuck in absurd cc) issued
       of Stuck z issued =
           let u = unnamed z in
-          let keeps : keeps_frames_lent (disposition e.request) e.request ≡ true =
-          ap (λ (f : Option FailedRequest). keeps_frames_lent (disposition_of f revalidation e.request) e.request) u.1 ∙ ap (λ (p : Revalidation). keeps_frames_lent (disposition_of_unfailed p e.request) e.request) (dead_end port_error was found revalidation expects u.0) ∙ issued in
+          let keeps : completes_keeping_loan (disposition e.request) e.request ≡ true =
+          ap (λ (f : Option FailedRequest). completes_keeping_loan (disposition_of f revalidation e.request) e.request) u.1 ∙ ap (λ (p : Revalidation). completes_keeping_loan (disposition_of_unfailed p e.request) e.request) (dead_end port_error was found revalidation expects u.0) ∙ issued in
           absurd (false≢true (sym never ∙ keeps))
 
       by : (b : Bool) → e.request.issued ≡ b → HasNoSlot t.slot_states e.request.id
@@ -206,7 +206,7 @@ module _ (laws : PrerequisiteLaws) (port : Port) (mid : ServerState) (k : InCall
     dies : (e : Pending) → Contains met.newly_kept e → (e.request.port ≡ port) × (found ≡ Unready Dead)
     dies e here = (x.2.port ∙ (of_its x.0 x.1).1, by revalidation refl)
       where
-        x : (request : BookEntry) × Contains its request × EntryRelation request e × (keeps_frames_lent (disposition request.request) request.request ≡ true)
+        x : (request : BookEntry) × Contains its request × EntryRelation request e × (completes_keeping_loan (disposition request.request) request.request ≡ true)
         x = met.newly_kept_are_of_requests e here
 
         lives : revalidation ≢ NoEnd → ⊥
@@ -218,7 +218,7 @@ module _ (laws : PrerequisiteLaws) (port : Port) (mid : ServerState) (k : InCall
         by NoEnd same = subst (IsRevalidation port_error was found) same expects
 
     -- on another port nothing is decided
-    quiet : found ≢ Unready Dead → (e : PendingRequest) → keeps_frames_lent (disposition e) e ≡ false
+    quiet : found ≢ Unready Dead → (e : PendingRequest) → completes_keeping_loan (disposition e) e ≡ false
     quiet other e = kept_dead_alone failed revalidation e (λ dead. other (subst (IsRevalidation port_error was found) dead expects))
 
     none_left : found ≢ Unready Dead → met.parked port.0 ≡ []
@@ -253,7 +253,7 @@ module _ (laws : PrerequisiteLaws) (port : Port) (mid : ServerState) (k : InCall
 
       -- ---- what is kept
 
-      was_kept : QuarantineRelation mid.probe_results mid.kept_loans w.kept
+      was_kept : KeptRequestsRelation mid.probe_results mid.kept_loans w.kept
       was_kept = still_kept laws mid.probe_results mid.kept_loans n.kept w.kept spares.kept is.quarantine_relation
 
       -- one that was kept is of another port
@@ -263,8 +263,8 @@ module _ (laws : PrerequisiteLaws) (port : Port) (mid : ServerState) (k : InCall
       none_kept_here : quarantined_at mid.kept_loans port.0 ≡ []
       none_kept_here = none_alive mid k port.0 alive (quarantined_at mid.kept_loans port.0) refl
 
-      are_kept : QuarantineRelation new.probe_results new.kept_loans z.kept
-      are_kept = subst (QuarantineRelation new.probe_results new.kept_loans) (sym met.newly_kept_are_kept)
+      are_kept : KeptRequestsRelation new.probe_results new.kept_loans z.kept
+      are_kept = subst (KeptRequestsRelation new.probe_results new.kept_loans) (sym met.newly_kept_are_kept)
           (more_kept port mid.probe_results new.probe_results mid.kept_loans new.kept_loans met.newly_kept w.kept was_kept (kept_same ∙ met.loans_of_newly_kept) kept_other
           (λ e here. found_other e.request.port.0 (elsewhere e here) ∙ was_kept.quarantine_ports_are_dead e here)
           (λ e here. let d = dies e here in (d.0, found_same ∙ d.1))
@@ -293,7 +293,7 @@ module _ (laws : PrerequisiteLaws) (port : Port) (mid : ServerState) (k : InCall
 -- ---- the whole
 
 module _ (laws : PrerequisiteLaws) (port : Port) (later : List Reply) (old new : ServerState) (k : InCallInvariant old) (ready : state_of (probe_result_of old.probe_results port.0) ≡ ReadyState) (a : HasResolved port later old new)
-    (looks : IsSimulated (IsEventAccess port) AnySlotStates old.device a.error_handled.device_after_look) where
+    (looks : IsSimulated (IsPxisSstsOrOwnIsAccess port) AnySlotStates old.device a.error_handled.device_after_look) where
   abbrev from : ServerState
   from = record old { device = a.error_handled.device_after_read }
 
@@ -367,22 +367,22 @@ module _ (laws : PrerequisiteLaws) (port : Port) (later : List Reply) (old new :
       y = each_answered laws port a.error_handled.done a.error_handled.requests from a.server_after_handling found_kept ready over a.error_handled.answers_each (after m x.0) reached_x x.2
 
       base : List Step
-      base = ok_answers_of y.ended ++ x.0
+      base = ok_answers_newest_first y.ended ++ x.0
 
       n : Machine
       n = after m base
 
       base_may : AllEnabled m base
-      base_may = laws.steps_and_accesses.enabled_lists_join m (ok_answers_of y.ended) x.0 x.1 y.may
+      base_may = laws.steps_and_accesses.enabled_lists_join m (ok_answers_newest_first y.ended) x.0 x.1 y.may
 
       base_backed : TapeBacksSteps old.device a.server_after_handling.device m base
-      base_backed = laws.backed_parts_join old.device a.error_handled.device_after_read a.server_after_handling.device m x.0 (ok_answers_of y.ended) x.3 y.backed
+      base_backed = laws.backed_parts_join old.device a.error_handled.device_after_read a.server_after_handling.device m x.0 (ok_answers_newest_first y.ended) x.3 y.backed
 
       n_reached : IsReachable n
       n_reached = laws.steps_and_accesses.reachable_stays_reachable m base reached base_may
 
       is_mid : MachineRelation a.server_after_handling n
-      is_mid = subst (MachineRelation a.server_after_handling) (sym (laws.steps_and_accesses.after_joins m (ok_answers_of y.ended) x.0)) y.stands
+      is_mid = subst (MachineRelation a.server_after_handling) (sym (laws.steps_and_accesses.after_joins m (ok_answers_newest_first y.ended) x.0)) y.stands
 
       p : IsPassed port.0 a.error_handled.result.next a.found a.server_after_handling.device new.device (record { slot_states = is_mid.uses; awaiting_disposition = is_mid.awaiting_disposition }) n
       p = passed laws (wanted_of old.wanted port.0) port a.error_handled.port_error a.disk_before a.error_handled.result.next a.error_handled.recovers_or_stops.accesses a.server_after_handling.device a.device_after_handling new.device a.found a.error_handled.recovers_or_stops.does.slots_after a.is_found_after_error

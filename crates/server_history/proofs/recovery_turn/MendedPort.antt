@@ -12,13 +12,13 @@ use Rattle.refinement.specs.Fragments.{AnySlotStates, IsSimulated}
 use Rattle.block_machine.specs.Ports.{Evidence, IsStoppedOrStuck, IsServiced, SameSerialAndSize}
 use Rattle.error_recovery.specs.declared.Next.{Next}
 use Rattle.error_recovery.specs.declared.Next.TheVariants as next
-use Rattle.host_boot.specs.Reboots.{RebootsPort, BootsStopped}
+use Rattle.host_boot.specs.Reboots.{RebootsPort, EndsReadyOrUnready}
 use Rattle.host_boot.specs.TakeOver.{probe_result_of, wanted_of}
 use Rattle.host_boot.specs.declared.ProbeResult.{ProbeResult}
 use Rattle.host_boot.specs.declared.ProbeResult.TheVariants.{Ready, Unready, Unserved}
 use Rattle.identify.specs.declared.DiskInfo.{DiskInfo}
 use Rattle.identify.specs.declared.wanted.Wanted.{Wanted}
-use Rattle.port_control.specs.PortEvents.{IsEventAccess}
+use Rattle.port_control.specs.PortEvents.{IsPxisSstsOrOwnIsAccess}
 use Rattle.request_queue.specs.BookEntries.{unanswered_of, due_ids}
 use Rattle.request_queue.specs.declared.disposition.FailedRequest.{FailedRequest}
 use Rattle.request_queue.specs.declared.disposition.Revalidation.{Revalidation}
@@ -68,7 +68,7 @@ found_served wanted port port_error was (next.Restart token) old new found is = 
     (λ absent. ap is_served absent.is)
     (boots_or_absent port_error wanted port is.0 old new is.2)
   where
-    by : (b : RebootsPort wanted port is.0 old new) (f : ProbeResult) → BootsStopped wanted port f b.device_after_survey new → is_served f ≡ true
+    by : (b : RebootsPort wanted port is.0 old new) (f : ProbeResult) → EndsReadyOrUnready wanted port f b.device_after_survey new → is_served f ≡ true
     by b Unserved none = absurd none
     by b (Ready info) x = refl
     by b (Unready state) x = refl
@@ -147,7 +147,7 @@ names_only port port_error shown failed revalidation then = record {
 -- ---- the port
 
 module _ (laws : PrerequisiteLaws) (port : Port) (replies : List Reply) (old new : ServerState) (k : InCallInvariant old) (ready : state_of (probe_result_of old.probe_results port.0) ≡ ReadyState) (r : HandlesPortError port replies old new)
-    (looks : IsSimulated (IsEventAccess port) AnySlotStates old.device r.has_resolved.error_handled.device_after_look) (kept : InCallInvariant r.server_after_resolving) where
+    (looks : IsSimulated (IsPxisSstsOrOwnIsAccess port) AnySlotStates old.device r.has_resolved.error_handled.device_after_look) (kept : InCallInvariant r.server_after_resolving) where
   abbrev a : HasResolved port r.later_replies old r.server_after_resolving
   a = r.has_resolved
 

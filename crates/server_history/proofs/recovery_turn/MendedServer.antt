@@ -28,7 +28,7 @@ use Rattle.port_boot.specs.States.{IsOnWithPortMemoryAndFreeSlots}
 use Rattle.port_control.specs.Ports.{IsStopped}
 use Rattle.port_control.specs.declared.Running as running_token
 use Rattle.port_control.specs.declared.Stopped.{Stopped}
-use Rattle.port_control.specs.PortEvents.{IsEventAccess}
+use Rattle.port_control.specs.PortEvents.{IsPxisSstsOrOwnIsAccess}
 use Rattle.request_queue.specs.BookEntries.{BookEntry, is_of_port}
 use Rattle.request_queue.specs.Dispositions.{disposition_of}
 use Rattle.request_queue.specs.declared.disposition.Revalidation.{Revalidation}
@@ -67,7 +67,7 @@ kept_in {X} passes (y ∷ xs) x here is = ⊎_elim
 -- ---- a recovery
 
 module _ (laws : PrerequisiteLaws) (port : Port) (old mid : ServerState) (device : Device) (k : InCallInvariant old) (ready : state_of (probe_result_of old.probe_results port.0) ≡ ReadyState) (r : IsErrorHandled port old mid device)
-    (looks : IsSimulated (IsEventAccess port) AnySlotStates old.device r.device_after_look) where
+    (looks : IsSimulated (IsPxisSstsOrOwnIsAccess port) AnySlotStates old.device r.device_after_look) where
   seen_kept : InCallInvariant (record old { device = r.device_after_look })
   seen_kept = looking_kept old r.device_after_look port k ready laws looks
 
@@ -123,7 +123,7 @@ module _ (laws : PrerequisiteLaws) (port : Port) (old mid : ServerState) (device
 -- ---- what it is then
 
 module _ (laws : PrerequisiteLaws) (port : Port) (later : List Reply) (old new : ServerState) (k : InCallInvariant old) (ready : state_of (probe_result_of old.probe_results port.0) ≡ ReadyState) (a : HasResolved port later old new)
-    (looks : IsSimulated (IsEventAccess port) AnySlotStates old.device a.error_handled.device_after_look) where
+    (looks : IsSimulated (IsPxisSstsOrOwnIsAccess port) AnySlotStates old.device a.error_handled.device_after_look) where
   abbrev r : IsErrorHandled port old a.server_after_handling a.device_after_handling
   r = a.error_handled
 

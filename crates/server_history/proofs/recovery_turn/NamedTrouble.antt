@@ -12,7 +12,7 @@ use Rattle.refinement.specs.Fragments.{TapeGrows}
 use Rattle.refinement.specs.Errors.{IsFatalErrorOf}
 use Rattle.refinement.specs.PortFacts.{IsFaultOf}
 use Rattle.refinement.specs.PreservedParts.{IsPlugEvent}
-use Rattle.driver_history.specs.Evidence.{TapeGainsEntry, ShowsLinkChange, ShowsFailure, ShowsLoss}
+use Rattle.driver_history.specs.Evidence.{TapeGainsEntry, ShowsLinkChange, ShowsFailure, BeganWithLinkChangeOrNoDeviceAndNoneComes}
 use Rattle.error_recovery.specs.Evidence.{ShowsFatal}
 use Rattle.port_control.specs.PortEvents.{TakesEvent}
 use Rattle.port_control.specs.declared.events.PortEvent.{PortEvent}
@@ -69,13 +69,13 @@ module _ (laws : PrerequisiteLaws) (port : Port) (old seen new : Device) (on : I
   -- ---- a loss
 
   -- a look that told something else found nothing of it
-  unlost_by : (told : PortEvent) → TakesEvent port told old seen → told ≢ look.LinkChanged → ShowsLoss port old new → ⊥
+  unlost_by : (told : PortEvent) → TakesEvent port told old seen → told ≢ look.LinkChanged → BeganWithLinkChangeOrNoDeviceAndNoneComes port old new → ⊥
   unlost_by told l other shows = ⊎_elim
       (no_change laws port told old seen l on other)
       (λ missing. not_missing laws port told old seen l on other new later undue missing.0 missing.1)
       shows
 
-  pub gone_all : (t : PortError) → ErrorIsFound port t old seen → ShowsLoss port old new → Contains (gone_of port t p) port
+  pub gone_all : (t : PortError) → ErrorIsFound port t old seen → BeganWithLinkChangeOrNoDeviceAndNoneComes port old new → Contains (gone_of port t p) port
   gone_all TaskFileError l shows = absurd (unlost_by look.TaskFileError l (λ e. let z : look.TaskFileError ≡ look.LinkChanged = e in cc) shows)
   gone_all FatalError l shows = absurd (unlost_by look.FatalError l (λ e. let z : look.FatalError ≡ look.LinkChanged = e in cc) shows)
   gone_all LinkChanged l shows = first_here port []

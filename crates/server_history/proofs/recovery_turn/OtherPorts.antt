@@ -14,12 +14,12 @@ use Rattle.adapter.specs.Device.{Device}
 use Rattle.adapter.specs.Rules.{IsOn}
 use Rattle.adapter.specs.declared.command.Operation.{Operation}
 use Rattle.adapter.specs.declared.command.Operation.TheVariants.{Identify, ReadLog}
-use Rattle.refinement.specs.Acts.{Act, ActsReach, DriverSlots, act_steps, driver_state_of_slots}
+use Rattle.refinement.specs.Acts.{Act, ActsReach, DriverSlots, newest_first_steps_of_acts, driver_state_of_slots}
 use Rattle.refinement.specs.Relation.{port_at}
 use Rattle.refinement.specs.Fragments.{AnySlotStates, ReadsPortOrWrites, IsDrivenBy, IsSimulated, IsSimulatedChangingUses, SparesOtherPorts, GainsNoMove}
 use Rattle.refinement.specs.Driver.{AllFree, DriverAdvances, DriverRelation}
 use Rattle.refinement.specs.GivingUp.{slots_with_all_parked}
-use Rattle.refinement.specs.Halting.{HaltOfTakenIfSt}
+use Rattle.refinement.specs.Halting.{NotLogOnlyAndQueuedHaltHasTakenCommandIfSt}
 use Rattle.refinement.specs.PreservedParts.{DoesNotWrite}
 use Rattle.refinement.specs.ReadySlots.{KeepsStoredCommand}
 use Rattle.refinement.specs.Slots.{Own, SlotState, SlotStates, client_operation_of, set_slot_state}
@@ -29,20 +29,20 @@ use Rattle.block_machine.specs.Histories.{IsReachable}
 use Rattle.block_machine.specs.Expected.{after}
 use Rattle.block_machine.specs.State.{Machine}
 use Rattle.command_table.specs.TableStores.{IsHeaderOrTableStore}
-use Rattle.disk_page.specs.PageRequests.{IsPageAccess}
-use Rattle.error_recovery.specs.Recovery.{IsCmdSerrOrIs, IsRecoveryAccess, SlotsAfterRecovery, RecoversOrStops, with_own_command_in_slot_0}
+use Rattle.disk_page.specs.PageRequests.{IsSlot0CiOrPageMemoryAccess}
+use Rattle.error_recovery.specs.Recovery.{IsCmdSerrOrIs, IsRecoveryAccess, IsSimulatedWithSlotsParkedUnlessDead, RecoversOrStops, with_own_command_in_slot_0}
 use Rattle.error_recovery.specs.declared.Next.{Next}
 use Rattle.error_recovery.specs.declared.Next.TheVariants as next
 use Rattle.error_recovery.specs.declared.Recovered.{Recovered}
-use Rattle.host_boot.specs.Reboots.{RebootsPort, BootsStopped, IsCapPiOrBootAccess}
+use Rattle.host_boot.specs.Reboots.{RebootsPort, EndsReadyOrUnready, IsCapPiOrBootAccess}
 use Rattle.host_boot.specs.TakeOver.{ReadsCapOrPi, probe_result_of}
 use Rattle.host_boot.specs.declared.Booted.{Booted}
 use Rattle.host_boot.specs.declared.ProbeResult.{ProbeResult}
 use Rattle.host_boot.specs.declared.ProbeResult.TheVariants.{Unserved, Ready, Unready}
 use Rattle.identify.specs.declared.DiskInfo.{DiskInfo}
 use Rattle.identify.specs.declared.wanted.Wanted.{Wanted}
-use Rattle.port_boot.specs.States.{IsBootTo, IsBootRegister, IsBootAccess, StopsOnWay}
-use Rattle.port_control.specs.PortEvents.{IsEventAccess}
+use Rattle.port_boot.specs.States.{IsSimulatedBootTo, IsWrittenInBootButCi, IsBootAccess, StopsReceivingAndStartedEngine}
+use Rattle.port_control.specs.PortEvents.{IsPxisSstsOrOwnIsAccess}
 use Rattle.slots.specs.declared.SlotUse.{SlotUse}
 use Rattle.server_history.specs.Prerequisites.{PrerequisiteLaws}
 use Rattle.server_history.specs.ErrorHandling.{IsFoundAfterError}
@@ -59,7 +59,7 @@ use Rattle.server_history.proofs.state.StoredCommands.{never_both, of_store, of_
 abbrev pub IsMild : Port → Access → Type 0
 IsMild port access = SparesOtherPorts port access × ((at : ℕ) (bytes : List ℕ) → access ≡ Storing at bytes → IsHeaderOrTableStore port.0 0 (Storing at bytes))
 
-stored_in : (Written : PortReg → Type 0) (port : Port) (at : ℕ) (bytes : List ℕ) → (ReadsPortOrWrites Written port (Storing at bytes)) ⊎ (IsPageAccess port (Storing at bytes)) → IsHeaderOrTableStore port.0 0 (Storing at bytes)
+stored_in : (Written : PortReg → Type 0) (port : Port) (at : ℕ) (bytes : List ℕ) → (ReadsPortOrWrites Written port (Storing at bytes)) ⊎ (IsSlot0CiOrPageMemoryAccess port (Storing at bytes)) → IsHeaderOrTableStore port.0 0 (Storing at bytes)
 stored_in Written port at bytes (inl none) = absurd none
 stored_in Written port at bytes (inr its) = its
 
@@ -74,15 +74,15 @@ survey_mild port access is = (by access is, λ at bytes e. absurd (subst ReadsCa
     by (Loading at bytes) its = absurd its
     by (Storing at bytes) its = absurd its
 
-looking_stores : (port : Port) (access : Access) → IsEventAccess port access → (at : ℕ) (bytes : List ℕ) → access ≡ Storing at bytes → IsHeaderOrTableStore port.0 0 (Storing at bytes)
-looking_stores port access is at bytes e = absurd (subst (IsEventAccess port) e is)
+looking_stores : (port : Port) (access : Access) → IsPxisSstsOrOwnIsAccess port access → (at : ℕ) (bytes : List ℕ) → access ≡ Storing at bytes → IsHeaderOrTableStore port.0 0 (Storing at bytes)
+looking_stores port access is at bytes e = absurd (subst (IsPxisSstsOrOwnIsAccess port) e is)
 
 module _ (laws : PrerequisiteLaws) where
   recovering_mild : (port : Port) (access : Access) → IsRecoveryAccess port access → IsMild port access
   recovering_mild port access is = (laws.recovery_access_is_of_port port access is, λ at bytes e. stored_in IsCmdSerrOrIs port at bytes (subst (IsRecoveryAccess port) e is))
 
   booting_mild : (port : Port) (access : Access) → IsBootAccess port access → IsMild port access
-  booting_mild port access is = (laws.boot_access_is_of_port port access is, λ at bytes e. stored_in IsBootRegister port at bytes (subst (IsBootAccess port) e is))
+  booting_mild port access is = (laws.boot_access_is_of_port port access is, λ at bytes e. stored_in IsWrittenInBootButCi port at bytes (subst (IsBootAccess port) e is))
 
   mild_leaves : (port q : Port) (slot : ℕ) → q.0 ≢ port.0 → port.0 < 4 → q.0 < 4 → slot < 32 → (access : Access) → IsMild port access → KeepsStoredCommand q slot access
   mild_leaves port q slot other low small few access is = record {
@@ -106,7 +106,7 @@ pub record Passes (s : ServerState) (port : Port) (slots : DriverSlots) (d : Dev
   pub driver_relation : DriverRelation machine (driver_state_of_slots slots d)
   pub clients : (q : ℕ) (o : Operation) → q ≢ port.0 → probe_result_of s.probe_results q ≢ Unready DeadState → slots.slot_states q 0 ≡ Own o → ⊥
   pub silent : (q : ℕ) (o : Operation) → client_operation_of o ≡ None → q ≢ port.0 → probe_result_of s.probe_results q ≢ Unready DeadState → GainsNoMove q o s.device d
-  pub halts : (q : ℕ) → q ≢ port.0 → HaltOfTakenIfSt (s.device.port q) → HaltOfTakenIfSt (d.port q)
+  pub halts : (q : ℕ) → q ≢ port.0 → NotLogOnlyAndQueuedHaltHasTakenCommandIfSt (s.device.port q) → NotLogOnlyAndQueuedHaltHasTakenCommandIfSt (d.port q)
   pub commands : (q slot : ℕ) (used : SlotUse) → q ≢ port.0 → used_for s.slots q slot ≡ Some used → HasStoredCommand used.queued d q slot
 
 -- what the server's machine has in the slots
@@ -136,8 +136,8 @@ module _ (laws : PrerequisiteLaws) (s : ServerState) (port : Port) (k : InCallIn
     passes_on accesses all only Tells c clients silent = record {
       driven = by_then laws p.driven its;
       on = laws.one_port_keeps_adapter_on port d new p.on its;
-      machine = after p.machine (act_steps c.acts);
-      reached = laws.recovery.advancing_keeps_reachable (driver_state_of_slots slots d) (driver_state_of_slots then new) p.machine (act_steps c.acts) p.reached goes;
+      machine = after p.machine (newest_first_steps_of_acts c.acts);
+      reached = laws.recovery.advancing_keeps_reachable (driver_state_of_slots slots d) (driver_state_of_slots then new) p.machine (newest_first_steps_of_acts c.acts) p.reached goes;
       driver_relation = goes.driver_relation;
       clients = clients;
       silent = λ q o own other alive. silent_more q o s.device d new (p.silent q o own other alive) (silent q o own other alive);
@@ -162,7 +162,7 @@ module _ (laws : PrerequisiteLaws) (s : ServerState) (port : Port) (k : InCallIn
         its : IsDrivenBy (SparesOtherPorts port) d new
         its = record { accesses = accesses; all_are_done = all; accesses_are_of_kind = All-weaker (IsMild port) (SparesOtherPorts port) (λ access is. is.0) accesses only }
 
-        goes : DriverAdvances (driver_state_of_slots slots d) p.machine (act_steps c.acts) (driver_state_of_slots then new)
+        goes : DriverAdvances (driver_state_of_slots slots d) p.machine (newest_first_steps_of_acts c.acts) (driver_state_of_slots then new)
         goes = laws.slots.acts_advance_driver c.acts (driver_state_of_slots slots d) (driver_state_of_slots then new) p.machine p.driver_relation c.acts_are_done
 
   -- ---- a stretch that is followed
@@ -204,7 +204,7 @@ module _ (laws : PrerequisiteLaws) (s : ServerState) (port : Port) (k : InCallIn
         passes_on slots (slots_with_all_parked port.0 slots) d new first r.accesses does mild Tells c
         (λ q o other alive is. first.clients q o other alive (ap (λ (f : ℕ → SlotState). f 0) (sym (given_others q other)) ∙ is)) silent
 
-    by_next : (after_it : Next) → SlotsAfterRecovery port.0 after_it r.accesses d new → PassesTo after_it new
+    by_next : (after_it : Next) → IsSimulatedWithSlotsParkedUnlessDead port.0 after_it r.accesses d new → PassesTo after_it new
     by_next (next.Running token) p = (slots_with_all_parked port.0 slots, given _ p.accesses_are_done (p.acts_reach slots first.machine first.reached first.driver_relation tt), λ alive. given_free)
     by_next (next.Restart token) p = (slots_with_all_parked port.0 slots, given _ p.accesses_are_done (p.acts_reach slots first.machine first.reached first.driver_relation tt), λ alive. given_free)
     by_next next.Dead (inl p) = (slots, passes_on slots slots d new first r.accesses p.accesses_are_done mild _ (p.acts_reach slots first.machine first.reached first.driver_relation tt) first.clients silent, λ alive. absurd (alive refl))
@@ -222,7 +222,7 @@ module _ (laws : PrerequisiteLaws) (s : ServerState) (port : Port) (k : InCallIn
   -- ---- a boot
 
   module _ (slots : DriverSlots) (d new : Device) (p : Passes s port slots d) (free : AllFree slots.slot_states port.0) where
-    boot_to : (Tells : List Access → Type 0) (state : PortState) → IsBootTo Tells port state d new → (then : DriverSlots) × Passes s port then new
+    boot_to : (Tells : List Access → Type 0) (state : PortState) → IsSimulatedBootTo Tells port state d new → (then : DriverSlots) × Passes s port then new
     boot_to Tells DeadState (inl b) = (slots, passes_followed slots d new p (IsBootAccess port) (λ uses. AllFree uses port.0) (λ uses. uses) (booting_mild laws port) free (λ q other. refl) b.is_simulated)
     boot_to Tells DeadState (inr b) = (
       record slots { slot_states = set_slot_state slots.slot_states port.0 0 (Own Identify) },
@@ -234,11 +234,11 @@ module _ (laws : PrerequisiteLaws) (s : ServerState) (port : Port) (k : InCallIn
     boot_to Tells Foreign b = (slots, passes_followed slots d new p (IsBootAccess port) (λ uses. AllFree uses port.0) (λ uses. uses) (booting_mild laws port) free (λ q other. refl) b.is_simulated)
     boot_to Tells (Unfit n) b = (slots, passes_followed slots d new p (IsBootAccess port) (λ uses. AllFree uses port.0) (λ uses. uses) (booting_mild laws port) free (λ q other. refl) b.is_simulated)
 
-    stopped_passes : (wanted : Wanted) (found : ProbeResult) → BootsStopped wanted port found d new → (then : DriverSlots) × Passes s port then new
+    stopped_passes : (wanted : Wanted) (found : ProbeResult) → EndsReadyOrUnready wanted port found d new → (then : DriverSlots) × Passes s port then new
     stopped_passes wanted Unserved b = absurd b
     stopped_passes wanted (Ready info) b =
         (slots, passes_followed slots d new p (IsBootAccess port) (λ uses. AllFree uses port.0) (λ uses. uses) (booting_mild laws port) free (λ q other. refl) b.boots.is_simulated)
-    stopped_passes wanted (Unready state) b = boot_to (StopsOnWay port state) state b.boots
+    stopped_passes wanted (Unready state) b = boot_to (StopsReceivingAndStartedEngine port state) state b.boots
 
   pub start_passes : (slots : DriverSlots) (d new : Device) → Passes s port slots d → AllFree slots.slot_states port.0 → IsSimulated (IsCapPiOrBootAccess port) (λ uses. AllFree uses port.0) d new → Passes s port slots new
   start_passes slots d new p free asks =
@@ -253,8 +253,8 @@ module _ (laws : PrerequisiteLaws) (s : ServerState) (port : Port) (k : InCallIn
   -- ---- what a port is then
 
   -- a look leaves the other ports, and the slots
-  pub look_passes : (slots : DriverSlots) (d new : Device) → Passes s port slots d → IsSimulated (IsEventAccess port) AnySlotStates d new → Passes s port slots new
-  look_passes slots d new p looks = passes_followed slots d new p (IsEventAccess port) AnySlotStates (λ uses. uses) (λ access is. (laws.look_laws.look_access_is_of_port port access is, looking_stores port access is)) tt (λ q other. refl) looks
+  pub look_passes : (slots : DriverSlots) (d new : Device) → Passes s port slots d → IsSimulated (IsPxisSstsOrOwnIsAccess port) AnySlotStates d new → Passes s port slots new
+  look_passes slots d new p looks = passes_followed slots d new p (IsPxisSstsOrOwnIsAccess port) AnySlotStates (λ uses. uses) (λ access is. (laws.look_laws.look_access_is_of_port port access is, looking_stores port access is)) tt (λ q other. refl) looks
 
   -- it was found so once it was stopped
   pub after_passes : (wanted : Wanted) (port_error : PortError) (was : DiskInfo) (after_it : Next) (d new : Device) (found : ProbeResult) → IsFoundAfterError wanted port port_error was after_it d new found → PassesTo after_it d

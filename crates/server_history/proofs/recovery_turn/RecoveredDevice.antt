@@ -13,7 +13,7 @@ use Rattle.adapter.specs.Access.{Access}
 use Rattle.adapter.specs.Device.{Device}
 use Rattle.adapter.specs.declared.command.Operation.{Operation}
 use Rattle.adapter.specs.declared.command.Operation.TheVariants.{Identify, ReadLog}
-use Rattle.refinement.specs.Acts.{AnySlots, ActsByDeviceAlone, DriverSlots, AccessesAreSimulatedByActs, driver_state_of_slots, act_steps}
+use Rattle.refinement.specs.Acts.{AnySlots, ActsByDeviceAlone, DriverSlots, AccessesAreSimulatedByActs, driver_state_of_slots, newest_first_steps_of_acts}
 use Rattle.refinement.specs.Relation.{ServeDistinctRequests}
 use Rattle.refinement.specs.Fragments.{IsSimulated, IsSimulatedChangingUses}
 use Rattle.refinement.specs.Driver.{AllFree, HasNoSlot, TapeBacksSteps, DriverState, DriverRelation}
@@ -25,16 +25,16 @@ use Rattle.block_machine.specs.Histories.{IsReachable}
 use Rattle.block_machine.specs.Expected.{after}
 use Rattle.block_machine.specs.State.{Machine}
 use Rattle.block_machine.specs.Steps.{Step}
-use Rattle.error_recovery.specs.Recovery.{SlotsAfterRecovery, with_own_command_in_slot_0}
+use Rattle.error_recovery.specs.Recovery.{IsSimulatedWithSlotsParkedUnlessDead, with_own_command_in_slot_0}
 use Rattle.error_recovery.specs.declared.Next.{Next}
 use Rattle.error_recovery.specs.declared.Next.TheVariants.{Running, Restart, Dead as Stuck}
-use Rattle.host_boot.specs.Reboots.{RebootsPort, BootsStopped, IsCapPiOrBootAccess}
+use Rattle.host_boot.specs.Reboots.{RebootsPort, EndsReadyOrUnready, IsCapPiOrBootAccess}
 use Rattle.host_boot.specs.TakeOver.{probe_result_of}
 use Rattle.host_boot.specs.declared.ProbeResult.{ProbeResult}
 use Rattle.host_boot.specs.declared.ProbeResult.TheVariants.{Unserved, Ready, Unready}
 use Rattle.identify.specs.declared.DiskInfo.{DiskInfo}
 use Rattle.identify.specs.declared.wanted.Wanted.{Wanted}
-use Rattle.port_boot.specs.States.{IsBoot, IsBootTo, IsBootAccess, StopsOnWay}
+use Rattle.port_boot.specs.States.{IsSimulatedBoot, IsSimulatedBootTo, IsBootAccess, StopsReceivingAndStartedEngine}
 use Rattle.port_control.specs.Engines.{EngineSticks}
 use Rattle.slots.specs.SlotUses.{PortSlots, use_at}
 use Rattle.server_history.specs.Prerequisites.{PrerequisiteLaws}
@@ -71,7 +71,7 @@ passes_followed : PrerequisiteLaws → (May : Access → Type 0) (Fits : SlotSta
     → Passes (driver_state_of_slots s old) (driver_state_of_slots (record s { slot_states = next s.slot_states }) new) m
 passes_followed laws May Fits next old new followed s m fits reached knows =
     let x = (followed_adds laws followed s.slot_states s.awaiting_disposition fits).simulates m reached knows in
-    record { steps = x.0; only = x.3.all_steps_are_devices; may = x.1; backed = x.3.is_backed; driver_relation = x.2 }
+    record { steps = x.0; only = x.3.all_steps_are_by_device; may = x.1; backed = x.3.is_backed; driver_relation = x.2 }
 
 -- a part of a call
 passes_performs : PrerequisiteLaws → (accesses : List Access) (next : DriverSlots → DriverSlots) (old new : Device) → AccessesAreSimulatedByActs accesses AnySlots next ActsByDeviceAlone old new → (s : DriverSlots) (m : Machine) → IsReachable m → DriverRelation m (driver_state_of_slots s old)
@@ -79,7 +79,7 @@ passes_performs : PrerequisiteLaws → (accesses : List Access) (next : DriverSl
 passes_performs laws accesses next old new p s m reached knows =
     let c = p.acts_reach s m reached knows tt in
     let g = laws.slots.acts_advance_driver c.acts (driver_state_of_slots s old) (driver_state_of_slots (next s) new) m knows c.acts_are_done in
-    record { steps = act_steps c.acts; only = c.acts_are_such; may = g.steps_are_enabled; backed = g.is_backed; driver_relation = g.driver_relation }
+    record { steps = newest_first_steps_of_acts c.acts; only = c.acts_are_such; may = g.steps_are_enabled; backed = g.is_backed; driver_relation = g.driver_relation }
 
 -- ---- what is in the slots then
 
@@ -159,7 +159,7 @@ module _ (laws : PrerequisiteLaws) (wanted : Wanted) (port : Port) (old mid new 
     here : IsReachable (after m x.steps)
     here = laws.steps_and_accesses.reachable_stays_reachable m x.steps reached x.may
 
-    booted : (way : Next) (found : ProbeResult) → BootsStopped wanted port found mid new → IsPassed port.0 way found old new s m
+    booted : (way : Next) (found : ProbeResult) → EndsReadyOrUnready wanted port found mid new → IsPassed port.0 way found old new s m
     booted way Unserved boots = absurd boots
     booted way (Ready info) boots = record {
       slots = given;
@@ -169,7 +169,7 @@ module _ (laws : PrerequisiteLaws) (wanted : Wanted) (port : Port) (old mid new 
     }
     booted way (Unready state) boots = by state boots.boots
       where
-        plainly : (Tells : List Access → Type 0) → IsBoot Tells port mid new → (state : PortState) → IsPassed port.0 way (Unready state) old new s m
+        plainly : (Tells : List Access → Type 0) → IsSimulatedBoot Tells port mid new → (state : PortState) → IsPassed port.0 way (Unready state) old new s m
         plainly Tells boots state = record {
           slots = given;
           left = left_given laws port.0 s old way (Unready state);
@@ -177,7 +177,7 @@ module _ (laws : PrerequisiteLaws) (wanted : Wanted) (port : Port) (old mid new 
               (passes_followed laws (IsBootAccess port) (λ uses. AllFree uses port.0) (λ uses. uses) mid new boots.is_simulated given (after m x.steps) (free_then laws port.0 s old) here x.driver_relation);
         }
 
-        by : (state : PortState) → IsBootTo (StopsOnWay port state) port state mid new → IsPassed port.0 way (Unready state) old new s m
+        by : (state : PortState) → IsSimulatedBootTo (StopsReceivingAndStartedEngine port state) port state mid new → IsPassed port.0 way (Unready state) old new s m
         by Dead (inl boots) = plainly (EngineSticks port) boots Dead
         by Dead (inr boots) = record {
           slots = with_own_command_in_slot_0 port.0 Identify given;
@@ -185,12 +185,12 @@ module _ (laws : PrerequisiteLaws) (wanted : Wanted) (port : Port) (old mid new 
           passes = passes_then laws (driver_state_of_slots s old) (driver_state_of_slots given mid) (driver_state_of_slots (with_own_command_in_slot_0 port.0 Identify given) new) m x
               (passes_followed laws (IsBootAccess port) (λ uses. AllFree uses port.0) (λ uses. set_slot_state uses port.0 0 (Own Identify)) mid new boots.is_simulated given (after m x.steps) (free_then laws port.0 s old) here x.driver_relation);
         }
-        by Absent boots = plainly (StopsOnWay port Absent) boots Absent
-        by ReadyState boots = plainly (StopsOnWay port ReadyState) boots ReadyState
-        by Foreign boots = plainly (StopsOnWay port Foreign) boots Foreign
-        by (Unfit cause) boots = plainly (StopsOnWay port (Unfit cause)) boots (Unfit cause)
+        by Absent boots = plainly (StopsReceivingAndStartedEngine port Absent) boots Absent
+        by ReadyState boots = plainly (StopsReceivingAndStartedEngine port ReadyState) boots ReadyState
+        by Foreign boots = plainly (StopsReceivingAndStartedEngine port Foreign) boots Foreign
+        by (Unfit cause) boots = plainly (StopsReceivingAndStartedEngine port (Unfit cause)) boots (Unfit cause)
 
-pub passed : PrerequisiteLaws → (wanted : Wanted) (port : Port) (port_error : PortError) (was : DiskInfo) (way : Next) (accesses : List Access) (old mid new : Device) (found : ProbeResult) → SlotsAfterRecovery port.0 way accesses old mid → IsFoundAfterError wanted port port_error was way mid new found
+pub passed : PrerequisiteLaws → (wanted : Wanted) (port : Port) (port_error : PortError) (was : DiskInfo) (way : Next) (accesses : List Access) (old mid new : Device) (found : ProbeResult) → IsSimulatedWithSlotsParkedUnlessDead port.0 way accesses old mid → IsFoundAfterError wanted port port_error was way mid new found
     → (s : DriverSlots) (m : Machine) → IsReachable m → DriverRelation m (driver_state_of_slots s old) → IsPassed port.0 way found old new s m
 passed laws wanted port port_error was (Running token) accesses old mid new found performs (is, same) s m reached knows = record {
   slots = slots_with_all_parked port.0 s;

@@ -24,12 +24,12 @@ use Rattle.server_history.proofs.state.FollowedAccesses.{followed_adds, followed
 use Rattle.block_machine.specs.Histories.{IsReachable}
 use Rattle.block_machine.specs.Expected.{after}
 use Rattle.block_machine.specs.State.{Machine}
-use Rattle.disk_page.specs.PageRequests.{IsPageAccess}
+use Rattle.disk_page.specs.PageRequests.{IsSlot0CiOrPageMemoryAccess}
 use Rattle.driver_history.specs.AccessTrace.{StaysInDriverFrames, DoesNotWriteCmd, ResetsLink}
 use Rattle.error_recovery.specs.Recovery.{IsRecoveryAccess}
 use Rattle.error_recovery.specs.declared.Next.{Next}
 use Rattle.error_recovery.specs.declared.Next.TheVariants as next
-use Rattle.host_boot.specs.Reboots.{RebootsPort, BootsStopped, IsCapPiOrBootAccess}
+use Rattle.host_boot.specs.Reboots.{RebootsPort, EndsReadyOrUnready, IsCapPiOrBootAccess}
 use Rattle.identify.specs.Wanted.{serial_of}
 use Rattle.port_boot.specs.Outcomes.{EndsUnready}
 use Rattle.host_boot.specs.TakeOver.{ReadsCapOrPi}
@@ -38,7 +38,7 @@ use Rattle.host_boot.specs.declared.ProbeResult.{ProbeResult}
 use Rattle.host_boot.specs.declared.ProbeResult.TheVariants.{Ready, Unready, Unserved}
 use Rattle.identify.specs.declared.DiskInfo.{DiskInfo}
 use Rattle.identify.specs.declared.wanted.Wanted.{Wanted}
-use Rattle.port_boot.specs.States.{IsBoot, IsBootAccess}
+use Rattle.port_boot.specs.States.{IsSimulatedBoot, IsBootAccess}
 use Rattle.port_control.specs.Engines.{EngineSticks}
 use Rattle.port_control.specs.declared.Stopped.{Stopped}
 use Rattle.server_history.specs.Prerequisites.{PrerequisiteLaws}
@@ -70,7 +70,7 @@ module _ (laws : PrerequisiteLaws) (port : Port) (low : port.0 < 4) where
       own (Loading at bytes) is = laws.recovery_loads_drivers_own port at bytes low is
       own (Storing at bytes) is = laws.recovery_stores_drivers_own port at bytes low is
 
-  asking_own : (access : Access) → IsPageAccess port access → StaysInDriverFrames access
+  asking_own : (access : Access) → IsSlot0CiOrPageMemoryAccess port access → StaysInDriverFrames access
   asking_own (Reading r v) is = tt
   asking_own (Writing r v) is = tt
   asking_own (Loading at bytes) is = let here = is.0 in let size = is.1 in omega (arith, low, here, size)
@@ -177,7 +177,7 @@ module _ (laws : PrerequisiteLaws) (port : Port) (low : port.0 < 4) (wanted : Wa
 
       unready : (state : Shown) → EndsUnready (serial_of wanted) port state b.device_after_survey new → AfterList port port_error (next.Restart token) (Unready state) old new
       unready shown.Dead x = ⊎_elim
-          (λ (told : IsBoot (EngineSticks port) port b.device_after_survey new). boot_list token old b.device_after_survey new b.surveys (λ uses. uses) told.is_simulated (Unready DeadState) told.is_simulated.is_driven (λ _. told.accesses_are_such) (λ _. x.state_is_backed.1) (λ lives. absurd (lives refl)))
+          (λ (told : IsSimulatedBoot (EngineSticks port) port b.device_after_survey new). boot_list token old b.device_after_survey new b.surveys (λ uses. uses) told.is_simulated (Unready DeadState) told.is_simulated.is_driven (λ _. told.accesses_are_such) (λ _. x.state_is_backed.1) (λ lives. absurd (lives refl)))
           (λ (told : IsSimulatedAlongChangingUses (EngineSticks port) (IsBootAccess port) (λ uses. AllFree uses port.0) (λ uses. set_slot_state uses port.0 0 (Own Identify)) b.device_after_survey new).
           boot_list token old b.device_after_survey new b.surveys (λ uses. set_slot_state uses port.0 0 (Own Identify)) told.is_simulated (Unready DeadState) told.is_simulated.is_driven (λ _. told.accesses_are_such) (λ _. x.state_is_backed.1) (λ lives. absurd (lives refl)))
           x.boots
@@ -194,7 +194,7 @@ module _ (laws : PrerequisiteLaws) (port : Port) (low : port.0 < 4) (wanted : Wa
           (cases_eq n 7))
       unready shown.Ready x = absurd x.state_is_backed
 
-      by : (found : ProbeResult) → BootsStopped wanted port found b.device_after_survey new → AfterList port port_error (next.Restart token) found old new
+      by : (found : ProbeResult) → EndsReadyOrUnready wanted port found b.device_after_survey new → AfterList port port_error (next.Restart token) found old new
       by Unserved x = absurd x
       by (Ready info) x =
           let no : Ready info ≡ Unready DeadState → ⊥ = λ e. let z : Ready info ≡ Unready DeadState = e in cc in

@@ -17,8 +17,8 @@ use Rattle.adapter.specs.declared.command.Operation.TheVariants.{Identify}
 use Rattle.refinement.specs.Acts.{DriverSlots}
 use Rattle.refinement.specs.Relation.{port_at}
 use Rattle.refinement.specs.Fragments.{AnyAccess, IsDrivenBy, SparesOtherPorts, OnlyDeviceChangesPort, GainsNoMove}
-use Rattle.refinement.specs.Halting.{HaltIsOfTaken, HaltOfTakenIfSt}
-use Rattle.refinement.specs.PreservedParts.{ShowsDiskIfIn, SameAdapter}
+use Rattle.refinement.specs.Halting.{NotLogOnlyAndQueuedHaltHasTakenCommand, NotLogOnlyAndQueuedHaltHasTakenCommandIfSt}
+use Rattle.refinement.specs.PreservedParts.{HasDet3IfDiskPresent, SameAdapter}
 use Rattle.block_machine.specs.DueRequests.{is_plain}
 use Rattle.block_machine.specs.Events.{ShowsDisk}
 use Rattle.block_machine.specs.Histories.{IsReachable}
@@ -30,7 +30,7 @@ use Rattle.driver_history.specs.PortInvariants.{EngineRuns}
 use Rattle.error_recovery.specs.Recovery.{EndsAsNext}
 use Rattle.error_recovery.specs.declared.Next.{Next}
 use Rattle.error_recovery.specs.declared.Next.TheVariants as next
-use Rattle.host_boot.specs.Reboots.{RebootsPort, BootsStopped, IsCapPiOrBootAccess}
+use Rattle.host_boot.specs.Reboots.{RebootsPort, EndsReadyOrUnready, IsCapPiOrBootAccess}
 use Rattle.host_boot.specs.TakeOver.{FoundUnusableDevice, IsServed, StillBacksProbeResult, probe_result_of, wanted_of}
 use Rattle.host_boot.specs.declared.Booted.{Booted}
 use Rattle.host_boot.specs.declared.ProbeResult.{ProbeResult}
@@ -62,16 +62,16 @@ use Rattle.server_history.proofs.recovery_turn.BootOrAbsence.{IsFoundAbsent, boo
 pub record StandsAt (wanted : Wanted) (found : ProbeResult) (port : ℕ) (d : Device) : Type 0 where
   pub behind : StillBacksProbeResult wanted found port d
   pub runs : state_of found ≡ ReadyState → EngineRuns port d
-  pub shown : FoundUnusableDevice (state_of found) → ShowsDiskIfIn (d.port port)
+  pub shown : FoundUnusableDevice (state_of found) → HasDet3IfDiskPresent (d.port port)
   pub own : state_of found ≡ ReadyState → ShownDiskIsIn (d.port port)
-  pub halts : state_of found ≡ ReadyState → HaltIsOfTaken (d.port port)
+  pub halts : state_of found ≡ ReadyState → NotLogOnlyAndQueuedHaltHasTakenCommand (d.port port)
 
 its_port : (wanted : List Wanted) (found : List ProbeResult) (port : ℕ) (d : Device) → StandsAt (wanted_of wanted port) (probe_result_of found port) port d → PortInvariant wanted found port d
 its_port wanted found port d s = record { probe_result_is_backed = s.behind; ready_engine_runs = s.runs; bad_disk_is_shown_if_in = s.shown; ready_has_disk_if_shown = s.own; ready_is_not_log_only_and_halt_is_of_taken = s.halts }
 
 -- another port is left to the device
 other_stands : PrerequisiteLaws → (port : Port) (wanted : Wanted) (found : ProbeResult) (q : ℕ) (old new : Device) → q ≢ port.0 → IsOn old → IsDrivenBy (SparesOtherPorts port) old new → SameAdapter old new
-    → (found ≢ Unready DeadState → GainsNoMove q Identify old new) → (HaltOfTakenIfSt (old.port q) → HaltOfTakenIfSt (new.port q)) → StandsAt wanted found q old → StandsAt wanted found q new
+    → (found ≢ Unready DeadState → GainsNoMove q Identify old new) → (NotLogOnlyAndQueuedHaltHasTakenCommandIfSt (old.port q) → NotLogOnlyAndQueuedHaltHasTakenCommandIfSt (new.port q)) → StandsAt wanted found q old → StandsAt wanted found q new
 other_stands laws port wanted found q old new other on driven same silent halts s = record {
   behind = left_on laws wanted found q old new same left silent s.behind;
   runs = λ ready.
@@ -123,7 +123,7 @@ module _ (laws : PrerequisiteLaws) (wanted : Wanted) (port : Port) (d new : Devi
   }
 
   module _ (booted : Booted) (b : RebootsPort wanted port booted d new) where
-    runs_as : (f : ProbeResult) → BootsStopped wanted port f b.device_after_survey new → state_of f ≡ ReadyState → EngineRuns port.0 new
+    runs_as : (f : ProbeResult) → EndsReadyOrUnready wanted port f b.device_after_survey new → state_of f ≡ ReadyState → EngineRuns port.0 new
     runs_as Unserved none is = absurd none
     runs_as (Ready info) e is = record {
       st_is_set = e.ready.runs.st_is_set;
@@ -135,12 +135,12 @@ module _ (laws : PrerequisiteLaws) (wanted : Wanted) (port : Port) (d new : Devi
     }
     runs_as (Unready state) e is = absurd (subst (λ (s : PortState). BacksState (serial_of wanted) s port.0 new) is e.state_is_backed)
 
-    halts_as : (f : ProbeResult) → BootsStopped wanted port f b.device_after_survey new → state_of f ≡ ReadyState → HaltIsOfTaken (new.port port.0)
+    halts_as : (f : ProbeResult) → EndsReadyOrUnready wanted port f b.device_after_survey new → state_of f ≡ ReadyState → NotLogOnlyAndQueuedHaltHasTakenCommand (new.port port.0)
     halts_as Unserved none is = absurd none
     halts_as (Ready info) e is = e.halt_is_of_taken
     halts_as (Unready state) e is = absurd (subst (λ (s : PortState). BacksState (serial_of wanted) s port.0 new) is e.state_is_backed)
 
-    shown_as : (f : ProbeResult) → booted.found ≡ f → FoundUnusableDevice (state_of f) → ShowsDiskIfIn (new.port port.0)
+    shown_as : (f : ProbeResult) → booted.found ≡ f → FoundUnusableDevice (state_of f) → HasDet3IfDiskPresent (new.port port.0)
     shown_as Unserved is bad = absurd bad
     shown_as (Ready info) is bad = absurd bad
     shown_as (Unready state) is bad = laws.recovery.reboot_shows_bad_disk wanted port booted state d new on b bad is

@@ -5,17 +5,17 @@ use Rattle.ata_types.specs.declared.PortState.TheVariants.{Ready as ReadyState}
 use Rattle.ata_types.specs.declared.request.Reply.{Reply}
 use Rattle.adapter.specs.declared.access.DeviceStep.{DeviceStep}
 use Rattle.refinement.specs.Fragments.{AnySlotStates, IsSimulated}
-use Rattle.block_machine.specs.Events.{AreStepsOfCall, UnpluggedPortIsNotDeadNorReadyWithSameDisk, Tick}
+use Rattle.block_machine.specs.Events.{AreStepsOfCall, UnpluggedOutcomeExcludesDeadAndSameSerialAndSize, Tick}
 use Rattle.block_machine.specs.Histories.{IsReachable}
 use Rattle.block_machine.specs.Ports.{SameSerialAndSize}
 use Rattle.block_machine.specs.State.{Machine}
 use Rattle.host_boot.specs.TakeOver.{probe_result_of}
-use Rattle.port_control.specs.PortEvents.{IsEventAccess}
+use Rattle.port_control.specs.PortEvents.{IsPxisSstsOrOwnIsAccess}
 use Rattle.request_queue.specs.declared.disposition.Revalidation.TheVariants.{DiskLost}
 use Rattle.server_history.specs.Prerequisites.{PrerequisiteLaws}
 use Rattle.server_history.specs.ErrorHandling.{HasResolved, IsRevalidation, HandlesPortError}
 use Rattle.server_history.specs.ServerState.{InCallInvariant, MachineRelation, ServerState, ports_of, state_of}
-use Rattle.server_history.specs.Turns.{InRestart, MeetsTurnDuty, RestartsPort}
+use Rattle.server_history.specs.Turns.{InRestart, RequeuesOnFailedPortsOrRestartsOrRestsByTurn, RestartsPort}
 use Rattle.port_control.specs.declared.events.PortError.TheVariants.{TaskFileError, TimedOut, LinkChanged}
 use Rattle.server_history.proofs.recovery_turn.MendedPort.{dead_found, disk_same, interrupted, ready_info}
 use Rattle.server_history.proofs.recovery_turn.DecidedSteps.{DecidesTurn, nobody}
@@ -27,7 +27,7 @@ use Rattle.server_history.proofs.recovery_turn.RebootedPort.{restarts}
 use Rattle.server_history.proofs.recovery_turn.TurnParts.{evidence_by, faults_of}
 
 module _ (laws : PrerequisiteLaws) (port : Port) (replies : List Reply) (old new : ServerState) (k : InCallInvariant old) (ready : state_of (probe_result_of old.probe_results port.0) ≡ ReadyState) (r : HandlesPortError port replies old new)
-    (looks : IsSimulated (IsEventAccess port) AnySlotStates old.device r.has_resolved.error_handled.device_after_look) (kept : InCallInvariant r.server_after_resolving) (evident : IsEvident port replies old new r) (m : Machine) (reached : IsReachable m) (is : MachineRelation old m)
+    (looks : IsSimulated (IsPxisSstsOrOwnIsAccess port) AnySlotStates old.device r.has_resolved.error_handled.device_after_look) (kept : InCallInvariant r.server_after_resolving) (evident : IsEvident port replies old new r) (m : Machine) (reached : IsReachable m) (is : MachineRelation old m)
     (d : DecidesTurn port replies old new r (evidence_by r.has_resolved) m) (hung : r.has_resolved.error_handled.port_error ≡ TimedOut) where
   abbrev a : HasResolved port r.later_replies old r.server_after_resolving
   a = r.has_resolved
@@ -42,7 +42,7 @@ module _ (laws : PrerequisiteLaws) (port : Port) (replies : List Reply) (old new
   belongs = belong_tick (ports_of new) d.steps (d.gives unfailed) d.belong
 
   -- who is told Unplugged had another disk
-  another : UnpluggedPortIsNotDeadNorReadyWithSameDisk d.steps (ports_of old) (ports_of new)
+  another : UnpluggedOutcomeExcludesDeadAndSameSerialAndSize d.steps (ports_of old) (ports_of new)
   another e here =
       let why = d.unplugged e here in
       let told : IsRevalidation a.error_handled.port_error a.disk_before a.found DiskLost = subst (IsRevalidation a.error_handled.port_error a.disk_before a.found) why.0 a.is_revalidation in
@@ -57,12 +57,12 @@ module _ (laws : PrerequisiteLaws) (port : Port) (replies : List Reply) (old new
   restarted = record {
     finds_done = found_by_masks laws port replies old new k ready r looks kept evident m reached is d;
     is_dead_or_link_is_reset = restarts laws port replies old new k ready r looks kept evident unfailed unlost;
-    answers_ended = heeding laws port replies old new k ready r looks kept evident m reached is d;
-    is_interrupted = interrupted laws port replies old new k ready r looks kept;
-    none_stays_issued = anew laws port replies old new k ready r looks kept evident m reached is d;
+    answers_ok_what_had_ended = heeding laws port replies old new k ready r looks kept evident m reached is d;
+    is_stopped_or_stuck = interrupted laws port replies old new k ready r looks kept;
+    issued_are_issued_in_steps = anew laws port replies old new k ready r looks kept evident m reached is d;
     unplugged_lost_its_disk = another;
     shown_disk_was_in_or_came = evident.had m is d.steps d.backed;
   }
 
-  pub owes : MeetsTurnDuty InRestart port evident.accesses old new m (evidence_by a) d.steps
+  pub owes : RequeuesOnFailedPortsOrRestartsOrRestsByTurn InRestart port evident.accesses old new m (evidence_by a) d.steps
   owes = (restarted, ap faults_of (nobody laws port replies old new k ready r looks kept unfailed))

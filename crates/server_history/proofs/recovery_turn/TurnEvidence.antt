@@ -33,7 +33,7 @@ use Rattle.identify.specs.declared.error_log.FailedSlot.{FailedSlot}
 use Rattle.host_boot.specs.TakeOver.{probe_result_of, wanted_of}
 use Rattle.host_boot.specs.declared.ProbeResult.TheVariants.{Ready, Unready}
 use Rattle.port_control.specs.Engines.{EngineSticks, Stops}
-use Rattle.port_control.specs.PortEvents.{IsEventAccess, TakesEvent}
+use Rattle.port_control.specs.PortEvents.{IsPxisSstsOrOwnIsAccess, TakesEvent}
 use Rattle.port_control.specs.declared.events.PortEvent.{PortEvent}
 use Rattle.request_queue.specs.BookEntries.{BookEntry, unanswered_of, due_ids}
 use Rattle.request_queue.specs.declared.disposition.FailedRequest as failed_request
@@ -122,7 +122,7 @@ pub record IsEvident (port : Port) (replies : List Reply) (old new : ServerState
       → ShownDiskWasInOrCame (abstract_state_of old m) steps (abstract_state_of new (after m steps)) port
 
 module _ (laws : PrerequisiteLaws) (port : Port) (replies : List Reply) (old new : ServerState) (k : InCallInvariant old) (ready : state_of (probe_result_of old.probe_results port.0) ≡ ReadyState) (r : HandlesPortError port replies old new)
-    (looks : IsSimulated (IsEventAccess port) AnySlotStates old.device r.has_resolved.error_handled.device_after_look) (kept : InCallInvariant r.server_after_resolving) where
+    (looks : IsSimulated (IsPxisSstsOrOwnIsAccess port) AnySlotStates old.device r.has_resolved.error_handled.device_after_look) (kept : InCallInvariant r.server_after_resolving) where
   abbrev a : HasResolved port r.later_replies old r.server_after_resolving
   a = r.has_resolved
 
@@ -167,7 +167,7 @@ module _ (laws : PrerequisiteLaws) (port : Port) (replies : List Reply) (old new
 
   evidenced : (ask : AbstractCall DeviceStep) (m : Machine) → IsEvidencedOf ask (Replied replies) (accesses_in t) (joint_state_of old m) (ports_of new) new.device (its laws port replies old new k ready r looks kept) port
   evidenced ask m = record {
-    named_lost_may_have_lost_disk = λ here.
+    named_lost_showed_loss_or_changed = λ here.
         let other = lost_is port a.revalidation here in
         let e : IsRevalidation x.port_error a.disk_before a.found DiskLost = subst (IsRevalidation x.port_error a.disk_before a.found) other a.is_revalidation in
         ⊎_elim

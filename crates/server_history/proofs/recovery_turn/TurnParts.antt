@@ -22,7 +22,7 @@ use Rattle.request_queue.specs.declared.disposition.Revalidation.{Revalidation}
 use Rattle.request_queue.specs.declared.disposition.Revalidation.TheVariants.{SameDisk, DiskLost, Dead}
 use Rattle.server_history.specs.ResolvedRequests.{IsResolveStep}
 use Rattle.server_history.specs.ErrorHandling.{IsErrorHandled, HasResolved, requests_of}
-use Rattle.server_history.specs.IssuingAndAnswering.{HasEnded, ok_answers_of}
+use Rattle.server_history.specs.IssuingAndAnswering.{HasEnded, ok_answers_newest_first}
 use Rattle.server_history.specs.ServerState.{ServerState, MachineRelation}
 use Rattle.port_control.specs.declared.events.PortError.{PortError}
 use Rattle.port_control.specs.declared.events.PortError.TheVariants.{FatalError, TimedOut, LinkChanged}
@@ -119,9 +119,9 @@ pub record AddsFates (port : Port) (later : List Reply) (old new : ServerState) 
   pub early : AddsFirst port old a.server_after_handling a.device_after_handling a.error_handled m first
   pub each : AllZip (HasEnded port) a.error_handled.requests ended
   pub middle_only : AllByDevice middle
-  pub may : AllEnabled m (dispositions ++ (middle ++ (ok_answers_of ended ++ first)))
-  pub backed : TapeBacksSteps old.device new.device m (dispositions ++ (middle ++ (ok_answers_of ended ++ first)))
-  pub stands : MachineRelation new (after m (dispositions ++ (middle ++ (ok_answers_of ended ++ first))))
+  pub may : AllEnabled m (dispositions ++ (middle ++ (ok_answers_newest_first ended ++ first)))
+  pub backed : TapeBacksSteps old.device new.device m (dispositions ++ (middle ++ (ok_answers_newest_first ended ++ first)))
+  pub stands : MachineRelation new (after m (dispositions ++ (middle ++ (ok_answers_newest_first ended ++ first))))
   pub own : All (IsResolveStep port) dispositions
   pub answered : (e : Pending) (outcome : Outcome) → Contains dispositions (Answer e outcome)
       → (request : BookEntry) × Contains (requests_of port a.server_after_handling.book) request × EntryRelation request e × (disposition_of a.failed a.revalidation request.request ≡ Complete outcome)
@@ -131,4 +131,4 @@ pub record AddsFates (port : Port) (later : List Reply) (old new : ServerState) 
 
 -- all those steps
 abbrev pub until_issues : {port : Port} {later : List Reply} {old new : ServerState} {a : HasResolved port later old new} {m : Machine} → AddsFates port later old new a m → List Step
-until_issues f = f.dispositions ++ (f.middle ++ (ok_answers_of f.ended ++ f.first))
+until_issues f = f.dispositions ++ (f.middle ++ (ok_answers_newest_first f.ended ++ f.first))

@@ -17,7 +17,7 @@ use Rattle.adapter.specs.Access.Access.{Reading}
 use Rattle.adapter.specs.Device.{Device}
 use Rattle.adapter.specs.declared.command.Operation.TheVariants.{ReadLog}
 use Rattle.adapter.specs.Memory.{changed}
-use Rattle.refinement.specs.Acts.{AnySlots, ActsByDeviceAlone, DriverSlots, AccessesAreSimulatedByActs, driver_state_of_slots, act_steps}
+use Rattle.refinement.specs.Acts.{AnySlots, ActsByDeviceAlone, DriverSlots, AccessesAreSimulatedByActs, driver_state_of_slots, newest_first_steps_of_acts}
 use Rattle.refinement.specs.Relation.{port_at}
 use Rattle.refinement.specs.Fragments.{AnySlotStates, IsDrivenBy, IsSimulated, GainsNoMove}
 use Rattle.refinement.specs.GivingUp.{slots_with_all_parked}
@@ -28,14 +28,14 @@ use Rattle.block_machine.specs.Expected.{after}
 use Rattle.block_machine.specs.declared.due.Unanswered.{Unanswered}
 use Rattle.server_history.proofs.state.ListMembers.{map_in}
 use Rattle.driver_history.specs.AccessTrace.{DoesNotWriteCmd, ReadsMasksBeforeCmdWrite, ResetsLink}
-use Rattle.error_recovery.specs.Recovery.{IsRecoveryAccess, SlotsAfterRecovery}
+use Rattle.error_recovery.specs.Recovery.{IsRecoveryAccess, IsSimulatedWithSlotsParkedUnlessDead}
 use Rattle.error_recovery.specs.declared.Next.{Next}
 use Rattle.error_recovery.specs.declared.Next.TheVariants as next
 use Rattle.host_boot.specs.TakeOver.{probe_result_of, wanted_of}
 use Rattle.host_boot.specs.declared.ProbeResult.TheVariants.{Unready, Unserved}
 use Rattle.port_control.specs.Engines.{EngineSticks}
 use Rattle.port_control.specs.declared.Stopped.{Stopped}
-use Rattle.port_control.specs.PortEvents.{IsEventAccess, TakesEvent}
+use Rattle.port_control.specs.PortEvents.{IsPxisSstsOrOwnIsAccess, TakesEvent}
 use Rattle.port_control.specs.declared.events.PortEvent.{PortEvent}
 use Rattle.port_control.specs.declared.events.PortEvent.TheVariants as look
 use Rattle.request_queue.specs.BookEntries.{BookEntry, as_unanswered, unanswered_of, due_ids}
@@ -58,7 +58,7 @@ use Rattle.server_history.proofs.state.PortSlots.{CommandsAreOver, not_own, of_r
 use Rattle.server_history.proofs.state.FirstMembers.{first_here}
 
 -- recovery's accesses were made
-pub recovery_does : (port : ℕ) (then : Next) (accesses : List Access) (old new : Device) → SlotsAfterRecovery port then accesses old new → DoesAll accesses old new
+pub recovery_does : (port : ℕ) (then : Next) (accesses : List Access) (old new : Device) → IsSimulatedWithSlotsParkedUnlessDead port then accesses old new → DoesAll accesses old new
 recovery_does port (next.Running token) accesses old new p = p.accesses_are_done
 recovery_does port (next.Restart token) accesses old new p = p.accesses_are_done
 recovery_does port next.Dead accesses old new p = ⊎_elim (λ a. a.accesses_are_done) (λ b. ⊎_elim (λ x. x.accesses_are_done) (λ x. x.accesses_are_done) b) p
@@ -89,7 +89,7 @@ nobody [] none = refl
 nobody (x ∷ xs) none = absurd (none x (first_here x xs))
 
 module _ (laws : PrerequisiteLaws) (port : Port) (replies : List Reply) (old new : ServerState) (k : InCallInvariant old) (ready : state_of (probe_result_of old.probe_results port.0) ≡ ReadyState) (r : HandlesPortError port replies old new)
-    (looks : IsSimulated (IsEventAccess port) AnySlotStates old.device r.has_resolved.error_handled.device_after_look) (kept : InCallInvariant r.server_after_resolving) where
+    (looks : IsSimulated (IsPxisSstsOrOwnIsAccess port) AnySlotStates old.device r.has_resolved.error_handled.device_after_look) (kept : InCallInvariant r.server_after_resolving) where
   abbrev a : HasResolved port r.later_replies old r.server_after_resolving
   a = r.has_resolved
 
@@ -237,15 +237,15 @@ module _ (laws : PrerequisiteLaws) (port : Port) (replies : List Reply) (old new
     given token is =
         let m = mid_kept.machine in
         let s : DriverSlots = record { slot_states = mid_kept.machine_relation.uses; awaiting_disposition = mid_kept.machine_relation.awaiting_disposition } in
-        let p : AccessesAreSimulatedByActs x.recovers_or_stops.accesses AnySlots (slots_with_all_parked port.0) ActsByDeviceAlone a.server_after_handling.device a.device_after_handling = subst (λ (n : Next). SlotsAfterRecovery port.0 n x.recovers_or_stops.accesses a.server_after_handling.device a.device_after_handling) is x.recovers_or_stops.does.slots_after in
+        let p : AccessesAreSimulatedByActs x.recovers_or_stops.accesses AnySlots (slots_with_all_parked port.0) ActsByDeviceAlone a.server_after_handling.device a.device_after_handling = subst (λ (n : Next). IsSimulatedWithSlotsParkedUnlessDead port.0 n x.recovers_or_stops.accesses a.server_after_handling.device a.device_after_handling) is x.recovers_or_stops.does.slots_after in
         let c = p.acts_reach s m mid_kept.reached mid_kept.machine_relation.driver_relation tt in
         let g = laws.slots.acts_advance_driver c.acts (driver_state_of_slots s a.server_after_handling.device) (driver_state_of_slots (slots_with_all_parked port.0 s) a.device_after_handling) m mid_kept.machine_relation.driver_relation c.acts_are_done in (
           record {
             uses = changed s.slot_states port.0 (λ slot. Free);
             parked = (slots_with_all_parked port.0 s).awaiting_disposition;
-            machine = after m (act_steps c.acts);
+            machine = after m (newest_first_steps_of_acts c.acts);
             free = laws.slots.giving_up_frees_slots (driver_state_of_slots s a.server_after_handling.device) port.0;
-            reached = laws.steps_and_accesses.reachable_stays_reachable m (act_steps c.acts) mid_kept.reached g.steps_are_enabled;
+            reached = laws.steps_and_accesses.reachable_stays_reachable m (newest_first_steps_of_acts c.acts) mid_kept.reached g.steps_are_enabled;
             driver_relation = g.driver_relation;
           },
           λ own. none_own (ap (λ (f : ℕ → SlotState). f 0) (sym (laws.slots.giving_up_spares_other_ports (driver_state_of_slots s a.server_after_handling.device) port.0 q other).0) ∙ own),

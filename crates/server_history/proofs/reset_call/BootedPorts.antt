@@ -13,7 +13,7 @@ use Rattle.refinement.specs.Relation.{port_at}
 use Rattle.refinement.specs.Fragments.{ReadsPortOrWrites, IsDrivenBy}
 use Rattle.driver_history.specs.PortTurn.{HasTurnIn, IsOfOtherPort, call_accesses}
 use Rattle.driver_history.specs.AccessTrace.{ResetsLink}
-use Rattle.host_boot.specs.TakeOver.{BootsPortOrSticksIfServed, BootsEachServedPortOrSticks, probe_result_of}
+use Rattle.host_boot.specs.TakeOver.{StopsAndBootsOrDoesNothing, BootsEachServedPortOrSticks, probe_result_of}
 use Rattle.host_boot.specs.declared.ProbeResult.{ProbeResult}
 use Rattle.host_boot.specs.declared.ProbeResult.TheVariants.{Unserved, Ready, Unready}
 use Rattle.port_boot.specs.States.{EndsBeforeStart, EndsAfterStart, BringsReady, IsBeforeStart, IsStateStoppedAfterStart, IsBootAccess}
@@ -81,7 +81,7 @@ module _ (laws : PrerequisiteLaws) where
         by_early : (n ≡ 7) ⊎ (n ≡ 8) → BootsBy port (Unready (Unfit n)) old new
         by_early is = resets_by (Unfit n) other (early_resets laws port (Unfit n) stopped new (early is))
 
-  boots_by : (port : Port) (found : ProbeResult) (old new : Device) → BootsPortOrSticksIfServed port found old new → BootsBy port found old new
+  boots_by : (port : Port) (found : ProbeResult) (old new : Device) → StopsAndBootsOrDoesNothing port found old new → BootsBy port found old new
   boots_by port Unserved old new same = (record { accesses = []; all_are_done = same; accesses_are_of_kind = All-nil (IsBootOf port Unserved) }, tt)
   boots_by port (Ready info) old new (stopped, stops, boot, ready, news) =
       let r = reset_by port (Ready info) (λ e. let z : Ready info ≡ Unserved = e in cc) old stopped new stops (ready_resets laws port stopped new ready) in (r.0, (r.1, (stopped, stops, ready)))
@@ -116,7 +116,7 @@ module _ (laws : PrerequisiteLaws) where
   of_other port first ports before access (q, k, at, its) = (q, (λ same. absurd (omega (arith, before, same, at))), laws.boot_access_is_of_port q access its.1)
 
   -- the first of them
-  module _ (first : ℕ) (found : ProbeResult) (rest : List ProbeResult) (old mid new : Device) (way : BootsPortOrSticksIfServed (port_at first) found old mid) (more : WentBy (first + 1) rest mid new) where
+  module _ (first : ℕ) (found : ProbeResult) (rest : List ProbeResult) (old mid new : Device) (way : StopsAndBootsOrDoesNothing (port_at first) found old mid) (more : WentBy (first + 1) rest mid new) where
     one : BootsBy (port_at first) found old mid
     one = boots_by laws (port_at first) found old mid way
 

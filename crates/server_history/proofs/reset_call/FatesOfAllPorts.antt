@@ -21,7 +21,7 @@ use Rattle.ata_types.specs.declared.request.Outcome.{Outcome}
 use Rattle.ata_types.specs.declared.request.Reply.{Reply}
 use Rattle.ata_types.specs.declared.request.RequestId.{RequestId}
 use Rattle.server_history.proofs.state.ListMembers.{contains_there, in_filter}
-use Rattle.block_machine.specs.Events.{AllEnabled, IsToldBefore, answers_of, reply_of}
+use Rattle.block_machine.specs.Events.{AllEnabled, IsLowerByPortThenId, answers_of, reply_of}
 use Rattle.block_machine.specs.Histories.{IsReachable}
 use Rattle.block_machine.specs.Expected.{after}
 use Rattle.block_machine.specs.State.{Machine, Pending}
@@ -32,7 +32,7 @@ use Rattle.host_boot.specs.TakeOver.{IsUnusedOrIdentifyOfDeadPort, probe_result_
 use Rattle.host_boot.specs.declared.ProbeResult.{ProbeResult}
 use Rattle.host_boot.specs.declared.ProbeResult.TheVariants.{Unready}
 use Rattle.identify.specs.declared.DiskInfo.{DiskInfo}
-use Rattle.request_queue.specs.BookEntries.{BookEntry, IsWellFormedEntry, IsEarlier, BookIsWellFormed, is_of_port, requeued_request}
+use Rattle.request_queue.specs.BookEntries.{BookEntry, IsWellFormedEntry, IsEarlier, BookIsWellFormed, is_of_port, waiting_again_request}
 use Rattle.request_queue.specs.Dispositions.{BookAndLoans, AreResolved, IsResolved, disposition_of}
 use Rattle.request_queue.specs.BookRelation.{BookRelation, EntryRelation}
 use Rattle.request_queue.specs.declared.PendingRequest.{PendingRequest}
@@ -48,10 +48,10 @@ use Rattle.server_history.proofs.dispositions.FittingFates.{fits_each, kept_dead
 use Rattle.server_history.proofs.dispositions.MetFates.{meet, none_parked}
 use Rattle.server_history.proofs.dispositions.RemainingBook.{IsLeft, WasIn, ends_of, fated, marked_from, was_itself, was_more}
 use Rattle.server_history.specs.Prerequisites.{PrerequisiteLaws}
-use Rattle.server_history.specs.ResolvedRequests.{IsResolveStep, AreResolvable, AreResolvedInMachine, keeps_frames_lent}
+use Rattle.server_history.specs.ResolvedRequests.{IsResolveStep, AreResolvable, AreResolvedInMachine, completes_keeping_loan}
 use Rattle.server_history.specs.ErrorHandling.{book_and_loans_of, requests_of}
 use Rattle.server_history.specs.Resets.{IsResetRevalidation, ResolvesEachPort, ResolvesPort, with_book_and_loans}
-use Rattle.server_history.specs.ServerState.{QuarantineRelation, ServerState, quarantined_at, remembered_at, RevokedMarkInvariant}
+use Rattle.server_history.specs.ServerState.{KeptRequestsRelation, ServerState, quarantined_at, remembered_at, RevokedMarkInvariant}
 use Rattle.server_history.proofs.state.RevokedMarks.{tells_of}
 
 -- ---- a port's requests
@@ -77,7 +77,7 @@ fates_spare laws disposition (request ∷ requests) replies old new (mid, its, l
 
     spared : (f : Disposition) → IsResolved request f its old mid → Contains mid.book e
     spared Wait m = subst (λ (h : BookAndLoans). Contains h.book e) (sym m.1) here
-    spared Requeue m = subst (λ (h : BookAndLoans). Contains h.book e) (sym m.1) (laws.update_keeps_other_entries old.book request.request.id requeued_request e here differs)
+    spared Requeue m = subst (λ (h : BookAndLoans). Contains h.book e) (sym m.1) (laws.update_keeps_other_entries old.book request.request.id waiting_again_request e here differs)
     spared (Complete o) m = subst (λ (book : List BookEntry). Contains book e) (sym m.1) ((laws.removal_keeps_other_entries old.book request.request.id e).1 (here, differs))
 
 -- a slot that was left so serves no request
@@ -103,7 +103,7 @@ pub record IsFatedTo (n : ℕ) (c : ServerState) (m : Machine) : Type 0 where
   pub its : (port : ℕ) → n ≤ port → (id : RequestId) → Contains (parked port) id
       → (e : BookEntry) × Contains c.book e × (e.request.id ≡ id) × (e.request.issued ≡ true) × (e.request.port.0 ≡ port)
   pub book : BookRelation c.book m.book
-  pub kept : QuarantineRelation c.probe_results c.kept_loans m.kept
+  pub kept : KeptRequestsRelation c.probe_results c.kept_loans m.kept
   pub unkept : (port : ℕ) → n ≤ port → quarantined_at c.kept_loans port ≡ []
   pub rows : m.rows ≡ c.grants
   pub owner : (frame : Frame) → m.owner frame ≡ owner_of c.table frame
@@ -162,7 +162,7 @@ module _ (laws : PrerequisiteLaws) (n : ℕ) (low : n < 4) (replies : List Reply
   dies : (e : Pending) → Contains met.newly_kept e → (e.request.port ≡ port) × (found ≡ Unready Dead)
   dies e here = (x.2.port ∙ (of_requests port old.book x.0 x.1).1, by s.revalidation refl)
     where
-      x : (request : BookEntry) × Contains its request × EntryRelation request e × (keeps_frames_lent (disposition request.request) request.request ≡ true)
+      x : (request : BookEntry) × Contains its request × EntryRelation request e × (completes_keeping_loan (disposition request.request) request.request ≡ true)
       x = met.newly_kept_are_of_requests e here
 
       lives : s.revalidation ≢ NoEnd → ⊥
@@ -173,11 +173,11 @@ module _ (laws : PrerequisiteLaws) (n : ℕ) (low : n < 4) (replies : List Reply
       by DiskLost same = absurd (lives (λ dead. let y : DiskLost ≡ NoEnd = sym same ∙ dead in absurd cc))
       by NoEnd same = subst (IsResetRevalidation was found) same s.is_revalidation
 
-  quiet : found ≢ Unready Dead → (e : PendingRequest) → keeps_frames_lent (disposition e) e ≡ false
+  quiet : found ≢ Unready Dead → (e : PendingRequest) → completes_keeping_loan (disposition e) e ≡ false
   quiet lives e = kept_dead_alone None s.revalidation e (λ dead. lives (subst (IsResetRevalidation was found) dead s.is_revalidation))
 
   -- where no loan is kept, none is parked
-  none_left : ((e : PendingRequest) → keeps_frames_lent (disposition e) e ≡ false) → met.parked n ≡ []
+  none_left : ((e : PendingRequest) → completes_keeping_loan (disposition e) e ≡ false) → met.parked n ≡ []
   none_left none =
       none_parked port disposition its (fits_each None s.revalidation its) replies (book_and_loans_of port old) s.book_and_loans_after (driver_state_of at.uses at.parked old.device) m met none
       (λ id here. let w = at.its n (omega arith) id here in (w.0, in_requests port old.book w.0 w.1 w.4, w.2, w.3))
@@ -185,8 +185,8 @@ module _ (laws : PrerequisiteLaws) (n : ℕ) (low : n < 4) (replies : List Reply
   abbrev new : ServerState
   new = with_book_and_loans port s.book_and_loans_after old
 
-  are_kept : QuarantineRelation new.probe_results new.kept_loans z.kept
-  are_kept = subst (QuarantineRelation new.probe_results new.kept_loans) (sym met.newly_kept_are_kept)
+  are_kept : KeptRequestsRelation new.probe_results new.kept_loans z.kept
+  are_kept = subst (KeptRequestsRelation new.probe_results new.kept_loans) (sym met.newly_kept_are_kept)
       (more_kept port old.probe_results old.probe_results old.kept_loans new.kept_loans met.newly_kept m.kept at.kept
       (get_or-set_same old.kept_loans n s.book_and_loans_after.kept [] (let four = at.four_kept in omega (arith, four, low)) ∙ met.loans_of_newly_kept)
       (λ q ne. get_or-set_other old.kept_loans n q s.book_and_loans_after.kept [] ne) at.kept.quarantine_ports_are_dead dies met.loans_differ_in_request
@@ -281,7 +281,7 @@ pub record AreFated (n : ℕ) (found : List ProbeResult) (replies : List Reply) 
   pub again : (e : Pending) → Contains steps (WaitAgain e) → HasFate old e Requeue
   pub answers : List (Pending × Outcome)
   pub permuted : IsPermutation answers (answers_of steps)
-  pub ordered : AllPairs IsToldBefore answers
+  pub ordered : AllPairs IsLowerByPortThenId answers
   pub high : All (λ a. n ≤ a.0.request.port.0) answers
   pub told : replies ≡ map reply_of answers
   pub from : (e : BookEntry) → Contains new.book e → WasIn old.book e
@@ -343,7 +343,7 @@ module _ (laws : PrerequisiteLaws) (n : ℕ) (low : n < 4) (found : ProbeResult)
     answers = one.replies_match.answers ++ r.answers;
     permuted = subst (IsPermutation (one.replies_match.answers ++ r.answers)) (sym (answers_append r.steps one.steps))
         (IsPermutation-trans _ _ _ (IsPermutation-append_comm one.replies_match.answers r.answers) (IsPermutation-append _ _ _ _ r.permuted one.replies_match.is_permutation));
-    ordered = all_pairs_append IsToldBefore one.replies_match.answers r.answers one.replies_match.ordered r.ordered (λ a b here there.
+    ordered = all_pairs_append IsLowerByPortThenId one.replies_match.answers r.answers one.replies_match.ordered r.ordered (λ a b here there.
         let first = All-contains (λ x. x.0.request.port.0 ≡ n) one.replies_match.answers a told_here here in
         let later_on = All-contains (λ x. n + 1 ≤ x.0.request.port.0) r.answers b r.high there in
         inl (omega (arith, first, later_on)));

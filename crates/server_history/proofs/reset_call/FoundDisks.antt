@@ -13,7 +13,7 @@ use Rattle.ata_types.specs.declared.PortState.{PortState as ShownState}
 use Rattle.ata_types.specs.declared.PortState.TheVariants.{Ready as ReadyState}
 use Rattle.block_machine.specs.Events.{ShowsDisk}
 use Rattle.hba_regs.specs.declared.reg.Reg.TheVariants.{Cap, Ghc, Pi}
-use Rattle.host_boot.specs.TakeOver.{BootsEachServedPortOrSticks, SwitchesOnBootsAndEnablesInterrupts, BootsPortOrSticksIfServed, ReadsCapOrPi, probe_result_of}
+use Rattle.host_boot.specs.TakeOver.{BootsEachServedPortOrSticks, SwitchesOnBootsAndEnablesInterrupts, StopsAndBootsOrDoesNothing, ReadsCapOrPi, probe_result_of}
 use Rattle.host_boot.specs.declared.ProbeResult.{ProbeResult}
 use Rattle.host_boot.specs.declared.ProbeResult.TheVariants.{Ready, Unready, Unserved}
 use Rattle.port_boot.specs.States.{IsBootAccess}
@@ -63,7 +63,7 @@ module _ (laws : PrerequisiteLaws) where
     accesses_are_of_kind = All-append (SparesOtherPorts port) early.accesses late.accesses early.accesses_are_of_kind late.accesses_are_of_kind;
   }
 
-  through_of : (port : Port) (found : ProbeResult) (old new : Device) → BootsPortOrSticksIfServed port found old new → IsDrivenBy (SparesOtherPorts port) old new
+  through_of : (port : Port) (found : ProbeResult) (old new : Device) → StopsAndBootsOrDoesNothing port found old new → IsDrivenBy (SparesOtherPorts port) old new
   through_of port Unserved old new same = subst (IsDrivenBy (SparesOtherPorts port) old) (sym same) (by_none (SparesOtherPorts port) old)
   through_of port (Ready info) old new (stopped, stops, boots, gets, shows) = of_both port old stopped new (stopping_of port old stopped stops) (boot_of port stopped new boots)
   through_of port (Unready state) old new (stopped, stops, boots, first, last, sticks) = of_both port old stopped new (stopping_of port old stopped stops) (boot_of port stopped new boots)
@@ -72,7 +72,7 @@ module _ (laws : PrerequisiteLaws) where
   sees_saw port old new s = record { seen = s.seen; accesses = s.early.accesses; does = s.early.all_are_done; present = s.own s.shows; later = grows_over laws s.late.accesses s.seen new s.late.all_are_done }
 
   -- one that finds a disk
-  through_saw : (port : Port) (found : ProbeResult) (old new : Device) → IsOn old → ((state : ShownState) → found ≡ Unready state → state ≢ ReadyState) → ShowsDisk (state_of found) → BootsPortOrSticksIfServed port found old new → SawDisk port old new
+  through_saw : (port : Port) (found : ProbeResult) (old new : Device) → IsOn old → ((state : ShownState) → found ≡ Unready state → state ≢ ReadyState) → ShowsDisk (state_of found) → StopsAndBootsOrDoesNothing port found old new → SawDisk port old new
   through_saw port Unserved old new on other shows way = absurd shows
   through_saw port (Ready info) old new on other shows (stopped, stops, boots, gets, news) =
       let driven = stopping_of port old stopped stops in
@@ -95,7 +95,7 @@ module _ (laws : PrerequisiteLaws) where
   go_saw port found other shows first [] k old new at is on way = absurd (let none : ShowsDisk (state_of Unserved) = subst (λ (f : ProbeResult). ShowsDisk (state_of f)) (sym is) shows in none)
   go_saw port found other shows first (one ∷ rest) zero old new at is on (mid, way, more) =
       let same : port_at first ≡ port = ap port_at (sym (at ∙ (omega arith))) in
-      let own : BootsPortOrSticksIfServed port found old mid = subst (λ (p : Port). BootsPortOrSticksIfServed p found old mid) same (subst (λ (f : ProbeResult). BootsPortOrSticksIfServed (port_at first) f old mid) is way) in
+      let own : StopsAndBootsOrDoesNothing port found old mid = subst (λ (p : Port). StopsAndBootsOrDoesNothing p found old mid) same (subst (λ (f : ProbeResult). StopsAndBootsOrDoesNothing (port_at first) f old mid) is way) in
       saw_after port old mid new (go_grows (first + 1) rest mid new more) (through_saw port found old mid on other shows own)
   go_saw port found other shows first (one ∷ rest) (suc k) old new at is on (mid, way, more) =
       let driven = through_of (port_at first) one old mid way in

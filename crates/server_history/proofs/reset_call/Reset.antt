@@ -17,7 +17,7 @@ use Rattle.ata_types.specs.declared.request.Reply.{Reply}
 use Rattle.ata_types.specs.declared.request.RequestId.{RequestId}
 use Rattle.server_history.proofs.state.ListMembers.{contains_cases}
 use Rattle.block_machine.specs.DueRequests.{requests_of_port}
-use Rattle.block_machine.specs.Events.{AnswersAndWaitsLawful, AllEnabled, AnswersReset, AreStepsOfCall, UnpluggedPortIsNotDeadNorReadyWithSameDisk, IsOfUndoneRequest, ShownDiskWasInOrCame, IsLawfulAnswer, IssueIsLastOfRequest, UnansweredKeepSerialAndSize, AbstractState, NoneStaysIssued, ReleasesOnceBeforeServerSteps, Reset, ShowsDisk, RepliesMatch, UnpluggedEmptiesPort, IsIssuedInBook, WasReset, answers_of, issues_id, IsReadyAgainWithSameDisk}
+use Rattle.block_machine.specs.Events.{AnswersAndWaitsLawful, AllEnabled, AnswersReset, AreStepsOfCall, UnpluggedOutcomeExcludesDeadAndSameSerialAndSize, IsOutcomeWithoutDeviceVerdict, ShownDiskWasInOrCame, IsLawfulAnswer, IssueIsLastOfRequest, UnansweredKeepSerialAndSize, AbstractState, IssuedOnPortAreIssuedInSteps, ReleasesOnceBeforeServerSteps, Reset, ShowsDisk, RepliesMatch, UnpluggedOutcomeEmptiesPort, IsIssuedInBook, WasReset, answers_of, issues_id, IsReadyAfterStopSerialAndSizeKept}
 use Rattle.block_machine.specs.Histories.{JointEvent, JointState, IsReachable, joint_state_after}
 use Rattle.block_machine.specs.Expected.{after}
 use Rattle.block_machine.specs.Ports.{MayBecome, Ports, SameSerialAndSize}
@@ -60,7 +60,7 @@ use Rattle.server_history.proofs.state.PortSlots.{issued_has, of_ready, ready_fo
 use Rattle.server_history.proofs.any_turn.TurnsInOrder.{belong_join, lawful_join}
 use Rattle.server_history.proofs.state.PairedLists.{at_right}
 use Rattle.server_history.specs.ResetLaws.{ResetLaws}
-use Rattle.server_history.specs.Histories.{ExtendsSettled, LeadsToServer}
+use Rattle.server_history.specs.Histories.{ExtendsToSettled, LeadsToServer}
 use Rattle.server_history.proofs.reset_call.ResetDevice.{IsRebootedBy}
 use Rattle.server_history.specs.Resets.{IsResetRevalidation, IsReinitialized, IssuesOnEachReadyPort, ResetsServer, ResolvesEachPort}
 use Rattle.server_history.specs.ServerState.{InCallInvariant, MachineRelation, SettledInvariant, ServerState, last_disk_in, last_disk_of, is_served, mode_in, ports_of, remembered_at, last_sectors_of, last_serial_of, state_of}
@@ -269,16 +269,16 @@ module _ (laws : ResetLaws) (s taken settled new : ServerState) (replies : List 
       let has = f.again e here in
       is_ready e.request.port (subst (IsResetRevalidation (last_disk_in s e.request.port) (probe_result_of new.probe_results e.request.port.0)) (why_again None has.revalidation has.request.request has.disposition) (expects_new e Requeue has))
 
-  gives_up : (e : Pending) (o : Outcome) → Contains f.steps (Answer e o) → IsOfUndoneRequest o
+  gives_up : (e : Pending) (o : Outcome) → Contains f.steps (Answer e o) → IsOutcomeWithoutDeviceVerdict o
   gives_up e o here =
       let has = f.answered e o here in
       ⊎_elim
       (λ named. let none : None ≡ Some named.0 = named.1 in absurd cc)
       (λ rest. ⊎_elim
-      (λ aborted. subst IsOfUndoneRequest (sym aborted.3) tt)
+      (λ aborted. subst IsOutcomeWithoutDeviceVerdict (sym aborted.3) tt)
       (λ rest. ⊎_elim
-      (λ gone. subst IsOfUndoneRequest (sym gone.1) tt)
-      (λ rest. ⊎_elim (λ dead. subst IsOfUndoneRequest (sym dead.1) tt) (λ revoked. subst IsOfUndoneRequest (sym revoked.3) tt) rest)
+      (λ gone. subst IsOutcomeWithoutDeviceVerdict (sym gone.1) tt)
+      (λ rest. ⊎_elim (λ dead. subst IsOutcomeWithoutDeviceVerdict (sym dead.1) tt) (λ revoked. subst IsOutcomeWithoutDeviceVerdict (sym revoked.3) tt) rest)
       rest)
       rest)
       (why None has.revalidation has.request.request o has.disposition)
@@ -339,7 +339,7 @@ module _ (laws : ResetLaws) (s taken settled new : ServerState) (replies : List 
       expects : (p : Revalidation) → has.revalidation ≡ p → IsResetRevalidation (last_disk_in s e.request.port) (probe_result_of new.probe_results e.request.port.0) p
       expects p update_if_id = subst (IsResetRevalidation (last_disk_in s e.request.port) (probe_result_of new.probe_results e.request.port.0)) update_if_id (expects_new e (Complete o) has)
 
-      goes_on : has.revalidation ≡ Same → IsReadyAgainWithSameDisk was by.evidence (ports_of new) e.request.port
+      goes_on : has.revalidation ≡ Same → IsReadyAfterStopSerialAndSizeKept was by.evidence (ports_of new) e.request.port
       goes_on as_before = (
         is_ready e.request.port (expects Same as_before),
         stopped,
@@ -429,7 +429,7 @@ module _ (laws : ResetLaws) (s taken settled new : ServerState) (replies : List 
       let has = left_has e here in
       (has.0, has.1, sym (remembered_new e.request.port) ∙ ap (λ (c : ServerState). remembered_at c.remembered e.request.port.0) a.settings ∙ has.2, found_new e.request.port.0 ∙ has.3, has.4)
 
-  unplugs : UnpluggedEmptiesPort steps (after m steps)
+  unplugs : UnpluggedOutcomeEmptiesPort steps (after m steps)
   unplugs = record {
     none_is_left = λ e other here there own.
         let lost = unplugged_expects e here in
@@ -438,11 +438,11 @@ module _ (laws : ResetLaws) (s taken settled new : ServerState) (replies : List 
     none_is_told_dead = λ e other here there own. (unplugged_expects e here).0 (ap (λ (p : Port). probe_result_of new.probe_results p.0) (sym own) ∙ dead_expects other there);
   }
 
-  finds : UnpluggedPortIsNotDeadNorReadyWithSameDisk steps (ports_of s) (ports_of new)
+  finds : UnpluggedOutcomeExcludesDeadAndSameSerialAndSize steps (ports_of s) (ports_of new)
   finds e here = let lost = unplugged_expects e here in (not_dead e.request.port lost, other_disk e.request.port lost)
 
   -- no request keeps its issue
-  anew : (port : Port) → NoneStaysIssued steps (after m steps) port
+  anew : (port : Port) → IssuedOnPortAreIssuedInSteps steps (after m steps) port
   anew port e here own issued = ⊎_elim
       (λ late. issued_late e.request.id a.steps base late)
       (λ before. absurd (none_before before))
@@ -498,12 +498,12 @@ module _ (laws : ResetLaws) (s taken settled new : ServerState) (replies : List 
   answered = record {
     replies_match = tells;
     releases_once = releases;
-    unplugged_empties_port = unplugs;
+    unplugged_outcome_empties_port = unplugs;
     unplugged_lost_disk = finds;
     none_is_due_where_ready = λ port ready. none_due new (after m steps) stands_new (mode_in new port) port (new_settled.nothing_is_due port);
     empty_unless_ready = none_waits;
     port_may_become = becomes;
-    none_stays_issued = anew;
+    issued_are_issued_in_steps = anew;
     served_are_stopped = by.stopped;
     shown_disk_was_in_or_came = had;
   }
@@ -555,7 +555,7 @@ module _ (laws : ResetLaws) (s taken settled new : ServerState) (replies : List 
 
 -- ---- the whole
 
-pub resets_add_given : ResetLaws → (s new : ServerState) (replies : List Reply) → IsRebootedBy s new replies → ServerInvariant s → ResetsServer replies s new → ExtendsSettled s new Reset (WasReset (Some replies))
+pub resets_add_given : ResetLaws → (s new : ServerState) (replies : List Reply) → IsRebootedBy s new replies → ServerInvariant s → ResetsServer replies s new → ExtendsToSettled s new Reset (WasReset (Some replies))
 resets_add_given laws s new replies by booked resets = record {
   settled_invariant = settled_at_last laws s resets.server_after_take_over resets.server_after_resolving booked resets.is_reinitialized replies resets.resolves_each_port booked.machine booked.reached booked.machine_relation new resets.issues_on_each_ready_port;
   extends_history = λ first past leads. reset_event laws s resets.server_after_take_over resets.server_after_resolving new replies booked resets.is_reinitialized resets.resolves_each_port resets.issues_on_each_ready_port by first past leads;

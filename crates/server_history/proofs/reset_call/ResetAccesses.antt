@@ -22,7 +22,7 @@ use Rattle.error_recovery.specs.Evidence.{GainsSinceStart, HidesNoTrouble}
 use Rattle.driver_history.specs.Histories.{HasAeAndIe, IsPortServed}
 use Rattle.driver_history.specs.PortTurn.{HasTurnIn, IsOfOtherPort}
 use Rattle.driver_history.specs.AccessTrace.{StaysInDriverFrames, UsesPortRegistersOf, ResetsLink}
-use Rattle.host_boot.specs.Resets.{BeginsReset, IsResetAccess}
+use Rattle.host_boot.specs.Resets.{WritesHrFirst, IsResetAccess}
 use Rattle.host_boot.specs.TakeOver.{SwitchesOnBootsAndEnablesInterrupts, IsServed, ReadsCapOrPi, BacksProbeResult, probe_result_of, wanted_of}
 use Rattle.host_boot.specs.declared.ProbeResult.{ProbeResult}
 use Rattle.host_boot.specs.declared.ProbeResult.TheVariants.{Unserved, Ready, Unready}
@@ -309,7 +309,7 @@ module _ (laws : PrerequisiteLaws) (s new : ServerState) (replies : List Reply) 
       (λ access (port, n, at, its). its_of (IsPortServed (ports_of s)) port (serves port n at its.0) access (laws.boot_access_is_of_port port access its.1)) tt
       (λ access (port, n, info, at, is, its). its_of (IsPortServed (ports_of s)) port (serves port n at (ready_other n info is)) access (laws.batch_access_is_of_port port access its))
 
-  pub begins : BeginsReset accesses
+  pub begins : WritesHrFirst accesses
   begins = record { rest = _; accesses_are = ap (λ (list : List Access). list ++ (Writing Ghc 0x80000000 ∷ (survey ++ (went.driven.accesses ++ last)))) t.resets.awaited.accesses_are }
 
   -- ---- the adapter

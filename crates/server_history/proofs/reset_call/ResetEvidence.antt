@@ -191,8 +191,8 @@ module _ (laws : PrerequisiteLaws) (s new : ServerState) (replies : List Reply) 
   lost_all : (port : Port) → old_ports.served port ≡ true → new_ports.state port ≢ DeadState → (new_ports.state port ≡ ReadyState → SameSerialAndSize old_ports new_ports port → ⊥) → Contains evidence.lost port
   lost_all port served lives other = is_chosen is_lost four port (in_four port (k.served_are_below_4 port.0 served)) (is_left_if (lost_or_not port) (served, lives, other))
 
-  named_lost_may_have_lost_disk : (port : Port) → Contains evidence.lost port → IsLostAnew port
-  named_lost_may_have_lost_disk port here = left_is (lost_or_not port) (chosen_is is_lost four port here)
+  named_lost_showed_loss_or_changed : (port : Port) → Contains evidence.lost port → IsLostAnew port
+  named_lost_showed_loss_or_changed port here = left_is (lost_or_not port) (chosen_is is_lost four port here)
 
   -- ---- a dead port
 
@@ -225,7 +225,7 @@ module _ (laws : PrerequisiteLaws) (s new : ServerState) (replies : List Reply) 
   evidenced m port =
       let told = evidenced_of four Reset (WasReset (Some replies)) [] (joint_state_of s m) new_ports new.device port (λ ready. in_four port (k.served_are_below_4 port.0 (served_ready port ready))) (All-nil (WritesNeitherCmdNorSctl port)) in
       record {
-        named_lost_may_have_lost_disk = λ here. let lost = named_lost_may_have_lost_disk port here in inr (inr (inr (lost.1, lost.2)));
+        named_lost_showed_loss_or_changed = λ here. let lost = named_lost_showed_loss_or_changed port here in inr (inr (inr (lost.1, lost.2)));
         shown_loss_of_ready_is_named = told.shown_loss_of_ready_is_named;
         named_link_changed_had_change_or_no_device = told.named_link_changed_had_change_or_no_device;
         shown_failure_of_ready_is_named = told.shown_failure_of_ready_is_named;

@@ -8,7 +8,7 @@ use Rattle.ata_types.specs.declared.PortState.TheVariants.{Ready as ReadyState}
 use Rattle.ata_types.specs.declared.request.Outcome.{Outcome}
 use Rattle.ata_types.specs.declared.request.RequestId.{RequestId}
 use Rattle.server_history.proofs.state.ListMembers.{at_cases, contains_cases, contains_there, map_in, without_in}
-use Rattle.block_machine.specs.Events.{AllByDevice, AnswersAndWaitsLawful, AllEnabled, AreStepsOfCall, IsOfUndoneRequest, IsByDevice, IsIssuedIn, IsLawfulAnswer, IssueIsLastOfRequest, AbstractState, Reset, IsIssuedInBook, answers_of, is_release, issues_id}
+use Rattle.block_machine.specs.Events.{AllByDevice, AnswersAndWaitsLawful, AllEnabled, AreStepsOfCall, IsOutcomeWithoutDeviceVerdict, IsByDevice, IsIssuedIn, IsLawfulAnswer, IssueIsLastOfRequest, AbstractState, Reset, IsIssuedInBook, answers_of, is_release, issues_id}
 use Rattle.block_machine.specs.Expected.{after}
 use Rattle.block_machine.specs.Ports.{Evidence, Ports}
 use Rattle.block_machine.specs.State.{Machine, Pending}
@@ -28,7 +28,7 @@ decided_none id (Answer e o ∷ steps) all = decided_none id steps (All-tail Dec
 decided_none id (step ∷ steps) all = absurd (All-head Decides step steps all).1
 
 module _ (ports : Ports) where
-  pub decided_belong : (steps : List Step) → All Decides steps → ((e : Pending) (o : Outcome) → Contains steps (Answer e o) → IsOfUndoneRequest o) → ((e : Pending) → Contains steps (WaitAgain e) → ports.state e.request.port ≡ ReadyState)
+  pub decided_belong : (steps : List Step) → All Decides steps → ((e : Pending) (o : Outcome) → Contains steps (Answer e o) → IsOutcomeWithoutDeviceVerdict o) → ((e : Pending) → Contains steps (WaitAgain e) → ports.state e.request.port ≡ ReadyState)
       → AreStepsOfCall {D = DeviceStep} Reset ports steps
   decided_belong [] all answer again = tt
   decided_belong (WaitAgain e ∷ steps) all answer again = (

@@ -8,11 +8,11 @@ use Rattle.std.specs.Prelude.{filter}
 use Rattle.adapter.specs.Access.{Access}
 use Rattle.adapter.specs.Device.{Device}
 use Rattle.adapter.specs.Idle.{IsIdle}
-use Rattle.refinement.specs.Acts.{act_steps}
+use Rattle.refinement.specs.Acts.{newest_first_steps_of_acts}
 use Rattle.refinement.specs.Fragments.{IsSimulatedChangingUses, driver_state_of}
 use Rattle.refinement.specs.Driver.{TapeBacksSteps, DriverState, DriverRelation}
 use Rattle.refinement.specs.Slots.{Free, Serves, SlotStates}
-use Rattle.refinement.specs.SparedBook.{KeepsLoansAndBookOnlyAdvances}
+use Rattle.refinement.specs.SparedBook.{KeepsLoansAndPendingsOnlyAdvance}
 use Rattle.ata_types.specs.declared.request.ClientId.{ClientId}
 use Rattle.ata_types.specs.declared.request.Frame.{Frame}
 use Rattle.ata_types.specs.declared.request.RequestId.{RequestId}
@@ -38,7 +38,7 @@ use Rattle.server_history.specs.ResetLaws.{ResetLaws}
 use Rattle.server_history.specs.KeptLoans.{IsKeptIn, GivesBackLoans}
 use Rattle.server_history.specs.ErrorHandling.{requests_of}
 use Rattle.server_history.specs.Resets.{IsReinitialized, MayResolve}
-use Rattle.server_history.specs.ServerState.{QuarantineRelation, MachineRelation, ServerState, quarantined_at}
+use Rattle.server_history.specs.ServerState.{KeptRequestsRelation, MachineRelation, ServerState, quarantined_at}
 use Rattle.server_history.specs.StuckServer.{ServerInvariant}
 
 -- ---- stretches of the device
@@ -56,7 +56,7 @@ pub stretch : {May : Access → Type 0} {Fits : SlotStates → Type 0} {next : S
 stretch {May} {Fits} {next} {old} {new} laws a uses parked fits m reached knows =
     let c = a.acts_reach (record { slot_states = uses; awaiting_disposition = parked }) m reached knows fits in
     let g = laws.slots.acts_advance_driver c.acts (driver_state_of uses parked old) (driver_state_of (next uses) parked new) m knows c.acts_are_done in
-    record { steps = act_steps c.acts; only = c.acts_are_such.all_steps_are_devices; may = g.steps_are_enabled; backed = g.is_backed; driver_relation = g.driver_relation }
+    record { steps = newest_first_steps_of_acts c.acts; only = c.acts_are_such.all_steps_are_by_device; may = g.steps_are_enabled; backed = g.is_backed; driver_relation = g.driver_relation }
 
 -- ---- an idle adapter
 
@@ -117,7 +117,7 @@ parks_issued uses parked d m knows none = record {
 -- ---- the kept loans
 
 -- What the machine lends once the kept requests' frames are given back is what the server lends.
-module _ (laws : ResetLaws) (found : List ProbeResult) (kept : List (List Lending)) (table later : OwnersAndLoans) (m : Machine) (reached : IsReachable m) (lent : (frame : Frame) → m.lent frame ≡ lent_to table frame) (are : QuarantineRelation found kept m.kept)
+module _ (laws : ResetLaws) (found : List ProbeResult) (kept : List (List Lending)) (table later : OwnersAndLoans) (m : Machine) (reached : IsReachable m) (lent : (frame : Frame) → m.lent frame ≡ lent_to table frame) (are : KeptRequestsRelation found kept m.kept)
     (back : GivesBackLoans table later (IsKeptIn kept)) where
   limits : KeepsLimitsAndHoldsOwnFrames m
   limits = subst KeepsLimitsAndHoldsOwnFrames (sym reached.leads_to_machine) (laws.prerequisites.frame_holders.legal_histories_stay_in_limits reached.initial_machine reached.steps_since reached.is_initial reached.is_legal)
@@ -184,10 +184,10 @@ module _ (laws : ResetLaws) (s taken : ServerState) (takes : IsReinitialized s t
   idle_reached : IsReachable idle
   idle_reached = laws.prerequisites.steps_and_accesses.reachable_stays_reachable m down.steps reached down.may
 
-  down_spares : KeepsLoansAndBookOnlyAdvances m idle
+  down_spares : KeepsLoansAndPendingsOnlyAdvance m idle
   down_spares = laws.prerequisites.steps_and_accesses.device_steps_spare_book m down.steps down.only
 
-  idle_kept : QuarantineRelation s.probe_results s.kept_loans idle.kept
+  idle_kept : KeptRequestsRelation s.probe_results s.kept_loans idle.kept
   idle_kept = still_kept laws.prerequisites s.probe_results s.kept_loans m.kept idle.kept down_spares.kept is.quarantine_relation
 
   abbrev free : Machine
@@ -206,7 +206,7 @@ module _ (laws : ResetLaws) (s taken : ServerState) (takes : IsReinitialized s t
   abbrev last : Machine
   last = after free up.steps
 
-  up_spares : KeepsLoansAndBookOnlyAdvances free last
+  up_spares : KeepsLoansAndPendingsOnlyAdvance free last
   up_spares = laws.prerequisites.steps_and_accesses.device_steps_spare_book free up.steps up.only
 
   none_kept : last.kept ≡ []

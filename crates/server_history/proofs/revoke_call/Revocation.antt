@@ -25,13 +25,13 @@ use Rattle.block_machine.specs.State as machine
 use Rattle.block_machine.specs.State.{Machine}
 use Rattle.block_machine.specs.Steps.{Step, Answer}
 use Rattle.block_machine.specs.declared.due.QueueMode.{QueueMode}
-use Rattle.driver_history.specs.Histories.{IssuesDue, IsIssuingAccess}
-use Rattle.driver_history.specs.AccessTrace.{ClearsNoError, WritesNeitherCmdNorSctl}
+use Rattle.driver_history.specs.Histories.{IssuesDue, StoresOrWritesSactOrCi}
+use Rattle.driver_history.specs.AccessTrace.{WritesOneToNoTroubleBit, WritesNeitherCmdNorSctl}
 use Rattle.hba_regs.specs.declared.reg.Reg.TheVariants.{Ghc}
 use Rattle.host_boot.specs.TakeOver.{probe_result_of}
 use Rattle.request_queue.specs.BookEntries.{unanswered_of, due_ids}
 use Rattle.server_history.specs.Prerequisites.{PrerequisiteLaws}
-use Rattle.server_history.specs.Histories.{ExtendsSettled, ExtendsHistory}
+use Rattle.server_history.specs.Histories.{ExtendsToSettled, ExtendsHistory}
 use Rattle.server_history.specs.Revoking.{RevokesGrant}
 use Rattle.commands.specs.Batches.{IsBatchAccess}
 use Rattle.server_history.specs.IssuingAndAnswering.{IssuesDueOfPort, IssuesTogetherIfAny}
@@ -100,7 +100,7 @@ module _ (laws : PrerequisiteLaws) (s : ServerState) (client : ClientId) (number
         (answers then_is refl refl old.abstract leads.state_is_at_history_end.ports_are h [] (λ e o here. nowhere (Answer e o) here) refl stands issued)
         tt
         []
-        (refl, (revoked.has_row laws s client number replies mid r m h, All-nil (IsIssuingAccess port), λ other. refl))
+        (refl, (revoked.has_row laws s client number replies mid r m h, All-nil (StoresOrWritesSactOrCi port), λ other. refl))
         (λ q. All-nil (WritesNeitherCmdNorSctl q))
         (λ q ready. none_issued then_is (after m steps) stands steps (revoked.issue_none laws s client number replies mid r m h) (mode_in s q) q (issued q ready))
         (λ q. record { finds_done = tt; lone_plain_faults_are_told_unless_dead = tt; probes_disk = tt; boots_anew = tt; loses_no_error = goes.port_error old.abstract leads.state_is_at_history_end.ports_are q; runs_well_anew = λ i. absurd (uninterrupted s.device old.abstract.ports q i); handles_evidence = uninterrupted s.device old.abstract.ports q })
@@ -175,7 +175,7 @@ module _ (laws : PrerequisiteLaws) (s : ServerState) (client : ClientId) (number
             (answers new (ap ports_of same) (ap (λ (n : ServerState). n.grants) same) old.abstract leads.state_is_at_history_end.ports_are h x.steps (no_answer_issuing mode port x.steps x.only) (issuing_answers mode port x.steps early x.only) stands (λ q on. settles.nothing_is_due q))
             tt
             driven.accesses
-            (driven.all_are_done, (revoked.has_row laws s client number replies mid r m h, All-weaker (IsBatchAccess port) (IsIssuingAccess port) (λ access here. issuing_is port port_low access here) driven.accesses driven.accesses_are_of_kind, λ other. absurd (other its_state)))
+            (driven.all_are_done, (revoked.has_row laws s client number replies mid r m h, All-weaker (IsBatchAccess port) (StoresOrWritesSactOrCi port) (λ access here. issuing_is port port_low access here) driven.accesses driven.accesses_are_of_kind, λ other. absurd (other its_state)))
             (λ q. All-weaker (IsBatchAccess port) (WritesNeitherCmdNorSctl q) (issuing_leaves laws port q) driven.accesses driven.accesses_are_of_kind)
             (λ q is_ready. due_now q)
             (λ q. record {
@@ -184,7 +184,7 @@ module _ (laws : PrerequisiteLaws) (s : ServerState) (client : ClientId) (number
               probes_disk = tt;
               boots_anew = tt;
               loses_no_error = laws.calls.ordinary_accesses_lose_no_error q (with_device s.device old) new.device driven.accesses (told_by s.device old.abstract.ports) (ports_of new) k.adapter_is_on driven.all_are_done
-                  (All-weaker (IsBatchAccess port) (DoesNotWrite Ghc) (issuing_spares_host port) driven.accesses driven.accesses_are_of_kind) (All-weaker (IsBatchAccess port) (ClearsNoError q) (issuing_clears_none port q) driven.accesses driven.accesses_are_of_kind);
+                  (All-weaker (IsBatchAccess port) (DoesNotWrite Ghc) (issuing_spares_host port) driven.accesses driven.accesses_are_of_kind) (All-weaker (IsBatchAccess port) (WritesOneToNoTroubleBit q) (issuing_clears_none port q) driven.accesses driven.accesses_are_of_kind);
               runs_well_anew = λ i. absurd (uninterrupted s.device old.abstract.ports q i);
               handles_evidence = uninterrupted s.device old.abstract.ports q;
             })
@@ -236,12 +236,12 @@ module _ (laws : PrerequisiteLaws) (s : ServerState) (client : ClientId) (number
       adds = ⊎_elim event quiet (ready_or_not (state_of (probe_result_of s.probe_results port.0)))
 
 revocation_by : (laws : PrerequisiteLaws) (s mid new : ServerState) (client : ClientId) (number : ℕ) (replies : List Reply) → SettledInvariant s → (each : RevokesEach client number replies s mid) → IssuesDueOfPort each.has.0.port mid new
-    → ExtendsSettled s new (RevokeOf client number) (WasRevoked (Some replies))
+    → ExtendsToSettled s new (RevokeOf client number) (WasRevoked (Some replies))
 revocation_by laws s mid new client number replies t each i = record { settled_invariant = settles laws s client number replies mid each t new issues; extends_history = adds laws s client number replies mid each t new issues }
   where
     issues : IssuesDueOfPort each.has.0.port (with_revoked client number mid.table each.now.book s) new
     issues = subst (λ (n : ServerState). IssuesDueOfPort each.has.0.port n new) each.server i
 
 pub revocation : PrerequisiteLaws → (s mid new : ServerState) (client : ClientId) (number : ℕ) (replies : List Reply) → SettledInvariant s → (r : RevokesGrant client number replies s mid) → IssuesDueOfPort r.has_grant_row.0.port mid new
-    → ExtendsSettled s new (RevokeOf client number) (WasRevoked (Some replies))
+    → ExtendsToSettled s new (RevokeOf client number) (WasRevoked (Some replies))
 revocation laws s mid new client number replies t r i = revocation_by laws s mid new client number replies t (revokes_each laws s mid client number replies t.in_call_invariant.book_is_well_formed t.in_call_invariant.entries_are_well_formed r) i

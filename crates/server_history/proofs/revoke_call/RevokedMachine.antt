@@ -30,8 +30,8 @@ use Rattle.request_queue.specs.declared.disposition.Disposition.TheVariants.{Com
 use Rattle.server_history.specs.Prerequisites.{PrerequisiteLaws}
 use Rattle.server_history.specs.ResolvedRequests.{IsResolveStep, AreResolvable, AreResolvedInMachine}
 use Rattle.server_history.specs.ErrorHandling.{book_and_loans_of}
-use Rattle.server_history.specs.Revoking.{with_grant_revoked}
-use Rattle.server_history.specs.ServerState.{QuarantineRelation, RevokedMarkInvariant, MachineRelation, ServerState}
+use Rattle.server_history.specs.Revoking.{with_grant_removed_and_its_requests_marked}
+use Rattle.server_history.specs.ServerState.{KeptRequestsRelation, RevokedMarkInvariant, MachineRelation, ServerState}
 use Rattle.server_history.proofs.any_turn.JoinedParts.{answers_append}
 use Rattle.server_history.proofs.any_turn.TurnsInOrder.{belong_join, lawful_join}
 use Rattle.server_history.proofs.dispositions.MetFates.{meet, nobody}
@@ -80,7 +80,7 @@ module _ (laws : PrerequisiteLaws) (s : ServerState) (client : ClientId) (number
   marked = may_revoke.marked
 
   abbrev old : ServerState
-  old = with_grant_revoked client number s
+  old = with_grant_removed_and_its_requests_marked client number s
 
   abbrev port : Port
   port = r.has.0.port
@@ -207,7 +207,7 @@ module _ (laws : PrerequisiteLaws) (s : ServerState) (client : ClientId) (number
         (cases_eq q port.0);
     driver_relation = met.driver_relation;
     book = met.book;
-    quarantine_relation = subst (QuarantineRelation s.probe_results s.kept_loans) (sym same_kept) is.quarantine_relation;
+    quarantine_relation = subst (KeptRequestsRelation s.probe_results s.kept_loans) (sym same_kept) is.quarantine_relation;
     rows = leaves.0 ∙ n_rows;
     owner = λ frame. leaves.1 frame ∙ is.owner frame ∙ ap (λ (owners : List (Option ClientId)). get_or owners frame.0 None) (sym (r.lends.owners_are_kept ∙ fates_owners ends_revoked requests replies (book_and_loans_of port old) r.now r.meets));
     lent = λ frame. met.loans_agree frame ∙ sym (r.lends.others_are_kept frame (nowhere frame));

@@ -4,7 +4,7 @@ use Rattle.ata_types.specs.declared.request.ClientId.{ClientId}
 use Rattle.ata_types.specs.declared.request.Reply.{Reply}
 use Rattle.block_machine.specs.Events.{RevokeOf, WasRevoked}
 use Rattle.server_history.specs.Prerequisites.{PrerequisiteLaws}
-use Rattle.server_history.specs.Histories.{ExtendsStuck}
+use Rattle.server_history.specs.Histories.{ExtendsToStuck}
 use Rattle.server_history.specs.Revoking.{RevokesGrant}
 use Rattle.server_history.specs.ServerState.{ServerState}
 use Rattle.server_history.specs.StuckServer.{StuckInvariant}
@@ -15,8 +15,8 @@ use Rattle.server_history.proofs.revoke_call.RevokedEach.{RevokesEach, revokes_e
 use Rattle.server_history.proofs.revoke_call.RevokedServer.{revoked_stalled}
 
 pub stalled_revocation : PrerequisiteLaws → (s new : ServerState) (client : ClientId) (number : ℕ) (replies : List Reply) → StuckInvariant s → RevokesGrant client number replies s new
-    → ExtendsStuck s new (RevokeOf client number) (WasRevoked (Some replies))
-stalled_revocation laws s new client number replies t r = subst (λ (n : ServerState). ExtendsStuck s n (RevokeOf client number) (WasRevoked (Some replies))) (sym each.server) (record {
+    → ExtendsToStuck s new (RevokeOf client number) (WasRevoked (Some replies))
+stalled_revocation laws s new client number replies t r = subst (λ (n : ServerState). ExtendsToStuck s n (RevokeOf client number) (WasRevoked (Some replies))) (sym each.server) (record {
   stuck_invariant = off;
   extends_history = quiet_event laws s client number replies new each
       (holds_off (with_revoked client number new.table each.now.book s) off.server_invariant off.served_ports_are_dead off.adapter_is_not_on)

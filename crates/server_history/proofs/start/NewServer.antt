@@ -17,7 +17,7 @@ use Rattle.refinement.specs.Replug.{replug_candidates}
 use Rattle.refinement.specs.Fragments.{driver_state_of}
 use Rattle.refinement.specs.Driver.{DriverRelation, idle_driver_state}
 use Rattle.refinement.specs.Slots.{Free, SlotStates}
-use Rattle.refinement.specs.SparedBook.{AllAsFarOrFurther, KeepsLoansAndBookOnlyAdvances}
+use Rattle.refinement.specs.SparedBook.{AllAsFarOrFurther, KeepsLoansAndPendingsOnlyAdvance}
 use Rattle.block_machine.specs.Histories.{IsReachable}
 use Rattle.block_machine.specs.Expected.{after, IsValidRow, IsInitial}
 use Rattle.block_machine.specs.Ports.{PortsWellFormed, IsValidMode}
@@ -34,7 +34,7 @@ use Rattle.identify.specs.declared.Unfit.{Unfit as Fault}
 use Rattle.identify.specs.declared.Unfit.TheVariants as fault
 use Rattle.identify.specs.Wanted.{serial_of}
 use Rattle.identify.specs.declared.wanted.Wanted.{Wanted}
-use Rattle.port_boot.specs.States.{BacksState, IsUnfit}
+use Rattle.port_boot.specs.States.{BacksState, BacksUnfitNumber}
 use Rattle.refinement.specs.PortFacts.{RunsWell, Undisturbed}
 use Rattle.server_history.proofs.state.PortSlots.{its_mode, ready_found, stood_mode}
 use Rattle.server_history.proofs.state.ServerInstant.{holds_with, slots}
@@ -45,7 +45,7 @@ use Rattle.block_machine.specs.DueRequests.{NoneDue}
 use Rattle.request_queue.specs.BookEntries.{BookEntry, IsWellFormedEntry, BookIsWellFormed, unanswered_of}
 use Rattle.request_queue.specs.BookRelation.{BookRelation}
 use Rattle.slots.specs.SlotUses.{PortSlots}
-use Rattle.server_history.specs.ServerState.{ServerState, SlotUsesAgreeUnlessDead, InCallInvariant, MachineRelation, IsNewServer, PortInvariant, SettledInvariant, SlotUseAgreesUnlessDead, is_served, QuarantineRelation, DifferInRequest, quarantined_at, mode_in, ports_of, state_of, slot_state_of, used_for, RevokedMarkInvariant}
+use Rattle.server_history.specs.ServerState.{ServerState, SlotUsesAgreeUnlessDead, InCallInvariant, MachineRelation, IsNewServer, PortInvariant, SettledInvariant, SlotUseAgreesUnlessDead, is_served, KeptRequestsRelation, DifferInRequest, quarantined_at, mode_in, ports_of, state_of, slot_state_of, used_for, RevokedMarkInvariant}
 use Rattle.server_history.proofs.state.FollowedAccesses.{followed_adds}
 use Rattle.server_history.proofs.start.TakenOverPorts.{behind, found_is, four, none_past, ports_on, served_there}
 use Rattle.server_history.proofs.state.FirstMembers.{nowhere}
@@ -87,7 +87,7 @@ machine_knows laws d rows owner start is told =
 -- ---- steps of the device
 
 -- steps that spare the book leave a machine to begin with
-start_on : (m later : Machine) → IsInitial m → KeepsLoansAndBookOnlyAdvances m later → IsInitial later
+start_on : (m later : Machine) → IsInitial m → KeepsLoansAndPendingsOnlyAdvance m later → IsInitial later
 start_on m later s spares = record {
   book_is_empty = subst (λ (es : List Pending). AllAsFarOrFurther es later.book) s.book_is_empty spares.book;
   none_is_kept = subst (λ (es : List Pending). AllAsFarOrFurther es later.kept) s.none_is_kept spares.kept;
@@ -110,7 +110,7 @@ numbered fault.SectorSize = (omega arith, omega arith)
 numbered fault.NoFlush = (omega arith, omega arith)
 numbered fault.NoSectors = (omega arith, omega arith)
 
-unfit_numbered : (n port : ℕ) (d : Device) → IsUnfit n port d → (1 ≤ n) × (n ≤ 9)
+unfit_numbered : (n port : ℕ) (d : Device) → BacksUnfitNumber n port d → (1 ≤ n) × (n ≤ 9)
 unfit_numbered n port d (inl (is, shown)) = (omega (arith, is), omega (arith, is))
 unfit_numbered n port d (inr (inl (is, shown))) = (omega (arith, is), omega (arith, is))
 unfit_numbered n port d (inr (inr (inl (is, saw, count)))) = (omega (arith, is), omega (arith, is))
@@ -152,7 +152,7 @@ left_as ports found list uses port slot same none (inl free) = λ _. free ∙ sy
 left_as ports found list uses port slot same none (inr (zero_is, own, dead)) = λ alive. absurd (alive (same ∙ dead))
 
 -- where no request is kept, no loan is
-pub none_are_kept : (found : List ProbeResult) (kept : List (List Lending)) (requests : List Pending) → requests ≡ [] → ((port : ℕ) → quarantined_at kept port ≡ []) → QuarantineRelation found kept requests
+pub none_are_kept : (found : List ProbeResult) (kept : List (List Lending)) (requests : List Pending) → requests ≡ [] → ((port : ℕ) → quarantined_at kept port ≡ []) → KeptRequestsRelation found kept requests
 none_are_kept found kept requests none empty = record {
   quarantine_ports_are_dead = λ e here. absurd (nobody e here);
   each_request_has_its_loan = λ e here. absurd (nobody e here);
@@ -208,7 +208,7 @@ module _ (below : PrerequisiteLaws) (laws : TakeOverLaws) (s : ServerState) (hos
   uses_are : SlotUsesAgreeUnlessDead s taken.uses
   uses_are port slot = left_as host.ports s.probe_results s.slots taken.uses port slot (found_as port) (n.no_slot_is_used port slot) (taken.slots_are_unused_or_dead port slot)
 
-  stands_for : (m : Machine) → IsInitial m → KeepsLoansAndBookOnlyAdvances first_machine m → DriverRelation m (driver_state_of taken.uses (λ port. []) s.device) → MachineRelation s m
+  stands_for : (m : Machine) → IsInitial m → KeepsLoansAndPendingsOnlyAdvance first_machine m → DriverRelation m (driver_state_of taken.uses (λ port. []) s.device) → MachineRelation s m
   stands_for m begun spares knows = record {
     uses = taken.uses;
     slot_uses_agree_unless_dead = uses_are;
@@ -278,7 +278,7 @@ module _ (below : PrerequisiteLaws) (laws : TakeOverLaws) (s : ServerState) (hos
   new_server =
       let x = (followed_adds below taken.followed (λ port slot. Free) (λ port. []) refl).simulates first_machine reached_first (machine_knows below d s.grants (owner_of s.table) start is told) in
       let later : Machine = after first_machine x.0 in
-      let spares : KeepsLoansAndBookOnlyAdvances first_machine later = below.steps_and_accesses.device_steps_spare_book first_machine x.0 x.3.all_steps_are_devices in
+      let spares : KeepsLoansAndPendingsOnlyAdvance first_machine later = below.steps_and_accesses.device_steps_spare_book first_machine x.0 x.3.all_steps_are_by_device in
       let begun : IsInitial later = start_on first_machine later start spares in
       let stands : MachineRelation s later = stands_for later begun spares x.2 in
       let reached : IsReachable later = below.steps_and_accesses.reachable_stays_reachable first_machine x.0 reached_first x.1 in

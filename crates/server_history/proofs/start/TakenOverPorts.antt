@@ -4,8 +4,8 @@ use Rattle.std.proofs.lemmas.Bool.{false≢true, cases_lt}
 use Rattle.adapter.specs.Device.{Device}
 use Rattle.adapter.specs.Idle.{IsIdle}
 use Rattle.refinement.specs.PortFacts.{RecordsFaultsIfSt}
-use Rattle.refinement.specs.Halting.{HaltIsOfTaken}
-use Rattle.refinement.specs.PreservedParts.{ShowsDiskIfIn}
+use Rattle.refinement.specs.Halting.{NotLogOnlyAndQueuedHaltHasTakenCommand}
+use Rattle.refinement.specs.PreservedParts.{HasDet3IfDiskPresent}
 use Rattle.ata_types.specs.declared.PortState.{PortState}
 use Rattle.ata_types.specs.declared.PortState.TheVariants.{Absent, Ready as ReadyState}
 use Rattle.driver_history.specs.PortInvariants.{EngineRuns}
@@ -67,7 +67,7 @@ module _ (laws : TakeOverLaws) (s : ServerState) (host : Host) (d : Device) (is 
       (λ (high : 4 ≤ port). absurd (false≢true (sym (ap is_served (found_is port ∙ none_past host.ports port (let l = many in omega (arith, l, high)))) ∙ served)))
       (cases_lt port 4)
 
-  shown_as : (port : ℕ) (f : ProbeResult) → probe_result_of s.probe_results port ≡ f → FoundUnusableDevice (state_of f) → ShowsDiskIfIn (s.device.port port)
+  shown_as : (port : ℕ) (f : ProbeResult) → probe_result_of s.probe_results port ≡ f → FoundUnusableDevice (state_of f) → HasDet3IfDiskPresent (s.device.port port)
   shown_as port Unserved e bad = absurd bad
   shown_as port (Ready info) e bad = absurd bad
   shown_as port (Unready state) e bad = laws.bad_disk_shows_if_in s.wanted host port state d s.device is taken bad (sym (found_is port) ∙ e)
@@ -80,7 +80,7 @@ module _ (laws : TakeOverLaws) (s : ServerState) (host : Host) (d : Device) (is 
       not_ready : (state : PortState) → state ≡ ReadyState → BacksProbeResult (wanted_of s.wanted port) (Unready state) port s.device → ⊥
       not_ready state same stands = (subst (λ (t : PortState). BacksProbeResult (wanted_of s.wanted port) (Unready t) port s.device) same stands).1
 
-  halts_as : (port : ℕ) → port < 4 → (f : ProbeResult) → probe_result_of s.probe_results port ≡ f → state_of f ≡ ReadyState → HaltIsOfTaken (s.device.port port)
+  halts_as : (port : ℕ) → port < 4 → (f : ProbeResult) → probe_result_of s.probe_results port ≡ f → state_of f ≡ ReadyState → NotLogOnlyAndQueuedHaltHasTakenCommand (s.device.port port)
   halts_as port below Unserved e ready = let z : Absent ≡ ReadyState = ready in absurd cc
   halts_as port below (Ready info) e ready = taken.halt_is_of_taken port below info (sym (found_is port) ∙ e)
   halts_as port below (Unready state) e ready = absurd (not_ready state ready (subst (λ (f : ProbeResult). BacksProbeResult (wanted_of s.wanted port) f port s.device) e (behind port below)))

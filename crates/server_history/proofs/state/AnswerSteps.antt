@@ -17,7 +17,7 @@ use Rattle.block_machine.specs.State.{Pending, Machine}
 use Rattle.block_machine.specs.Steps.{Step, Issue, Answer, IsEnabled, after_step}
 use Rattle.server_history.proofs.state.ListMembers.{contains_cases, contains_here, contains_there, in_filter, without_in}
 use Rattle.request_queue.specs.BookEntries.{BookEntry}
-use Rattle.server_history.specs.IssuingAndAnswering.{HasEnded, AllByDeviceOrIssue, ok_answers_of, done_reply}
+use Rattle.server_history.specs.IssuingAndAnswering.{HasEnded, AllByDeviceOrIssue, ok_answers_newest_first, done_reply}
 use Rattle.server_history.specs.Prerequisites.{PrerequisiteLaws}
 use Rattle.server_history.proofs.state.FirstMembers.{nowhere}
 
@@ -52,21 +52,21 @@ no_answer_issuing mode port (step ∷ steps) only e o here = ⊎_elim
     (contains_cases step steps (Answer e o) here)
 
 -- the answers of these alone
-pub answered_in : (ended : List Pending) (e : Pending) (o : Outcome) → Contains (ok_answers_of ended) (Answer e o) → Contains ended e × (o ≡ Ok)
+pub answered_in : (ended : List Pending) (e : Pending) (o : Outcome) → Contains (ok_answers_newest_first ended) (Answer e o) → Contains ended e × (o ≡ Ok)
 answered_in [] e o here = absurd (nowhere (Answer e o) here)
 answered_in (x ∷ ended) e o here = ⊎_elim
-    (λ (rest : Contains (ok_answers_of ended) (Answer e o)). let r = answered_in ended e o rest in (contains_there x ended e r.0, r.1))
+    (λ (rest : Contains (ok_answers_newest_first ended) (Answer e o)). let r = answered_in ended e o rest in (contains_there x ended e r.0, r.1))
     (λ (last : Contains (Answer x Ok ∷ []) (Answer e o)). ⊎_elim
     (λ (is : Answer e o ≡ Answer x Ok). let a : e ≡ x = cc in let b : o ≡ Ok = cc in (contains_here x ended e a, b))
     (λ none. absurd (nowhere (Answer e o) none))
     (contains_cases (Answer x Ok) [] (Answer e o) last))
-    (Contains-append_cases (ok_answers_of ended) (Answer x Ok ∷ []) (Answer e o) here)
+    (Contains-append_cases (ok_answers_newest_first ended) (Answer x Ok ∷ []) (Answer e o) here)
 
-pub in_answered : (ended : List Pending) (e : Pending) → Contains ended e → Contains (ok_answers_of ended) (Answer e Ok)
+pub in_answered : (ended : List Pending) (e : Pending) → Contains ended e → Contains (ok_answers_newest_first ended) (Answer e Ok)
 in_answered [] e here = absurd (nowhere e here)
 in_answered (x ∷ ended) e here = ⊎_elim
-    (λ (is : e ≡ x). Contains-append_right (ok_answers_of ended) (Answer x Ok ∷ []) (Answer e Ok) (contains_here (Answer x Ok) [] (Answer e Ok) (ap (λ (y : Pending). Answer y Ok) is)))
-    (λ (there : Contains ended e). Contains-append_left (ok_answers_of ended) (Answer x Ok ∷ []) (Answer e Ok) (in_answered ended e there))
+    (λ (is : e ≡ x). Contains-append_right (ok_answers_newest_first ended) (Answer x Ok ∷ []) (Answer e Ok) (contains_here (Answer x Ok) [] (Answer e Ok) (ap (λ (y : Pending). Answer y Ok) is)))
+    (λ (there : Contains ended e). Contains-append_left (ok_answers_newest_first ended) (Answer x Ok ∷ []) (Answer e Ok) (in_answered ended e there))
     (contains_cases x ended e here)
 
 -- as they are told
@@ -82,15 +82,15 @@ told_so port (e ∷ requests) (p ∷ ended) each =
     ∙ ap (λ (replies : List Reply). reply_of (p, Ok) ∷ replies) (told_so port requests ended each.1)
 
 -- who is answered was unanswered before
-pub ended_stood : PrerequisiteLaws → (m : Machine) (ended : List Pending) → AllEnabled m (ok_answers_of ended) → (p : Pending) → Contains ended p → Contains m.book p
+pub ended_stood : PrerequisiteLaws → (m : Machine) (ended : List Pending) → AllEnabled m (ok_answers_newest_first ended) → (p : Pending) → Contains ended p → Contains m.book p
 ended_stood laws m [] may p here = absurd (nowhere p here)
 ended_stood laws m (x ∷ ended) may p here = ⊎_elim
     (λ (is : p ≡ x). subst (Contains m.book) (sym is) parts.0.1.0)
     (λ (there : Contains ended p). (without_in x.request.id m.book p (ended_stood laws (after_step m (Answer x Ok)) ended parts.1 p there)).0)
     (contains_cases x ended p here)
   where
-    parts : AllEnabled m (Answer x Ok ∷ []) × AllEnabled (after_step m (Answer x Ok)) (ok_answers_of ended)
-    parts = may_parts laws m (ok_answers_of ended) (Answer x Ok ∷ []) may
+    parts : AllEnabled m (Answer x Ok ∷ []) × AllEnabled (after_step m (Answer x Ok)) (ok_answers_newest_first ended)
+    parts = may_parts laws m (ok_answers_newest_first ended) (Answer x Ok ∷ []) may
 
 -- nor do steps that issue requests
 pub issuing_answers : (mode : QueueMode) (port : Port) (late base : List Step) → AllByDeviceOrIssue mode port late → answers_of (late ++ base) ≡ answers_of base

@@ -183,7 +183,7 @@ pub evidenced_of : (list : List Port) (ask : AbstractCall DeviceStep) (said : Ab
     → (old.abstract.ports.state port ≡ Ready → Contains list port) → All (WritesNeitherCmdNorSctl port) accesses
     → IsEvidencedOf ask said accesses old ports new (told_of list old.device old.abstract.ports) port
 evidenced_of list ask said accesses old ports new port there leaves = record {
-  named_lost_may_have_lost_disk = λ here. absurd (nowhere port here);
+  named_lost_showed_loss_or_changed = λ here. absurd (nowhere port here);
   shown_loss_of_ready_is_named = λ ready loss. is_named list old.device old.abstract.ports shows_loss port (there ready) ready (loss_shows (old.device.port port.0) (⊎_elim (λ change. inl change) (λ out. inr out.0) loss));
   named_link_changed_had_change_or_no_device = λ here.
       let x = named_is list old.device old.abstract.ports shows_loss port here in

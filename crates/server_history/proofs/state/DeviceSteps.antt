@@ -2,7 +2,7 @@
 use Rattle.std.proofs.Common.{◌≡◌, true, List, [], ◌∷◌, refl, inl}
 use Rattle.std.proofs.lemmas.Bool.{false≢true}
 use Rattle.ata_types.specs.declared.request.RequestId.{RequestId}
-use Rattle.block_machine.specs.Events.{AbstractCall, AbstractState, IsByDevice, AllByDevice, AreStepsOfCall, IssueIsLastOfRequest, AnswersAndWaitsLawful, handles_id, client_bytes_of}
+use Rattle.block_machine.specs.Events.{AbstractCall, AbstractState, IsByDevice, AllByDevice, AreStepsOfCall, IssueIsLastOfRequest, AnswersAndWaitsLawful, issues_requeues_or_answers_id, client_bytes_of}
 use Rattle.block_machine.specs.Ports.{Ports, Evidence}
 use Rattle.block_machine.specs.Steps.{Step, Issue, WaitAgain, Answer, Store, Load}
 
@@ -12,7 +12,7 @@ devices_belong ask ports [] a = tt
 devices_belong ask ports (step ∷ before) a = (devices_belong ask ports before a.0, inl a.1)
 
 -- they are none of the server's with a request
-pub not_handled : (id : RequestId) (step : Step) → IsByDevice step → handles_id id step ≡ true → ⊥
+pub not_handled : (id : RequestId) (step : Step) → IsByDevice step → issues_requeues_or_answers_id id step ≡ true → ⊥
 not_handled id (Issue mode e) d h = absurd d
 not_handled id (WaitAgain e) d h = absurd d
 not_handled id (Answer e o) d h = absurd d

@@ -8,7 +8,7 @@ use Rattle.hba_regs.specs.declared.reg.Reg.TheVariants.{Px}
 use Rattle.adapter.specs.Access.{Access}
 use Rattle.adapter.specs.Device.{Device}
 use Rattle.adapter.specs.declared.command.Operation.{Operation}
-use Rattle.refinement.specs.Acts.{Act, act_steps}
+use Rattle.refinement.specs.Acts.{Act, newest_first_steps_of_acts}
 use Rattle.refinement.specs.Fragments.{IsSimulatedChangingUses, NoneWrites, GainsNoMove, driver_state_of}
 use Rattle.refinement.specs.Driver.{IsBackedByDeviceAlone, DriverRelation}
 use Rattle.refinement.specs.Slots.{Own, SlotState, SlotStates, client_operation_of}
@@ -23,7 +23,7 @@ module _ (laws : PrerequisiteLaws) {May : Access → Type 0} {Fits : SlotStates 
     simulates = λ m reached knows.
         let c = followed.acts_reach (record { slot_states = uses; awaiting_disposition = parked }) m reached knows fits in
         let g = laws.slots.acts_advance_driver c.acts (driver_state_of uses parked old) (driver_state_of (next uses) parked new) m knows c.acts_are_done in
-        (act_steps c.acts, g.steps_are_enabled, g.driver_relation, record { is_backed = g.is_backed; all_steps_are_devices = c.acts_are_such.all_steps_are_devices });
+        (newest_first_steps_of_acts c.acts, g.steps_are_enabled, g.driver_relation, record { is_backed = g.is_backed; all_steps_are_by_device = c.acts_are_such.all_steps_are_by_device });
   }
 
   -- where they write neither PxCI nor PxSACT of a port, no page comes there for a command of the driver's own that slot 0 hasn't

@@ -14,7 +14,7 @@ use Rattle.adapter.specs.declared.access.DeviceStep.{DeviceStep}
 use Rattle.refinement.specs.Fragments.{driver_state_of}
 use Rattle.refinement.specs.Driver.{DriverRelation, TapeBacksSteps}
 use Rattle.refinement.specs.PreservedParts.{SameAdapter}
-use Rattle.refinement.specs.SparedBook.{AllAsFarOrFurther, IsAsFarOrFurther, KeepsLoansAndBookOnlyAdvances}
+use Rattle.refinement.specs.SparedBook.{AllAsFarOrFurther, IsAsFarOrFurther, KeepsLoansAndPendingsOnlyAdvance}
 use Rattle.block_machine.specs.Events.{AbstractCall, AbstractCallResult, AllEnabled, AllByDevice, AreStepsOfCall, IssueIsLastOfRequest, AnswersAndWaitsLawful, ResultMatchesSteps, UnansweredKeepSerialAndSize}
 use Rattle.block_machine.specs.Histories.{JointState, JointEvent, IsHistory, IsReachable, joint_state_after}
 use Rattle.block_machine.specs.Expected.{IsValidRow, after}
@@ -34,7 +34,7 @@ use Rattle.server_history.specs.Histories.{LeadsToServer}
 use Rattle.request_queue.specs.BookEntries.{BookEntry, IsWellFormedEntry, BookIsWellFormed}
 use Rattle.request_queue.specs.BookRelation.{BookRelation, EntryRelation, range_of}
 use Rattle.slots.specs.SlotUses.{PortSlots}
-use Rattle.server_history.specs.ServerState.{HasStoredCommand, IsLoneSlot0, SlotsInvariant, ServerState, InCallInvariant, MachineRelation, PortInvariant, probed_mode, mode_in, quarantined_at, QuarantineRelation, ports_of, state_of, used_for, RevokedMarkInvariant}
+use Rattle.server_history.specs.ServerState.{HasStoredCommand, IsLoneSlot0, SlotsInvariant, ServerState, InCallInvariant, MachineRelation, PortInvariant, probed_mode, mode_in, quarantined_at, KeptRequestsRelation, ports_of, state_of, used_for, RevokedMarkInvariant}
 use Rattle.slots.specs.declared.SlotUse.{SlotUse}
 use Rattle.block_machine.specs.DueRequests.{is_plain}
 use Rattle.server_history.proofs.state.ServerInstant.{holds_with, slots}
@@ -67,7 +67,7 @@ book_on (e ∷ es) (old ∷ olds) [] further all = absurd further
 book_on (e ∷ es) (old ∷ olds) (new ∷ news) further all = (entry_on e old new further.0 all.0, book_on es olds news further.1 all.1)
 
 -- and so do kept requests, with their loans
-pub still_kept : PrerequisiteLaws → (found : List ProbeResult) (kept : List (List Lending)) (olds news : List Pending) → AllAsFarOrFurther olds news → QuarantineRelation found kept olds → QuarantineRelation found kept news
+pub still_kept : PrerequisiteLaws → (found : List ProbeResult) (kept : List (List Lending)) (olds news : List Pending) → AllAsFarOrFurther olds news → KeptRequestsRelation found kept olds → KeptRequestsRelation found kept news
 still_kept laws found kept olds news further are = record {
   quarantine_ports_are_dead = λ e here. let o = laws.steps_and_accesses.entry_is_found_in_earlier_book olds news e further here in ap (λ r. probe_result_of found r.port.0) o.2.request ∙ are.quarantine_ports_are_dead o.0 o.1;
   each_request_has_its_loan = λ e here.
@@ -83,7 +83,7 @@ still_kept laws found kept olds news further are = record {
 
 -- ---- the machine that stands for a server
 
-pub machine_with : PrerequisiteLaws → (s : ServerState) (new : Device) (m later : Machine) → (is : MachineRelation s m) → KeepsLoansAndBookOnlyAdvances m later
+pub machine_with : PrerequisiteLaws → (s : ServerState) (new : Device) (m later : Machine) → (is : MachineRelation s m) → KeepsLoansAndPendingsOnlyAdvance m later
     → DriverRelation later (driver_state_of is.uses is.awaiting_disposition new)
     → MachineRelation (record s { device = new }) later
 machine_with laws s new m later is spares knows = record {

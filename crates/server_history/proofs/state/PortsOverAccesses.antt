@@ -9,14 +9,14 @@ use Rattle.adapter.specs.Rules.{IsOn}
 use Rattle.adapter.specs.declared.command.Operation.TheVariants.{Identify}
 use Rattle.refinement.specs.Relation.{port_at}
 use Rattle.refinement.specs.Fragments.{IsDrivenBy, SparesOtherPorts, OnlyDeviceChangesPort, GainsNoMove}
-use Rattle.refinement.specs.Halting.{HaltOfTakenIfSt}
+use Rattle.refinement.specs.Halting.{NotLogOnlyAndQueuedHaltHasTakenCommandIfSt}
 use Rattle.refinement.specs.PreservedParts.{SameAdapter}
 use Rattle.server_history.proofs.state.DrivenAccesses.{by_one}
 use Rattle.host_boot.specs.TakeOver.{StillBacksProbeResult, probe_result_of, wanted_of}
 use Rattle.host_boot.specs.declared.ProbeResult.{ProbeResult}
 use Rattle.host_boot.specs.declared.ProbeResult.TheVariants.{Unserved, Ready, Unready}
 use Rattle.identify.specs.declared.wanted.Wanted.{Wanted}
-use Rattle.port_control.specs.ServiceAccesses.{IsServiceAccess}
+use Rattle.port_control.specs.ServiceAccesses.{WritesOnlyHbaIsPxIsCiOrSact}
 use Rattle.server_history.specs.Prerequisites.{PrerequisiteLaws}
 use Rattle.server_history.specs.ServerState.{PortInvariant, state_of}
 use Rattle.server_history.proofs.state.PortGrounds.{left_on, ready_on}
@@ -36,7 +36,7 @@ bytes_of port (Storing at bytes) is = tt
 bytes_of port (Reading r v) is = absurd is
 bytes_of port (Writing r v) is = absurd is
 
-pub bytes_serve : (access : Access) → IsOfBytes access → IsServiceAccess access
+pub bytes_serve : (access : Access) → IsOfBytes access → WritesOnlyHbaIsPxIsCiOrSact access
 bytes_serve (Loading at bytes) is = tt
 bytes_serve (Storing at bytes) is = tt
 bytes_serve (Reading r v) is = absurd is
@@ -51,9 +51,9 @@ bytes_leave laws access old new is on does port =
 -- ---- what stands behind a port
 
 -- over accesses that serve ports, where the port is left to the device, unless it is ready, and a halt is of a taken command still
-pub port_on : PrerequisiteLaws → (wanted : List Wanted) (found : List ProbeResult) (port : ℕ) (old new : Device) → SameAdapter old new → IsOn old → IsDrivenBy IsServiceAccess old new
+pub port_on : PrerequisiteLaws → (wanted : List Wanted) (found : List ProbeResult) (port : ℕ) (old new : Device) → SameAdapter old new → IsOn old → IsDrivenBy WritesOnlyHbaIsPxIsCiOrSact old new
     → (state_of (probe_result_of found port) ≢ ReadyState → OnlyDeviceChangesPort (old.port port) (new.port port))
-    → (probe_result_of found port ≢ Unready Dead → GainsNoMove port Identify old new) → (HaltOfTakenIfSt (old.port port) → HaltOfTakenIfSt (new.port port)) → PortInvariant wanted found port old → PortInvariant wanted found port new
+    → (probe_result_of found port ≢ Unready Dead → GainsNoMove port Identify old new) → (NotLogOnlyAndQueuedHaltHasTakenCommandIfSt (old.port port) → NotLogOnlyAndQueuedHaltHasTakenCommandIfSt (new.port port)) → PortInvariant wanted found port old → PortInvariant wanted found port new
 port_on laws wanted found port old new same on by left silent halts is =
     record {
       probe_result_is_backed = behind (probe_result_of found port) left silent is.probe_result_is_backed;

@@ -8,7 +8,7 @@ use Rattle.ata_types.specs.declared.request.RequestId.{RequestId}
 use Rattle.block_machine.specs.Confinement.{WasAccepted, KeepsLimitsAndHoldsOwnFrames}
 use Rattle.block_machine.specs.Histories.{IsReachable}
 use Rattle.block_machine.specs.State.{Machine, Pending}
-use Rattle.block_machine.specs.Steps.{HoldsFrames}
+use Rattle.block_machine.specs.Steps.{IsInBookOrKept}
 use Rattle.dma_frames.specs.Loan.{Lending}
 use Rattle.dma_frames.specs.FrameTables.{lent_to}
 use Rattle.host_boot.specs.TakeOver.{probe_result_of}
@@ -20,11 +20,11 @@ use Rattle.server_history.specs.ServerState.{ServerState, InCallInvariant, IsLen
 use Rattle.server_history.proofs.state.PairedLists.{at_left}
 
 module _ (laws : FrameHolderLaws) (s : ServerState) (m : Machine) (reached : IsReachable m) (stands : MachineRelation s m) where
-  accepted : (e : Pending) → HoldsFrames m e → WasAccepted reached.initial_machine reached.steps_since e.request
-  accepted e lives = laws.frame_holders_were_accepted reached.initial_machine reached.steps_since e reached.is_initial reached.is_legal (subst (λ (x : Machine). HoldsFrames x e) reached.leads_to_machine lives)
+  accepted : (e : Pending) → IsInBookOrKept m e → WasAccepted reached.initial_machine reached.steps_since e.request
+  accepted e lives = laws.frame_holders_were_accepted reached.initial_machine reached.steps_since e reached.is_initial reached.is_legal (subst (λ (x : Machine). IsInBookOrKept x e) reached.leads_to_machine lives)
 
   -- one id is one request
-  same_request : (a b : Pending) → HoldsFrames m a → HoldsFrames m b → a.request.id ≡ b.request.id → a.request ≡ b.request
+  same_request : (a b : Pending) → IsInBookOrKept m a → IsInBookOrKept m b → a.request.id ≡ b.request.id → a.request ≡ b.request
   same_request a b left right same = laws.an_id_is_accepted_once reached.initial_machine reached.steps_since a.request b.request (accepted a left) (accepted b right) same
 
   within : KeepsLimitsAndHoldsOwnFrames m

@@ -5,7 +5,7 @@ use Rattle.ata_types.specs.declared.grant.GrantRow.{GrantRow}
 use Rattle.ata_types.specs.declared.request.Outcome.{Outcome}
 use Rattle.ata_types.specs.declared.request.Outcome.TheVariants as outcome
 use Rattle.block_machine.specs.State.{Machine, Pending}
-use Rattle.block_machine.specs.Steps.{HasGrant, GrantAllowsOutcome}
+use Rattle.block_machine.specs.Steps.{HasGrant, RevokedLacksGrantAbortedHasGrant}
 use Rattle.request_queue.specs.BookEntries.{BookEntry, issued_request}
 use Rattle.request_queue.specs.BookRelation.{EntryRelation}
 use Rattle.request_queue.specs.declared.PendingRequest.{PendingRequest}
@@ -23,7 +23,7 @@ marked_none m e p entry tells marked has = false≢true (sym (tells.1 (has.0, ha
 
 -- so one may be told Revoked that is marked, and Aborted one that isn't
 pub tellable : (m : Machine) (e : BookEntry) (p : Pending) (o : Outcome) → EntryRelation e p → RevokedMarkAgrees m.rows e.request
-    → (o ≡ outcome.Revoked → e.request.revoked ≡ true) → (o ≡ outcome.Aborted → e.request.revoked ≡ false) → GrantAllowsOutcome m p o
+    → (o ≡ outcome.Revoked → e.request.revoked ≡ true) → (o ≡ outcome.Aborted → e.request.revoked ≡ false) → RevokedLacksGrantAbortedHasGrant m p o
 tellable m e p outcome.Revoked entry tells marked plain = marked_none m e p entry tells (marked refl)
 tellable m e p outcome.Aborted entry tells marked plain = unmarked_has m e p entry tells (plain refl)
 tellable m e p outcome.Ok entry tells marked plain = tt

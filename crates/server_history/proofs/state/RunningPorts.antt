@@ -12,11 +12,11 @@ use Rattle.adapter.specs.Access.Access.{Reading, Writing, Loading, Storing}
 use Rattle.adapter.specs.Device.{Notes, DevicePort, Device}
 use Rattle.adapter.specs.Rules.{IsOn}
 use Rattle.refinement.specs.Fragments.{IsDrivenBy}
-use Rattle.refinement.specs.PreservedParts.{ShowsDiskIfIn, ControlsChangeOnlyByTheirWrites, DoesNotWrite}
+use Rattle.refinement.specs.PreservedParts.{HasDet3IfDiskPresent, ControlsChangeOnlyByTheirWrites, DoesNotWrite}
 use Rattle.refinement.specs.PortNotes.{DoesNotRead}
 use Rattle.port_control.specs.Ports.{programmed_bases}
 use Rattle.refinement.specs.Relation.{port_at}
-use Rattle.port_control.specs.ServiceAccesses.{IsServiceAccess}
+use Rattle.port_control.specs.ServiceAccesses.{WritesOnlyHbaIsPxIsCiOrSact}
 use Rattle.driver_history.specs.PortInvariants.{EngineRuns}
 use Rattle.server_history.specs.Prerequisites.{PrerequisiteLaws}
 use Rattle.server_history.proofs.state.DrivenAccesses.{kept_over}
@@ -59,7 +59,7 @@ link_still laws port access old new on spares does saw = by access spares does
     by (Storing at bytes) its did = spared (Storing at bytes) its did tt
     by (Reading r v) its did = read r v did
 
-each : PrerequisiteLaws → (port : Port) (access : Access) (old new : Device) → IsOn old → IsServiceAccess access → Does access old new → Holds port.0 old → Holds port.0 new
+each : PrerequisiteLaws → (port : Port) (access : Access) (old new : Device) → IsOn old → WritesOnlyHbaIsPxIsCiOrSact access → Does access old new → Holds port.0 old → Holds port.0 new
 each laws port access old new on is does h =
     let left : ControlsChangeOnlyByTheirWrites access port (old.port port.0) (new.port port.0) = laws.port_event_laws.access_controls port access old new on.no_reset does in
     let command = left.command (laws.look_laws.services_spare_other_registers port Cmd (λ e. cc) (λ e. cc) (λ e. cc) access is) in
@@ -76,20 +76,20 @@ each laws port access old new on is does h =
     }
 
 -- over accesses that serve ports the adapter stays on, with what each of them keeps
-on_over : PrerequisiteLaws → (Kept : Device → Type 0) → ((access : Access) (old new : Device) → IsOn old → IsServiceAccess access → Does access old new → Kept old → Kept new)
-    → (old new : Device) → IsOn old → IsDrivenBy IsServiceAccess old new → Kept old → Kept new
+on_over : PrerequisiteLaws → (Kept : Device → Type 0) → ((access : Access) (old new : Device) → IsOn old → WritesOnlyHbaIsPxIsCiOrSact access → Does access old new → Kept old → Kept new)
+    → (old new : Device) → IsOn old → IsDrivenBy WritesOnlyHbaIsPxIsCiOrSact old new → Kept old → Kept new
 on_over laws Kept keeps old new on driven here =
-    (kept_over (λ d. IsOn d × Kept d) IsServiceAccess
+    (kept_over (λ d. IsOn d × Kept d) WritesOnlyHbaIsPxIsCiOrSact
     (λ access a b is does w. (laws.port_event_laws.access_keeps_on access a b w.0 (λ v same. absurd (subst (DoesNotWrite Ghc) same (laws.look_laws.services_do_not_write_ghc access is) refl)) does, keeps access a b w.0 is does w.1))
     old new driven (on, here)).1
 
 -- a device shows still, or none is in
-pub shown_on : PrerequisiteLaws → (port : Port) (old new : Device) → IsOn old → IsDrivenBy IsServiceAccess old new → ShowsDiskIfIn (old.port port.0) → ShowsDiskIfIn (new.port port.0)
+pub shown_on : PrerequisiteLaws → (port : Port) (old new : Device) → IsOn old → IsDrivenBy WritesOnlyHbaIsPxIsCiOrSact old new → HasDet3IfDiskPresent (old.port port.0) → HasDet3IfDiskPresent (new.port port.0)
 shown_on laws port old new on driven =
-    on_over laws (λ d. ShowsDiskIfIn (d.port port.0))
+    on_over laws (λ d. HasDet3IfDiskPresent (d.port port.0))
     (λ access a b ready is does. laws.look_laws.disk_shown_if_in_stays_but_for_sctl_write port access a b ready.no_reset (laws.look_laws.services_spare_other_registers port Sctl (λ e. cc) (λ e. cc) (λ e. cc) access is) does) old new on driven
 
-pub runs_on : PrerequisiteLaws → (port : Port) (old new : Device) → IsOn old → IsDrivenBy IsServiceAccess old new → EngineRuns port.0 old → EngineRuns port.0 new
+pub runs_on : PrerequisiteLaws → (port : Port) (old new : Device) → IsOn old → IsDrivenBy WritesOnlyHbaIsPxIsCiOrSact old new → EngineRuns port.0 old → EngineRuns port.0 new
 runs_on laws port old new on driven r = record {
   st_is_set = h.st;
   cr_is_set = h.cr;

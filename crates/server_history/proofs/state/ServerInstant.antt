@@ -8,13 +8,13 @@ use Rattle.ata_types.specs.declared.PortState.TheVariants.{Absent, Ready as Read
 use Rattle.ata_types.specs.declared.request.Op.{Op}
 use Rattle.adapter.specs.Device.{Device}
 use Rattle.refinement.specs.Acts.{DriverSlots}
-use Rattle.refinement.specs.PreservedParts.{ShowsDiskIfIn}
+use Rattle.refinement.specs.PreservedParts.{HasDet3IfDiskPresent}
 use Rattle.refinement.specs.Slots.{Free}
 use Rattle.block_machine.specs.DueRequests.{is_plain}
 use Rattle.block_machine.specs.declared.due.QueueMode.{QueueMode}
 use Rattle.block_machine.specs.Histories.{JointState, IsReachable}
 use Rattle.block_machine.specs.State.{Machine, Pending}
-use Rattle.driver_history.specs.PortInvariants.{HasAllSlotsFreeAndNoneParked, ReadySlotsInvariant, PortStateInvariant, DriverInvariantWith, IsFreeOrServes, IsQueuedAsAsked, HasNoUnanswered, EngineRuns, SlotServesUnanswered}
+use Rattle.driver_history.specs.PortInvariants.{HasAllSlotsFreeAndNoneParked, ReadySlotsInvariant, PortStateInvariant, DriverInvariantWith, IsFreeOrServes, SlotCommandIsQueuedUnlessPlain, HasNoUnanswered, EngineRuns, SlotServesUnanswered}
 use Rattle.host_boot.specs.TakeOver.{FoundUnusableDevice, IsServed as IsServedPort, StillBacksProbeResult, probe_result_of, wanted_of}
 use Rattle.host_boot.specs.declared.ProbeResult.{ProbeResult}
 use Rattle.host_boot.specs.declared.ProbeResult.TheVariants.{Unserved, Ready, Unready}
@@ -89,7 +89,7 @@ module _ (s : ServerState) (k : InCallInvariant s) (m : Machine) (reached : IsRe
           let alike : x.0 ≡ u = cc in
           k.slots_queue_as_asked port slot u x.2.0 used x.2.1 (x.2.3 ∙ ap (λ (v : SlotUse). v.id) alike) ∙ ap (λ (o : Op). not (is_plain mode o)) (sym x.2.2.op)
 
-      kind : (slot : ℕ) (e : Pending) → SlotServesUnanswered slots instant port slot e → e.ended ≡ false → IsQueuedAsAsked mode s.device port.0 slot e
+      kind : (slot : ℕ) (e : Pending) → SlotServesUnanswered slots instant port slot e → e.ended ≡ false → SlotCommandIsQueuedUnlessPlain mode s.device port.0 slot e
       kind slot e serves unended =
           let x = serving slot e serves in
           let h = k.slots_store_commands port.0 slot x.0 x.1 in
@@ -118,7 +118,7 @@ module _ (s : ServerState) (k : InCallInvariant s) (m : Machine) (reached : IsRe
         plain_is_alone = alone;
       }
 
-    shown_as : (f : ProbeResult) → probe_result_of s.probe_results port.0 ≡ f → FoundUnusableDevice (state_of f) → ShowsDiskIfIn (s.device.port port.0)
+    shown_as : (f : ProbeResult) → probe_result_of s.probe_results port.0 ≡ f → FoundUnusableDevice (state_of f) → HasDet3IfDiskPresent (s.device.port port.0)
     shown_as f e bad = (k.port_invariant port.0 low).bad_disk_is_shown_if_in (subst (λ (x : ProbeResult). FoundUnusableDevice (state_of x)) (sym e) bad)
 
     of : (f : ProbeResult) → probe_result_of s.probe_results port.0 ≡ f → StillBacksProbeResult (wanted_of s.wanted port.0) f port.0 s.device → (state_of f ≡ ReadyState → EngineRuns port.0 s.device)

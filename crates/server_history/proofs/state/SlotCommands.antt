@@ -13,7 +13,7 @@ use Rattle.refinement.specs.Slots.{AreRequestPlaces, ServesRequest, client_opera
 use Rattle.refinement.specs.Relation.{port_at}
 use Rattle.adapter.specs.Commands.{Meaning}
 use Rattle.block_machine.specs.Rules.{IsAllowedCount, frame_count_for}
-use Rattle.block_machine.specs.State.{Accepted, Machine, Pending, frame_at}
+use Rattle.block_machine.specs.State.{Accepted, Machine, Pending, nth_frame}
 use Rattle.dma_frames.specs.FrameTables.{lent_to}
 use Rattle.host_boot.specs.TakeOver.{probe_result_of}
 use Rattle.request_queue.specs.BookEntries.{BookEntry, IsWellFormedEntry}
@@ -33,7 +33,7 @@ module _ (laws : PrerequisiteLaws) (s : ServerState) (k : InCallInvariant s) (m 
   -- a transfer of the book has a first frame, which is lent to it
   record HasFirst (p : Pending) : Type 0 where
     some : 1 ≤ p.request.asked.count
-    lent : lent_to s.table (frame_at p.request.asked.frames.items 0) ≡ Some p.request.id
+    lent : lent_to s.table (nth_frame p.request.asked.frames.items 0) ≡ Some p.request.id
 
   has_first : (p : Pending) → Contains m.book p → (p.request.asked.op ≡ Read) ⊎ (p.request.asked.op ≡ Write) → HasFirst p
   has_first p here transfers = record { some = subst (λ (n : ℕ). 1 ≤ n) (sym (ap (λ r. r.count) x.2.range)) (sized x.0.request.op op refl).0; lent = its_lent }
@@ -54,9 +54,9 @@ module _ (laws : PrerequisiteLaws) (s : ServerState) (k : InCallInvariant s) (m 
       sized o (inr writes) same =
           let c = subst (λ (y : Op). IsAllowedCount y x.0.request.range.count) (same ∙ writes) a.count_is_allowed in let f = a.frame_count_is ∙ ap (λ (y : Op). frame_count_for y x.0.request.range.count) (same ∙ writes) in let c0 = c.0 in (c0, omega (arith, c0, f))
 
-      its_lent : lent_to s.table (frame_at p.request.asked.frames.items 0) ≡ Some p.request.id
+      its_lent : lent_to s.table (nth_frame p.request.asked.frames.items 0) ≡ Some p.request.id
       its_lent =
-          subst (λ (frames : List Frame). lent_to s.table (frame_at frames 0) ≡ Some p.request.id) (sym x.2.frames)
+          subst (λ (frames : List Frame). lent_to s.table (nth_frame frames 0) ≡ Some p.request.id) (sym x.2.frames)
           (a.frames_are_lent 0 (record { 0 = 0 }) (sized x.0.request.op op refl).1 ∙ ap Some (sym x.2.id))
 
   -- what a used slot says besides is its own request's
@@ -122,7 +122,7 @@ module _ (laws : PrerequisiteLaws) (s : ServerState) (k : InCallInvariant s) (m 
             ∙ ap (λ (places : List ℕ). slice_index places 0) same.1
             ∙ first_place x.serves.pending.request.asked.op its_op port x.serves.pending.request x.serves.places x.serves.means.places_are own.some
 
-        frame_is : frame_at says.pending.request.asked.frames.items 0 ≡ frame_at x.serves.pending.request.asked.frames.items 0
+        frame_is : nth_frame says.pending.request.asked.frames.items 0 ≡ nth_frame x.serves.pending.request.asked.frames.items 0
         frame_is = ap (λ (n : ℕ). record { 0 = n }) (let f = first_is in omega (arith, f))
 
     pub one_said : id ≡ used.id

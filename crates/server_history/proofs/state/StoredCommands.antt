@@ -18,7 +18,7 @@ use Rattle.refinement.specs.ReadySlots.{KeepsStoredCommand}
 use Rattle.command_table.specs.TableStores.{IsBlockStore, IsHeaderTableOrBlockStore, IsHeaderOrTableStore}
 use Rattle.commands.specs.Batches.{IsBatchAccess, IsStoreForBatch, PlacedTask, StoresThenWritesAll}
 use Rattle.commands.specs.Tasks.{IsStoreFor, issuing_writes}
-use Rattle.port_control.specs.ServiceAccesses.{IsServiceAccess}
+use Rattle.port_control.specs.ServiceAccesses.{WritesOnlyHbaIsPxIsCiOrSact}
 use Rattle.server_history.specs.Prerequisites.{PrerequisiteLaws}
 use Rattle.server_history.proofs.state.TransferAccesses.{issuing_serves}
 
@@ -65,7 +65,7 @@ never_both port slot other k place a b c d apart x y = ⊎_elim
     other_port ne (inr h) (inr i) = omega (arith, a, b, c, d, ne, h.0, h.1, i.0, i.1)
 
 -- an access that serves ports leaves what is stored for a slot, if its store misses header and table
-pub service_leaves_stored : PrerequisiteLaws → (other : Port) (k : ℕ) (access : Access) → IsServiceAccess access
+pub service_leaves_stored : PrerequisiteLaws → (other : Port) (k : ℕ) (access : Access) → WritesOnlyHbaIsPxIsCiOrSact access
     → ((at : ℕ) (bytes : List ℕ) (place : ℕ) → access ≡ Storing at bytes → IsTableOrHeaderByteButPrdbc other.0 k place → at ≤ place → place < at + length bytes → ⊥) → KeepsStoredCommand other k access
 service_leaves_stored laws other k access is misses = record {
   ghc_is_not_written = laws.look_laws.services_do_not_write_ghc access is;

@@ -8,11 +8,11 @@ use Rattle.adapter.specs.Access.Access.{Reading, Writing, Loading, Storing}
 use Rattle.adapter.specs.Device.{Device}
 use Rattle.commands.specs.Batches.{IsBatchAccess}
 use Rattle.commands.specs.Masks.{ReadsDone, ReadsCiOrSact}
-use Rattle.port_control.specs.ServiceAccesses.{IsServiceAccess}
+use Rattle.port_control.specs.ServiceAccesses.{WritesOnlyHbaIsPxIsCiOrSact}
 
 -- ---- issuing
 
-pub issuing_serves : (port : Port) (access : Access) → IsBatchAccess port access → IsServiceAccess access
+pub issuing_serves : (port : Port) (access : Access) → IsBatchAccess port access → WritesOnlyHbaIsPxIsCiOrSact access
 issuing_serves port (Writing r v) here = ⊎_elim (λ (is : r ≡ Px port Sact). inr (port, inr (inr is))) (λ (is : r ≡ Px port Ci). inr (port, inr (inl is))) here
 issuing_serves port (Storing at bytes) here = tt
 issuing_serves port (Loading at bytes) here = absurd here
@@ -20,7 +20,7 @@ issuing_serves port (Reading r v) here = absurd here
 
 -- ---- finding what is done
 
-pub finding_serves : (port : Port) (access : Access) → ReadsCiOrSact port access → IsServiceAccess access
+pub finding_serves : (port : Port) (access : Access) → ReadsCiOrSact port access → WritesOnlyHbaIsPxIsCiOrSact access
 finding_serves port (Reading r v) here = tt
 finding_serves port (Writing r v) here = absurd here
 finding_serves port (Loading at bytes) here = absurd here

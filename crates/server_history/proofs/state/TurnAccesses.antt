@@ -20,7 +20,7 @@ use Rattle.adapter.specs.Steps.{Steps}
 use Rattle.refinement.specs.Fragments.{IsSoleBit, IsDrivenBy, SparesOtherPorts}
 use Rattle.refinement.specs.PortFacts.{RunsWell, Undisturbed}
 use Rattle.command_table.specs.TableStores.{IsHeaderTableOrBlockStore, IsHeaderOrTableStore}
-use Rattle.driver_history.specs.Histories.{IsIssuingAccess}
+use Rattle.driver_history.specs.Histories.{StoresOrWritesSactOrCi}
 use Rattle.commands.specs.Batches.{IsBatchAccess}
 use Rattle.driver_history.specs.AccessTrace.{StaysInDriverFrames, DoesNotWriteCmd, WritesNeitherCmdNorSctl, ReadsMasksBeforeCmdWrite}
 use Rattle.server_history.specs.Prerequisites.{PrerequisiteLaws}
@@ -28,7 +28,7 @@ use Rattle.server_history.specs.IssuingAndAnswering.{PollsSlots, IsEmptyMask, Po
 use Rattle.slots.specs.SlotUses.{PortSlots, use_at}
 use Rattle.server_history.proofs.state.TransferAccesses.{both_read, issuing_serves}
 use Rattle.port_control.specs.PortEvents.{TakesEvent}
-use Rattle.port_control.specs.ServiceAccesses.{IsServiceAccess}
+use Rattle.port_control.specs.ServiceAccesses.{WritesOnlyHbaIsPxIsCiOrSact}
 use Rattle.port_control.specs.declared.events.PortEvent.{PortEvent}
 use Rattle.port_control.specs.declared.events.PortEvent.TheVariants.{NoEvent}
 
@@ -43,7 +43,7 @@ none_loaded old new steps = record { steps = steps; shows = refl }
 
 -- it serves ports, is of this one, and what it loads or stores is the driver's own
 abbrev pub IsTurn : Port → Access → Type 0
-IsTurn port access = IsServiceAccess access × (StaysInDriverFrames access × SparesOtherPorts port access)
+IsTurn port access = WritesOnlyHbaIsPxIsCiOrSact access × (StaysInDriverFrames access × SparesOtherPorts port access)
 
 -- header and table of a slot lie in the driver's frames
 pub table_own : (port slot at : ℕ) (bytes : List ℕ) → port < 4 → slot < 32 → IsHeaderOrTableStore port slot (Storing at bytes) → at + length bytes ≤ DRIVER_BYTES
@@ -55,7 +55,7 @@ stored_own : (port slot at : ℕ) (bytes : List ℕ) → port < 4 → slot < 32 
 stored_own port slot at bytes low small (inl table) = table_own port slot at bytes low small table
 stored_own port slot at bytes low small (inr block) = let here = block.1 in let size = block.2 in omega (arith, low, here, size)
 
-pub issuing_is : (port : Port) → port.0 < 4 → (access : Access) → IsBatchAccess port access → IsIssuingAccess port access
+pub issuing_is : (port : Port) → port.0 < 4 → (access : Access) → IsBatchAccess port access → StoresOrWritesSactOrCi port access
 issuing_is port low (Writing r v) here = here
 issuing_is port low (Storing at bytes) (slot, small, is) = stored_own port.0 slot at bytes low small is
 issuing_is port low (Reading r v) here = absurd here
@@ -64,14 +64,14 @@ issuing_is port low (Loading at bytes) here = absurd here
 pub issuing_turns : PrerequisiteLaws → (port : Port) → port.0 < 4 → (access : Access) → IsBatchAccess port access → IsTurn port access
 issuing_turns laws port low access here = (issuing_serves port access here, (own access (issuing_is port low access here), laws.batch_access_is_of_port port access here))
   where
-    own : (access : Access) → IsIssuingAccess port access → StaysInDriverFrames access
+    own : (access : Access) → StoresOrWritesSactOrCi port access → StaysInDriverFrames access
     own (Writing r v) on = tt
     own (Storing at bytes) on = on
     own (Reading r v) on = tt
     own (Loading at bytes) on = absurd on
 
 -- what serves ports writes neither PxCMD nor PxSCTL, nor GHC
-service_leaves : PrerequisiteLaws → (port : Port) (access : Access) → IsServiceAccess access → WritesNeitherCmdNorSctl port access
+service_leaves : PrerequisiteLaws → (port : Port) (access : Access) → WritesOnlyHbaIsPxIsCiOrSact access → WritesNeitherCmdNorSctl port access
 service_leaves laws port access here = (laws.look_laws.services_spare_other_registers port Cmd (λ e. cc) (λ e. cc) (λ e. cc) access here, laws.look_laws.services_spare_other_registers port Sctl (λ e. cc) (λ e. cc) (λ e. cc) access here)
 
 pub issuing_leaves : PrerequisiteLaws → (port other : Port) (access : Access) → IsBatchAccess port access → WritesNeitherCmdNorSctl other access

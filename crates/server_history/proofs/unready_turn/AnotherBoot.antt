@@ -29,7 +29,7 @@ use Rattle.identify.specs.declared.wanted.Wanted.{Wanted}
 use Rattle.port_boot.specs.States.{IsOnWithPortMemoryAndFreeSlots}
 use Rattle.port_control.specs.Ports.{IsStopped}
 use Rattle.port_control.specs.declared.Stopped.{Stopped}
-use Rattle.port_control.specs.PortEvents.{IsEventAccess}
+use Rattle.port_control.specs.PortEvents.{IsPxisSstsOrOwnIsAccess}
 use Rattle.server_history.specs.Prerequisites.{PrerequisiteLaws}
 use Rattle.server_history.specs.ErrorHandling.{IsFoundAfterError}
 use Rattle.server_history.specs.ServerState.{InCallInvariant, ServerState, last_disk_in, last_disk_of, is_served, no_slots, plain_mode, ports_of, remembered_at, last_sectors_of, last_serial_of, state_of}
@@ -60,17 +60,17 @@ pub its_service : (s : ServerState) (port : Port) (state : PortState) → InCall
 its_service s port state k is = (subst (λ (f : ProbeResult). StillBacksProbeResult (wanted_of s.wanted port.0) f port.0 s.device) is (k.port_invariant port.0 (k.served_ports_exist port.0 (ap is_served is)).0).probe_result_is_backed).0
 
 -- the accesses of a look
-pub looking_part : PrerequisiteLaws → (port : Port) (access : Access) → IsEventAccess port access → IsPart port access
+pub looking_part : PrerequisiteLaws → (port : Port) (access : Access) → IsPxisSstsOrOwnIsAccess port access → IsPart port access
 looking_part laws port access is = (own access is, laws.look_laws.look_access_is_of_port port access is)
   where
-    own : (access : Access) → IsEventAccess port access → StaysInDriverFrames access
+    own : (access : Access) → IsPxisSstsOrOwnIsAccess port access → StaysInDriverFrames access
     own (Reading r v) is = tt
     own (Writing r v) is = tt
     own (Loading at bytes) is = absurd is
     own (Storing at bytes) is = absurd is
 
 module _ (laws : PrerequisiteLaws) (s : ServerState) (seen : Device) (port : Port) (state : PortState) (k : InCallInvariant s) (is : probe_result_of s.probe_results port.0 ≡ Unready state) (lives : state ≢ DeadState)
-    (looks : IsSimulated (IsEventAccess port) AnySlotStates s.device seen) where
+    (looks : IsSimulated (IsPxisSstsOrOwnIsAccess port) AnySlotStates s.device seen) where
   pub low : port.0 < 4
   low = (k.served_ports_exist port.0 (ap is_served is)).0
 
@@ -147,7 +147,7 @@ interrupted wanted port (next.Restart token) old new found is = inl (first_here 
 interrupted wanted port next.Dead old new found is = inr (stuck_all port found is.0)
 
 module _ (laws : PrerequisiteLaws) (s new : ServerState) (seen : Device) (port : Port) (state : PortState) (k : InCallInvariant s) (is : probe_result_of s.probe_results port.0 ≡ Unready state) (lives : state ≢ DeadState)
-    (looks : IsSimulated (IsEventAccess port) AnySlotStates s.device seen) (b : BootsUnreadyPort port (record s { device = seen }) new) where
+    (looks : IsSimulated (IsPxisSstsOrOwnIsAccess port) AnySlotStates s.device seen) (b : BootsUnreadyPort port (record s { device = seen }) new) where
   abbrev g : StopsOrSticksForReset port 0 true b.probes_anew.result seen b.probes_anew.stopped
   g = b.probes_anew.stops_for_reset
 
@@ -224,7 +224,7 @@ module _ (laws : PrerequisiteLaws) (s new : ServerState) (seen : Device) (port :
       (laws.steps_and_accesses.does_append part afterwards.driven.accesses seen b.probes_anew.stopped new.device does_part afterwards.driven.all_are_done)
 
   looking_only : All (IsPart port) looks.is_driven.accesses
-  looking_only = All-weaker (IsEventAccess port) (IsPart port) (looking_part laws port) looks.is_driven.accesses looks.is_driven.accesses_are_of_kind
+  looking_only = All-weaker (IsPxisSstsOrOwnIsAccess port) (IsPart port) (looking_part laws port) looks.is_driven.accesses looks.is_driven.accesses_are_of_kind
 
   part_only : All (IsPart port) part
   part_only = All-weaker (IsRecoveryAccess port) (IsPart port) (recovering_part laws port small) part g.handling.does.accesses_are_recovery

@@ -16,7 +16,7 @@ use Rattle.refinement.specs.Relation.{port_at}
 use Rattle.refinement.specs.Fragments.{AnySlotStates, IsDrivenBy, IsSimulated, SparesOtherPorts}
 use Rattle.refinement.specs.Driver.{TapeBacksSteps}
 use Rattle.refinement.specs.Slots.{Free, Serves}
-use Rattle.refinement.specs.SparedBook.{KeepsLoansAndBookOnlyAdvances}
+use Rattle.refinement.specs.SparedBook.{KeepsLoansAndPendingsOnlyAdvance}
 use Rattle.block_machine.specs.DueRequests.{NoneDue}
 use Rattle.block_machine.specs.Events.{AllByDevice, AllEnabled, ShownDiskWasInOrCame, ShowsDisk, changes_disk}
 use Rattle.block_machine.specs.Histories.{IsReachable}
@@ -30,11 +30,11 @@ use Rattle.error_recovery.specs.declared.Next.TheVariants as next
 use Rattle.host_boot.specs.TakeOver.{StillBacksProbeResult, probe_result_of, wanted_of}
 use Rattle.host_boot.specs.declared.ProbeResult.{ProbeResult}
 use Rattle.host_boot.specs.declared.ProbeResult.TheVariants.{Unready, Unserved}
-use Rattle.port_control.specs.PortEvents.{IsEventAccess}
-use Rattle.port_control.specs.ServiceAccesses.{IsServiceAccess}
+use Rattle.port_control.specs.PortEvents.{IsPxisSstsOrOwnIsAccess}
+use Rattle.port_control.specs.ServiceAccesses.{WritesOnlyHbaIsPxIsCiOrSact}
 use Rattle.request_queue.specs.BookEntries.{unanswered_of}
 use Rattle.server_history.specs.Prerequisites.{PrerequisiteLaws}
-use Rattle.server_history.specs.ServerState.{QuarantineRelation, InCallInvariant, MachineRelation, PortInvariant, SettledInvariant, ServerState, is_served, mode_at, mode_in, plain_mode, state_of, usable_slots_of, slot_state_of}
+use Rattle.server_history.specs.ServerState.{KeptRequestsRelation, InCallInvariant, MachineRelation, PortInvariant, SettledInvariant, ServerState, is_served, mode_at, mode_in, plain_mode, state_of, usable_slots_of, slot_state_of}
 use Rattle.server_history.specs.Probing.{BootsUnreadyPort, IsFoundAfterStop, FindsReasonToBoot, ProbesPort}
 use Rattle.server_history.specs.Turns.{IsPortTurn, InProbe, ProbesUnready, abstract_state_of}
 use Rattle.port_control.specs.declared.events.PortError.TheVariants.{TimedOut}
@@ -61,7 +61,7 @@ use Rattle.server_history.proofs.unready_turn.TriedPort.{AddsTried, TellsTried, 
 -- ---- it was booted
 
 module _ (laws : PrerequisiteLaws) (s new : ServerState) (seen : Device) (port : Port) (state : PortState) (t : SettledInvariant s) (is : probe_result_of s.probe_results port.0 ≡ Unready state) (lives : state ≢ DeadState)
-    (looks : IsSimulated (IsEventAccess port) AnySlotStates s.device seen) (b : BootsUnreadyPort port (record s { device = seen }) new) where
+    (looks : IsSimulated (IsPxisSstsOrOwnIsAccess port) AnySlotStates s.device seen) (b : BootsUnreadyPort port (record s { device = seen }) new) where
   abbrev k : InCallInvariant s
   k = t.in_call_invariant
 
@@ -96,7 +96,7 @@ module _ (laws : PrerequisiteLaws) (s new : ServerState) (seen : Device) (port :
     abbrev w : Machine
     w = after n p.passes.steps
 
-    spares : KeepsLoansAndBookOnlyAdvances n w
+    spares : KeepsLoansAndPendingsOnlyAdvance n w
     spares = laws.steps_and_accesses.device_steps_spare_book n p.passes.steps p.passes.only
 
     -- no slot of it served a request, and none was parked
@@ -115,7 +115,7 @@ module _ (laws : PrerequisiteLaws) (s new : ServerState) (seen : Device) (port :
         (λ (ne : q ≢ port.0). p.left.parked q ne ∙ at.only_dead_ports_park q (λ dead. other (get_or-set_other s.probe_results port.0 q b.found Unserved ne ∙ dead)))
         (cases_eq q port.0)
 
-    was_kept : QuarantineRelation s.probe_results s.kept_loans w.kept
+    was_kept : KeptRequestsRelation s.probe_results s.kept_loans w.kept
     was_kept = still_kept laws s.probe_results s.kept_loans n.kept w.kept spares.kept at.quarantine_relation
 
     -- a request that is kept is of another port
@@ -215,10 +215,10 @@ module _ (laws : PrerequisiteLaws) (s new : ServerState) (seen : Device) (port :
 -- ---- it was looked at, and that is all
 
 -- a look leaves the engine of each port
-leaving : (port q : Port) (access : Access) → IsEventAccess port access → WritesNeitherCmdNorSctl q access
+leaving : (port q : Port) (access : Access) → IsPxisSstsOrOwnIsAccess port access → WritesNeitherCmdNorSctl q access
 leaving port q access its = (looking_spares port q Cmd (λ e. let z : Is ≡ Cmd = e in cc) access its, looking_spares port q Sctl (λ e. let z : Is ≡ Sctl = e in cc) access its)
 
-module _ (laws : PrerequisiteLaws) (s : ServerState) (seen : Device) (port : Port) (state : PortState) (t : SettledInvariant s) (is : probe_result_of s.probe_results port.0 ≡ Unready state) (looks : IsSimulated (IsEventAccess port) AnySlotStates s.device seen) where
+module _ (laws : PrerequisiteLaws) (s : ServerState) (seen : Device) (port : Port) (state : PortState) (t : SettledInvariant s) (is : probe_result_of s.probe_results port.0 ≡ Unready state) (looks : IsSimulated (IsPxisSstsOrOwnIsAccess port) AnySlotStates s.device seen) where
   abbrev rest : ServerState
   rest = record s { device = seen }
 
@@ -233,15 +233,15 @@ module _ (laws : PrerequisiteLaws) (s : ServerState) (seen : Device) (port : Por
       λ dead. (refl, refl, refl, refl, refl, refl),
       λ alive. (record { served_is_unchanged = refl; dead_exactly_if_stuck = (λ dead. absurd (alive dead), λ here. absurd (nowhere port here)); disk_is_remembered_unless_ready = λ other. (refl, refl) }, inl (refl, refl, refl, refl, refl, refl)),
     );
-    engine = inl (All-weaker (IsEventAccess port) (WritesNeitherCmdNorSctl port) (leaving port port) looks.is_driven.accesses looks.is_driven.accesses_are_of_kind);
+    engine = inl (All-weaker (IsPxisSstsOrOwnIsAccess port) (WritesNeitherCmdNorSctl port) (leaving port port) looks.is_driven.accesses looks.is_driven.accesses_are_of_kind);
     stops = λ here. absurd (nowhere port here);
     sticks = λ here. absurd (nowhere port here);
   }
 
   -- ---- the server
 
-  serves : IsDrivenBy IsServiceAccess s.device seen
-  serves = driven_as (IsEventAccess port) IsServiceAccess s.device seen (laws.look_laws.look_access_is_service_access port) looks.is_driven
+  serves : IsDrivenBy WritesOnlyHbaIsPxIsCiOrSact s.device seen
+  serves = driven_as (IsPxisSstsOrOwnIsAccess port) WritesOnlyHbaIsPxIsCiOrSact s.device seen (laws.look_laws.look_access_is_service_access port) looks.is_driven
 
   module _ (lives : state ≢ DeadState) (result : Bool) (l : FindsReasonToBoot state port result s.device seen) (none : result ≡ false) where
     its_port : PortInvariant s.wanted s.probe_results port.0 seen
@@ -261,9 +261,9 @@ module _ (laws : PrerequisiteLaws) (s : ServerState) (seen : Device) (port : Por
     other_port : (q : ℕ) → q < 4 → q ≢ port.0 → PortInvariant s.wanted s.probe_results q seen
     other_port q small other =
         port_on laws s.wanted s.probe_results q s.device seen (laws.look_laws.service_keeps_adapter s.device seen serves) t.in_call_invariant.adapter_is_on serves
-        (λ _. laws.port_event_laws.other_ports_are_left port q s.device seen other t.in_call_invariant.adapter_is_on (driven_as (IsEventAccess port) (SparesOtherPorts port) s.device seen (laws.look_laws.look_access_is_of_port port) looks.is_driven))
+        (λ _. laws.port_event_laws.other_ports_are_left port q s.device seen other t.in_call_invariant.adapter_is_on (driven_as (IsPxisSstsOrOwnIsAccess port) (SparesOtherPorts port) s.device seen (laws.look_laws.look_access_is_of_port port) looks.is_driven))
         (looking_silent s seen port t.in_call_invariant laws looks q Identify refl)
-        (followed_halts laws (port_at q) (IsEventAccess port) s t.in_call_invariant seen looks (λ access its. (leaving port (port_at q) access its).0))
+        (followed_halts laws (port_at q) (IsPxisSstsOrOwnIsAccess port) s t.in_call_invariant seen looks (λ access its. (leaving port (port_at q) access its).0))
         (t.in_call_invariant.port_invariant q small)
 
     pub rests_kept : InCallInvariant rest
@@ -281,8 +281,8 @@ module _ (laws : PrerequisiteLaws) (s : ServerState) (seen : Device) (port : Por
       record {
         accesses = looks.is_driven.accesses;
         accesses_are_done = looks.is_driven.all_are_done;
-        accesses_are_of_port = All-weaker (IsEventAccess port) (SparesOtherPorts port) (laws.look_laws.look_access_is_of_port port) looks.is_driven.accesses looks.is_driven.accesses_are_of_kind;
-        accesses_are_drivers_own = All-weaker (IsEventAccess port) StaysInDriverFrames (λ access its. (looking_part laws port access its).0) looks.is_driven.accesses looks.is_driven.accesses_are_of_kind;
+        accesses_are_of_port = All-weaker (IsPxisSstsOrOwnIsAccess port) (SparesOtherPorts port) (laws.look_laws.look_access_is_of_port port) looks.is_driven.accesses looks.is_driven.accesses_are_of_kind;
+        accesses_are_drivers_own = All-weaker (IsPxisSstsOrOwnIsAccess port) StaysInDriverFrames (λ access its. (looking_part laws port access its).0) looks.is_driven.accesses looks.is_driven.accesses_are_of_kind;
         leaves_others = record { grants = refl; wanted = refl; last_id = refl; other_probe_results_are_same = λ q ne. refl; other_remembered_are_same = λ q ne. refl; other_modes_are_same = λ q ne. refl; other_slots_are_same = λ q ne. refl; others_requests_are_same = λ q ne. refl };
         others_get_no_log_unless_dead = λ q other alive. looking_silent s seen port t.in_call_invariant laws looks q ReadLog refl (λ dead. alive (ap state_of dead));
         simulates_turn = λ m reached stood.
@@ -303,7 +303,7 @@ dead_or_not (Unfit n) = inr (λ is. let z : Unfit n ≡ DeadState = is in cc)
 dead_or_not DeadState = inl refl
 
 -- A dead port isn't looked at. Another one is, and booted where what it was looked at for was found.
-pub turns : PrerequisiteLaws → (s new : ServerState) (port : Port) → SettledInvariant s → (probes : ProbesPort port s new) → (probes.state ≢ DeadState → IsSimulated (IsEventAccess port) AnySlotStates s.device probes.device_after_look)
+pub turns : PrerequisiteLaws → (s new : ServerState) (port : Port) → SettledInvariant s → (probes : ProbesPort port s new) → (probes.state ≢ DeadState → IsSimulated (IsPxisSstsOrOwnIsAccess port) AnySlotStates s.device probes.device_after_look)
     → IsPortTurn InProbe port [] s new × SettledInvariant new
 turns laws s new port t probes looks = ⊎_elim
     (λ (dead : probes.state ≡ DeadState).
@@ -315,8 +315,8 @@ turns laws s new port t probes looks = ⊎_elim
     (cases_Bool probes.has_found_something))
     (dead_or_not probes.state)
   where
-    whole_rest : probes.has_found_something ≡ false → IsSimulated (IsEventAccess port) AnySlotStates s.device probes.device_after_look → InCallInvariant (record s { device = probes.device_after_look }) → IsPortTurn InProbe port [] s new × SettledInvariant new
+    whole_rest : probes.has_found_something ≡ false → IsSimulated (IsPxisSstsOrOwnIsAccess port) AnySlotStates s.device probes.device_after_look → InCallInvariant (record s { device = probes.device_after_look }) → IsPortTurn InProbe port [] s new × SettledInvariant new
     whole_rest none its kept = subst (λ (n : ServerState). IsPortTurn InProbe port [] s n × SettledInvariant n) (sym (probes.is_left_if_not_found none)) (rests laws s probes.device_after_look port probes.state t probes.unready_state_is its probes.has_found_something probes.is_looked_at none kept)
 
-pub tried : PrerequisiteLaws → (s new : ServerState) (port : Port) → SettledInvariant s → (probes : ProbesPort port s new) → (probes.state ≢ DeadState → IsSimulated (IsEventAccess port) AnySlotStates s.device probes.device_after_look) → ProbesUnready port s new × SettledInvariant new
+pub tried : PrerequisiteLaws → (s new : ServerState) (port : Port) → SettledInvariant s → (probes : ProbesPort port s new) → (probes.state ≢ DeadState → IsSimulated (IsPxisSstsOrOwnIsAccess port) AnySlotStates s.device probes.device_after_look) → ProbesUnready port s new × SettledInvariant new
 tried laws s new port t probes looks = let x = turns laws s new port t probes looks in (record { does_turn = probes; is_port_turn = x.0 }, x.1)

@@ -11,7 +11,7 @@ use Rattle.hba_regs.specs.declared.reg.Reg.TheVariants.{Px}
 use Rattle.adapter.specs.Access.{Reads}
 use Rattle.adapter.specs.Access.Access.{Reading}
 use Rattle.adapter.specs.Device.{Device, Notes, DevicePort}
-use Rattle.adapter.specs.KeptBySteps.{KeepsControlsFlagsRise, PortBitsOnlyFall}
+use Rattle.adapter.specs.KeptBySteps.{KeepsControlsFlagsRise, PortBitsOnlyFallFreeSlotsStay}
 use Rattle.adapter.specs.Rules.{IsOn}
 use Rattle.adapter.specs.RegisterEffects.{PortRegisterRead}
 use Rattle.adapter.specs.declared.command.Operation.TheVariants.{Identify}
@@ -21,8 +21,8 @@ use Rattle.host_boot.specs.TakeOver.{StillBacksProbeResult}
 use Rattle.host_boot.specs.declared.ProbeResult.TheVariants.{Unready}
 use Rattle.identify.specs.Wanted.{serial_of}
 use Rattle.identify.specs.declared.wanted.Wanted.{Wanted}
-use Rattle.port_boot.specs.States.{BacksState, HasLastIdentifyPage, IsUnfit}
-use Rattle.port_control.specs.Ports.{IsStopped, SawDevice}
+use Rattle.port_boot.specs.States.{BacksState, HasLastIdentifyPage, BacksUnfitNumber}
+use Rattle.port_control.specs.Ports.{IsStopped, SawDeviceSinceSctlWrite}
 use Rattle.port_control.specs.DeviceChecks.{ChecksForChangeOrNoDevice}
 use Rattle.server_history.specs.Prerequisites.{PrerequisiteLaws}
 use Rattle.server_history.specs.Probing.{FindsReasonToBoot}
@@ -53,7 +53,7 @@ abbrev noted_before : Device → Device → Device
 noted_before old new = record new { port = λ q. record (new.port q) { notes = (old.port q).notes } }
 
 -- a port is left to the device, but for what was noted
-but_notes : (noted : Notes) (old new : DevicePort) → PortBitsOnlyFall old new → KeepsControlsFlagsRise old new → OnlyDeviceChangesPort (record old { notes = noted }) (record new { notes = noted })
+but_notes : (noted : Notes) (old new : DevicePort) → PortBitsOnlyFallFreeSlotsStay old new → KeepsControlsFlagsRise old new → OnlyDeviceChangesPort (record old { notes = noted }) (record new { notes = noted })
 but_notes noted old new k c = record {
   bits_only_fall = record { bases_are_kept = k.bases_are_kept; st_stays_clear = k.st_stays_clear; fre_stays_clear = k.fre_stays_clear; cr_stays_clear = k.cr_stays_clear; fr_stays_clear = k.fr_stays_clear; ci_stays_clear = k.ci_stays_clear; sact_stays_clear = k.sact_stays_clear; none_stays_taken_while_cr_is_clear = k.none_stays_taken_while_cr_is_clear; cr_fall_drops_taken_commands = k.cr_fall_drops_taken_commands; slots_stay_free = k.slots_stay_free };
   controls = record { st_is_kept = c.st_is_kept; fre_is_kept = c.fre_is_kept; sctl_det_is_kept = c.sctl_det_is_kept; ie_is_kept = c.ie_is_kept; causes_stay_set = c.causes_stay_set; ips_is_kept = c.ips_is_kept; serr_n_stays_set = c.serr_n_stays_set; serr_x_stays_set = c.serr_x_stays_set; engine_stays_running = c.engine_stays_running };
@@ -121,10 +121,10 @@ module _ (laws : PrerequisiteLaws) (wanted : Wanted) (port : Port) (first old ne
     bytes_are = h.bytes_are;
   }
 
-  saw : v % 16 ≡ 3 → SawDevice was → SawDevice now
+  saw : v % 16 ≡ 3 → SawDeviceSinceSctlWrite was → SawDeviceSinceSctlWrite now
   saw shows s = (ap (λ (n : ℕ). n % 16) shown ∙ shows, counted s.1)
 
-  unfit : v % 16 ≡ 3 → (n : ℕ) → IsUnfit n port.0 before → IsUnfit n port.0 new
+  unfit : v % 16 ≡ 3 → (n : ℕ) → BacksUnfitNumber n port.0 before → BacksUnfitNumber n port.0 new
   unfit shows n (inl (is, its)) = inl (is, (saw shows its.0, busy ∙ its.1))
   unfit shows n (inr (inl (is, (other, its)))) = inr (inl (is, (other, (saw shows its.0, ap idle file ∙ its.1, signature ∙ its.2, its.3))))
     where

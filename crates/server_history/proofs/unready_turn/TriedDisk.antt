@@ -20,7 +20,7 @@ use Rattle.block_machine.specs.Events.{ShowsDisk}
 use Rattle.driver_history.specs.Evidence.{TapeGainsEntry, ShowsLinkChange}
 use Rattle.driver_history.specs.Histories.{HasFirstFisOrNoDevice}
 use Rattle.driver_history.specs.AccessTrace.{ResetsLink}
-use Rattle.host_boot.specs.Reboots.{BootsStopped}
+use Rattle.host_boot.specs.Reboots.{EndsReadyOrUnready}
 use Rattle.port_boot.specs.Outcomes.{EndsUnready}
 use Rattle.host_boot.specs.declared.ProbeResult.{ProbeResult}
 use Rattle.host_boot.specs.declared.ProbeResult.TheVariants.{Ready, Unready, Unserved}
@@ -29,7 +29,7 @@ use Rattle.identify.specs.declared.DiskInfo.{DiskInfo}
 use Rattle.identify.specs.declared.wanted.Wanted.{Wanted}
 use Rattle.port_boot.specs.States.{BacksState, EndsBeforeStart, EndsAfterStart, IsStateOfFault}
 use Rattle.port_control.specs.Ports.{SerrShowsOnlyNewPlugs}
-use Rattle.port_control.specs.PortEvents.{IsEventAccess}
+use Rattle.port_control.specs.PortEvents.{IsPxisSstsOrOwnIsAccess}
 use Rattle.server_history.specs.Prerequisites.{PrerequisiteLaws}
 use Rattle.server_history.specs.ServerState.{state_of}
 use Rattle.server_history.proofs.any_turn.ToldTrouble.{is_plugging, one_or_none}
@@ -86,12 +86,12 @@ record KeepsChange (port : ℕ) (old new : Device) : Type 0 where
   came : (old.port port).serr_x ≡ true → (new.port port).serr_x ≡ true
 
 module _ (laws : PrerequisiteLaws) (port : Port) where
-  change_over : (accesses : List Access) (old new : Device) → IsOn old → All (IsEventAccess port) accesses → DoesAll accesses old new → KeepsChange port.0 old new
+  change_over : (accesses : List Access) (old new : Device) → IsOn old → All (IsPxisSstsOrOwnIsAccess port) accesses → DoesAll accesses old new → KeepsChange port.0 old new
   change_over [] old new on all is = subst (KeepsChange port.0 old) (sym is) (record { disk = λ clear. (clear, laws.port_event_laws.tape.no_plug_events_reflexive port.0 old); came = λ came. came })
   change_over (access ∷ accesses) old new on all (mid, does, rest) =
-      let its = All-head (IsEventAccess port) access accesses all in
+      let its = All-head (IsPxisSstsOrOwnIsAccess port) access accesses all in
       let spares = looking_spares port port Serr (λ e. let z : Is ≡ Serr = e in cc) access its in
-      let later = change_over accesses mid new (on_one laws port access old mid on (laws.one_port_spares_ghc port access (laws.look_laws.look_access_is_of_port port access its)) does) (All-tail (IsEventAccess port) access accesses all) rest in
+      let later = change_over accesses mid new (on_one laws port access old mid on (laws.one_port_spares_ghc port access (laws.look_laws.look_access_is_of_port port access its)) does) (All-tail (IsPxisSstsOrOwnIsAccess port) access accesses all) rest in
       record {
         disk = λ clear.
             let l = later.disk clear in
@@ -100,7 +100,7 @@ module _ (laws : PrerequisiteLaws) (port : Port) where
       }
 
   -- what the link told before, and what came, is shown still
-  pub change_shown : (accesses : List Access) (old new : Device) → IsOn old → All (IsEventAccess port) accesses → DoesAll accesses old new → ShowsLinkChange (old.port port.0) ⊎ TapeGainsEntry (IsPlugEvent port.0) old new → ShowsLinkChange (new.port port.0)
+  pub change_shown : (accesses : List Access) (old new : Device) → IsOn old → All (IsPxisSstsOrOwnIsAccess port) accesses → DoesAll accesses old new → ShowsLinkChange (old.port port.0) ⊎ TapeGainsEntry (IsPlugEvent port.0) old new → ShowsLinkChange (new.port port.0)
   change_shown accesses old new on all does port_error = ⊎_elim
       (λ (is : (new.port port.0).serr_n ≡ true). inl is)
       (λ (clear : (new.port port.0).serr_n ≡ false).
@@ -127,7 +127,7 @@ shows_or_not (Unready Dead) = inr (inr refl)
 
 module _ (wanted : Wanted) (port : Port) (old new : Device) where
   -- where the port is ready then, it found a disk that fits
-  pub boot_ready : (found : ProbeResult) → BootsStopped wanted port found old new → state_of found ≡ ReadyState → (info : DiskInfo) × (found ≡ Ready info)
+  pub boot_ready : (found : ProbeResult) → EndsReadyOrUnready wanted port found old new → state_of found ≡ ReadyState → (info : DiskInfo) × (found ≡ Ready info)
   boot_ready Unserved none is = absurd none
   boot_ready (Ready info) e is = (info, refl)
   boot_ready (Unready state) e is = absurd (subst (λ (its : Shown). BacksState (serial_of wanted) its port.0 new) is e.state_is_backed)
@@ -138,7 +138,7 @@ module _ (wanted : Wanted) (port : Port) (old new : Device) where
     pub undue : NoDiskComes port.0 old new → (new.port port.0).link_due ≡ false
 
   early_clear : (state : Shown) → state ≢ Absent → EndsBeforeStart port state old new → LeavesClear
-  early_clear state other e = let f = e.device_is_found (λ none. other (subst (IsStateOfFault state) none e.state_is)) in record { clear = f.serr_shows_only_new_plugs; undue = f.no_link_is_due }
+  early_clear state other e = let f = e.is_clear_and_up_unless_plug_events (λ none. other (subst (IsStateOfFault state) none e.state_is)) in record { clear = f.serr_shows_only_new_plugs; undue = f.no_link_is_due }
 
   late_clear : EndsAfterStart port old new → LeavesClear
   late_clear e = record { clear = e.serr_shows_only_new_plugs; undue = λ none. e.no_link_is_due }
@@ -159,7 +159,7 @@ module _ (wanted : Wanted) (port : Port) (old new : Device) where
       no : Unfit n ≢ Absent
       no is = let z : Unfit n ≡ Absent = is in cc
 
-  pub boot_clear : (found : ProbeResult) → BootsStopped wanted port found old new → ShowsDisk (state_of found) → LeavesClear
+  pub boot_clear : (found : ProbeResult) → EndsReadyOrUnready wanted port found old new → ShowsDisk (state_of found) → LeavesClear
   boot_clear Unserved none shows = absurd none
   boot_clear (Ready info) e shows = record { clear = e.shows_only_new_errors.serr_shows_only_new_plugs; undue = λ none. (e.shows_only_new_errors.faults_are_on_record e.ready.runs.st_is_set).no_link_is_due }
   boot_clear (Unready state) e shows = unready_clear state e shows

@@ -12,7 +12,7 @@ use Rattle.adapter.specs.Access.{Access}
 use Rattle.adapter.specs.declared.access.DeviceStep.{DeviceStep}
 use Rattle.refinement.specs.Driver.{TapeBacksSteps}
 use Rattle.refinement.specs.Errors.{NoDiskComes}
-use Rattle.block_machine.specs.Events.{AllByDevice, AllEnabled, ShownDiskWasInOrCame, Replied, Service, RepliesMatch, UnpluggedEmptiesPort}
+use Rattle.block_machine.specs.Events.{AllByDevice, AllEnabled, ShownDiskWasInOrCame, Replied, Service, RepliesMatch, UnpluggedOutcomeEmptiesPort}
 use Rattle.block_machine.specs.Expected.{after}
 use Rattle.block_machine.specs.Ports.{Evidence, IsStoppedOrStuck, IsServiced, SamePort}
 use Rattle.block_machine.specs.State.{Machine}
@@ -22,14 +22,14 @@ use Rattle.driver_history.specs.Evidence.{IsEvidencedOf}
 use Rattle.driver_history.specs.Histories.{LosesNoPortError, RunsWellAnew, ProbesDisk}
 use Rattle.driver_history.specs.PortInvariants.{HasNoUnanswered}
 use Rattle.driver_history.specs.AccessTrace.{WritesNeitherCmdNorSctl, ResetsLink}
-use Rattle.driver_history.specs.PortTurn.{ChangedUnreadyPortEndsNoLinkDue}
+use Rattle.driver_history.specs.PortTurn.{ForeignOrUnfitShowingXEndsNoLinkDue}
 use Rattle.host_boot.specs.TakeOver.{probe_result_of}
 use Rattle.port_control.specs.Engines.{EngineSticks, Stops}
 use Rattle.request_queue.specs.BookEntries.{BookEntry}
 use Rattle.request_queue.specs.BookRelation.{EntryRelation}
 use Rattle.server_history.specs.Prerequisites.{PrerequisiteLaws}
 use Rattle.server_history.specs.ServerState.{InCallInvariant, MachineRelation, SettledInvariant, ServerState, mode_in, ports_of, state_of}
-use Rattle.server_history.specs.Turns.{ServingReady, InProbe, IsTurnOrDeviceStep, SimulatesTurn, PortListsNameOnly, MeetsTurnDuty, TurnCorresponds, joint_state_of, abstract_state_of}
+use Rattle.server_history.specs.Turns.{ServingReady, InProbe, IsTurnOrDeviceStep, SimulatesTurn, PortListsNameOnly, RequeuesOnFailedPortsOrRestartsOrRestsByTurn, TurnCorresponds, joint_state_of, abstract_state_of}
 use Rattle.server_history.proofs.state.AnswerSteps.{no_answer}
 use Rattle.server_history.proofs.state.DueRequests.{none_issued}
 use Rattle.server_history.proofs.state.DeviceSteps.{devices_belong, devices_last, devices_lawful}
@@ -65,7 +65,7 @@ pub record AddsTried (port : Port) (old new : ServerState) (m : Machine) : Type 
 -- absent; and no trouble of it is lost.
 pub record DoesTried (port : Port) (evidence : Evidence) (accesses : List Access) (old new : ServerState) : Type 0 where
   pub probes : (m : Machine) → NoDiskComes port.0 old.device new.device → ProbesDisk accesses (joint_state_of old m) (ports_of new) new.device port
-  pub linked : (m : Machine) → ChangedUnreadyPortEndsNoLinkDue port (joint_state_of old m) (ports_of new) new.device
+  pub linked : (m : Machine) → ForeignOrUnfitShowingXEndsNoLinkDue port (joint_state_of old m) (ports_of new) new.device
   pub boots : SamePort (ports_of old) (ports_of new) port ⊎ (((ports_of new).state port ≡ Dead) ⊎ (((ports_of new).state port ≡ Absent) ⊎ ResetsLink port accesses))
   pub port_error : (m : Machine) → LosesNoPortError evidence (joint_state_of old m) (ports_of new) new.device port
   pub well : (m : Machine) → RunsWellAnew evidence accesses (joint_state_of old m) (ports_of new) new.device port
@@ -101,7 +101,7 @@ module _ (laws : PrerequisiteLaws) (port : Port) (old : ServerState) (k : InCall
 
     evidenced : (m : Machine) → IsEvidencedOf Service (Replied []) accesses (joint_state_of old m) (ports_of new) new.device its port
     evidenced m = record {
-      named_lost_may_have_lost_disk = λ here. absurd (nowhere port here);
+      named_lost_showed_loss_or_changed = λ here. absurd (nowhere port here);
       shown_loss_of_ready_is_named = λ ready. absurd (unready ready);
       named_link_changed_had_change_or_no_device = λ here. absurd (nowhere port here);
       shown_failure_of_ready_is_named = λ ready. absurd (unready ready);
@@ -122,10 +122,10 @@ module _ (laws : PrerequisiteLaws) (port : Port) (old : ServerState) (k : InCall
         replies_are_of_answers = refl;
       }
 
-      unplugs : UnpluggedEmptiesPort x.steps (after m x.steps)
+      unplugs : UnpluggedOutcomeEmptiesPort x.steps (after m x.steps)
       unplugs = record { none_is_left = λ e other here. absurd (no_answer x.steps x.only e Unplugged here); none_is_told_dead = λ e other here. absurd (no_answer x.steps x.only e Unplugged here) }
 
-      owes : MeetsTurnDuty InProbe port accesses old new m its x.steps
+      owes : RequeuesOnFailedPortsOrRestartsOrRestsByTurn InProbe port accesses old new m its x.steps
       owes = (devices_all (OnlyFailedPortsRequeueAbortRevokeOrFault its) (device_grounded its) tt x.steps x.only, refl, refl)
 
       ties : TurnCorresponds InProbe port [] accesses old new m its x.steps
@@ -154,9 +154,9 @@ module _ (laws : PrerequisiteLaws) (port : Port) (old : ServerState) (k : InCall
         issues_are_last = devices_last x.steps x.only;
         names_only_port = names;
         answers_are_lawful = devices_lawful (abstract_state_of old m) its (ports_of new) x.steps x.only;
-        meets_turn_duty = owes;
+        requeues_on_failed_port_or_restarts_by_turn = owes;
         replies_match = tells;
-        unplugged_empties_port = unplugs;
+        unplugged_outcome_empties_port = unplugs;
         port_is_serviced = t.becomes;
         shown_disk_was_in_or_came = x.disk;
         same_disk_or_none_unanswered = inr (none_waits m is x.steps x.only);

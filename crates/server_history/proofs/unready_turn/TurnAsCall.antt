@@ -22,7 +22,7 @@ use Rattle.block_machine.specs.Ports.{Evidence, IsStoppedOrStuck}
 use Rattle.block_machine.specs.State.{Machine}
 use Rattle.driver_history.specs.Histories.{IsForeignOrUnfit, HasFirstFisOrNoDevice, ProbesDisk}
 use Rattle.driver_history.specs.AccessTrace.{ResetsLink}
-use Rattle.driver_history.specs.PortTurn.{ChangedUnreadyPortEndsNoLinkDue}
+use Rattle.driver_history.specs.PortTurn.{ForeignOrUnfitShowingXEndsNoLinkDue}
 use Rattle.error_recovery.specs.Evidence.{GainsSinceStart, HidesNoTrouble}
 use Rattle.error_recovery.specs.declared.Next.{Next}
 use Rattle.error_recovery.specs.declared.Next.TheVariants as next
@@ -34,7 +34,7 @@ use Rattle.host_boot.specs.declared.ProbeResult.TheVariants.{Ready, Unready}
 use Rattle.identify.specs.declared.DiskInfo.{DiskInfo}
 use Rattle.port_control.specs.declared.Stopped.{Stopped}
 use Rattle.port_control.specs.DeviceChecks.{ChecksForChangeOrNoDevice, ChecksForDevice}
-use Rattle.port_control.specs.PortEvents.{IsEventAccess}
+use Rattle.port_control.specs.PortEvents.{IsPxisSstsOrOwnIsAccess}
 use Rattle.server_history.specs.Prerequisites.{PrerequisiteLaws}
 use Rattle.server_history.specs.ServerState.{InCallInvariant, ServerState, is_served, ports_of, state_of}
 use Rattle.server_history.specs.Probing.{BootsUnreadyPort, IsFoundAfterStop, FindsReasonToBoot}
@@ -107,7 +107,7 @@ module _ (s : ServerState) (port : Port) (state : PortState) (k : InCallInvarian
     }
 
     -- but for that, the port is what it was
-    pub rests_does : (made : List Access) → All (IsEventAccess port) made → DoesAll made s.device seen → DoesTried port (evidence_tried [] []) made s (record s { device = seen })
+    pub rests_does : (made : List Access) → All (IsPxisSstsOrOwnIsAccess port) made → DoesAll made s.device seen → DoesTried port (evidence_tried [] []) made s (record s { device = seen })
     rests_does made only did = record {
       probes = λ m comes. rests_tries comes made m;
       linked = λ m bad came comes. absurd (still_same bad came);
@@ -128,7 +128,7 @@ module _ (s : ServerState) (port : Port) (state : PortState) (k : InCallInvarian
 -- ---- it was booted
 
 module _ (laws : PrerequisiteLaws) (s new : ServerState) (seen : Device) (port : Port) (state : PortState) (k : InCallInvariant s) (is : probe_result_of s.probe_results port.0 ≡ Unready state) (lives : state ≢ DeadState)
-    (looks : IsSimulated (IsEventAccess port) AnySlotStates s.device seen) (b : BootsUnreadyPort port (record s { device = seen }) new) where
+    (looks : IsSimulated (IsPxisSstsOrOwnIsAccess port) AnySlotStates s.device seen) (b : BootsUnreadyPort port (record s { device = seen }) new) where
   abbrev then : ServerState
   then = then_is laws s new seen port state k is lives looks b
 
@@ -204,7 +204,7 @@ module _ (laws : PrerequisiteLaws) (s new : ServerState) (seen : Device) (port :
   since : (f : FindsSome) → ShowsDisk (state_of f.booted.found) → NoDiskComes port.0 s.device new.device → NoDiskComes port.0 f.boots.device_after_survey new.device
   since f shows comes = let x = sees f shows in (none_parts laws port s.device f.boots.device_after_survey new.device x.before x.since comes).1
 
-  boot_linked : (m : Machine) → ChangedUnreadyPortEndsNoLinkDue port (joint_state_of s m) (ports_of then) new.device
+  boot_linked : (m : Machine) → ForeignOrUnfitShowingXEndsNoLinkDue port (joint_state_of s m) (ports_of then) new.device
   boot_linked m bad came comes = ⊎_elim
       (λ dead. inr (inl dead))
       (λ f. ⊎_elim (λ shows. inr (inr ((clear f shows).undue (since f shows comes)))) (λ absent. inl absent) f.shows)

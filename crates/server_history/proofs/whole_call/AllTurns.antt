@@ -107,7 +107,7 @@ module _ (plan : Plan) (laws : PrerequisiteLaws) (s : ServerState) (start : Sett
     takes_at q is = subst (λ (k : ℕ). TakesTurn plan (probe_result_of s.probe_results k)) (sym is) takes
 
     silent_or_ready : (state_at n ≡ ReadyState) ⊎ ((x.evidence.faults ≡ []) × (x.evidence.lost ≡ []))
-    silent_or_ready = ready_or_silent plan (probe_result_of s.probe_results n) n (port_at n) part.accesses c mid m x.evidence x.steps takes x.meets_turn_duty
+    silent_or_ready = ready_or_silent plan (probe_result_of s.probe_results n) n (port_at n) part.accesses c mid m x.evidence x.steps takes x.requeues_on_failed_port_or_restarts_by_turn
 
     its_driven : IsDrivenBy (SparesOtherPorts (port_at n)) c.device mid.device
     its_driven = record { accesses = part.accesses; all_are_done = part.accesses_are_done; accesses_are_of_kind = part.accesses_are_of_port }
@@ -501,8 +501,8 @@ module _ (plan : Plan) (laws : PrerequisiteLaws) (s : ServerState) (start : Sett
           (names_more (HadTurn n) (HadTurn (n + 1)) (λ q served. let lt = served.0 in (omega (arith, lt), served.1)) p.evidence p.names)
           (names_more (λ q. q ≡ port_at n) (HadTurn (n + 1)) (λ q is. subst (HadTurn (n + 1)) (sym is) (omega arith, takes)) x.evidence mine);
       lawful = joined_lawful;
-      owes = owes_join plan (probe_result_of s.probe_results n) n (port_at n) part.accesses c mid m p.evidence x.evidence p.steps x.steps p.owes x.meets_turn_duty;
-      unplugs = unplugs_join laws old reached n p.steps x.steps p.turns x.steps_are_of_turn x.steps_are_enabled x.issues_are_last p.unplugs x.unplugged_empties_port;
+      owes = owes_join plan (probe_result_of s.probe_results n) n (port_at n) part.accesses c mid m p.evidence x.evidence p.steps x.steps p.owes x.requeues_on_failed_port_or_restarts_by_turn;
+      unplugs = unplugs_join laws old reached n p.steps x.steps p.turns x.steps_are_of_turn x.steps_are_enabled x.issues_are_last p.unplugs x.unplugged_outcome_empties_port;
       answers = told_all.answers;
       permuted = told_all.permuted;
       book_is_in_order = told_all.ordered;

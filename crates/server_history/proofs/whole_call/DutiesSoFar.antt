@@ -29,7 +29,7 @@ use Rattle.host_boot.specs.TakeOver.{probe_result_of}
 use Rattle.host_boot.specs.declared.ProbeResult.{ProbeResult}
 use Rattle.server_history.specs.Prerequisites.{PrerequisiteLaws}
 use Rattle.server_history.specs.ServerState.{ServerState, MachineRelation, SettledInvariant, is_served, ports_of, state_of}
-use Rattle.server_history.specs.Turns.{RestingInTick, IsPortTurn, InRestart, SimulatesTurn, MeetsTurnDuty, RestartsPort, TurnCorresponds}
+use Rattle.server_history.specs.Turns.{RestingInTick, IsPortTurn, InRestart, SimulatesTurn, RequeuesOnFailedPortsOrRestartsOrRestsByTurn, RestartsPort, TurnCorresponds}
 use Rattle.server_history.proofs.whole_call.EarlierResults as carrying
 use Rattle.server_history.proofs.any_turn.JoinedParts.{ready_or_not, same_then}
 use Rattle.server_history.proofs.whole_call.TurnResults as lifting
@@ -97,7 +97,7 @@ module _ (laws : PrerequisiteLaws) (n : ℕ) where
   serving (ATick hung) found ports served state takes its c mid m part x = ⊎_elim
       (λ (so : hung n ≡ true). of_such (Uses (ATick hung) ports) (state ∙ takes, so) part.accesses part.accesses_are_of_port part.accesses_are_drivers_own)
       (λ (not_so : hung n ≡ false).
-      let rests = subst (λ (b : Bool). MeetsTurnDuty (if b then InRestart else RestingInTick) (port_at n) part.accesses c mid m x.evidence x.steps) not_so x.meets_turn_duty in
+      let rests = subst (λ (b : Bool). RequeuesOnFailedPortsOrRestartsOrRestsByTurn (if b then InRestart else RestingInTick) (port_at n) part.accesses c mid m x.evidence x.steps) not_so x.requeues_on_failed_port_or_restarts_by_turn in
       subst (All (UsesPortsAndNotGhc (Uses (ATick hung) ports))) (sym rests.0) (All-nil (UsesPortsAndNotGhc (Uses (ATick hung) ports))))
       (cases_Bool (hung n))
 
@@ -138,11 +138,11 @@ module _ (hung : ℕ → Bool) (laws : PrerequisiteLaws) (s : ServerState) (star
     module _ (alike : EvidenceAgreesOn (port_at n) x.evidence evidence) (same_n : SamePort old.ports (ports_of c) (port_at n)) where
       restarted : hung n ≡ true → IsRestarted began (port_at n) accesses mid evidence all
       restarted so = record {
-        finds = lifting.finding plan laws s start old reached at ports_are n c mid before its p next part m_reached on_mid ready r.finds_done r.answers_ended;
+        finds = lifting.finding plan laws s start old reached at ports_are n c mid before its p next part m_reached on_mid ready r.finds_done r.answers_ok_what_had_ended;
         boots = ⊎_elim (λ dead. inl dead) (λ resets. inr (resets_since (port_at n) p.accesses part.accesses resets)) r.is_dead_or_link_is_reset;
-        ended = lifting.ended_whole plan laws s start old reached at ports_are n c mid before its p next part m_reached on_mid ready r.answers_ended;
-        interrupts = lifting.named plan laws s start old reached at ports_are n c mid before its p next part m_reached on_mid evidence alike r.is_interrupted;
-        anew = lifting.anew_whole plan laws s start old reached at ports_are n c mid before its p next part m_reached on_mid r.none_stays_issued;
+        ended = lifting.ended_whole plan laws s start old reached at ports_are n c mid before its p next part m_reached on_mid ready r.answers_ok_what_had_ended;
+        interrupts = lifting.named plan laws s start old reached at ports_are n c mid before its p next part m_reached on_mid evidence alike r.is_stopped_or_stuck;
+        anew = lifting.anew_whole plan laws s start old reached at ports_are n c mid before its p next part m_reached on_mid r.issued_are_issued_in_steps;
         another = λ e here own. ⊎_elim
             (λ late.
             let w = r.unplugged_lost_its_disk e late in
@@ -154,11 +154,11 @@ module _ (hung : ℕ → Bool) (laws : PrerequisiteLaws) (s : ServerState) (star
             (λ early. absurd (not_early e Unplugged early own))
             (Contains-append_cases x.steps p.steps (Answer e Unplugged) here);
         disk = lifting.disk_whole plan laws s start old reached at ports_are n c mid before its p next part m_reached on_mid r.shown_disk_was_in_or_came;
-        heeds = lifting.trouble_whole plan laws s start old reached at ports_are n c mid before its p next part m_reached on_mid evidence alike same_n (λ _ _. r.is_interrupted) (λ _. inl (lifting.undue plan laws s start old reached at ports_are n c mid before its p next part m_reached on_mid ready)) ties;
+        heeds = lifting.trouble_whole plan laws s start old reached at ports_are n c mid before its p next part m_reached on_mid evidence alike same_n (λ _ _. r.is_stopped_or_stuck) (λ _. inl (lifting.undue plan laws s start old reached at ports_are n c mid before its p next part m_reached on_mid ready)) ties;
       }
         where
           r : RestartsPort (port_at n) part.accesses c mid m x.evidence x.steps
-          r = (subst (λ (b : Bool). MeetsTurnDuty (if b then InRestart else RestingInTick) (port_at n) part.accesses c mid m x.evidence x.steps) so x.meets_turn_duty).0
+          r = (subst (λ (b : Bool). RequeuesOnFailedPortsOrRestartsOrRestsByTurn (if b then InRestart else RestingInTick) (port_at n) part.accesses c mid m x.evidence x.steps) so x.requeues_on_failed_port_or_restarts_by_turn).0
 
           ties : TurnCorresponds InRestart (port_at n) its part.accesses c mid m x.evidence x.steps
           ties = subst (λ (b : Bool). TurnCorresponds (if b then InRestart else RestingInTick) (port_at n) its part.accesses c mid m x.evidence x.steps) so x.turn_corresponds
@@ -176,8 +176,8 @@ module _ (hung : ℕ → Bool) (laws : PrerequisiteLaws) (s : ServerState) (star
         answer = λ e o here. not_early e o (subst (λ (list : List Step). Contains (list ++ p.steps) (Answer e o)) rests.1 here);
       }
         where
-          rests : MeetsTurnDuty RestingInTick (port_at n) part.accesses c mid m x.evidence x.steps
-          rests = subst (λ (b : Bool). MeetsTurnDuty (if b then InRestart else RestingInTick) (port_at n) part.accesses c mid m x.evidence x.steps) not_so x.meets_turn_duty
+          rests : RequeuesOnFailedPortsOrRestartsOrRestsByTurn RestingInTick (port_at n) part.accesses c mid m x.evidence x.steps
+          rests = subst (λ (b : Bool). RequeuesOnFailedPortsOrRestartsOrRestsByTurn (if b then InRestart else RestingInTick) (port_at n) part.accesses c mid m x.evidence x.steps) not_so x.requeues_on_failed_port_or_restarts_by_turn
 
       pub ticked : HasTicked hung s old (port_at n) accesses mid evidence all
       ticked = record {

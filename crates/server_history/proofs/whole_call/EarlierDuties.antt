@@ -95,12 +95,12 @@ module _ (laws : PrerequisiteLaws) (s : ServerState) (start : SettledInvariant s
 
       heeds_whole : ServicesReadyPort old evidence all (record { machine = after old.machine all; ports = ports_of mid }) q
       heeds_whole = record {
-        answers_ended = carrying.ended_still AService laws s start old reached at ports_are n c mid before its p part m_reached q apart serves.answers_ended;
+        answers_ok_what_had_ended = carrying.ended_still AService laws s start old reached at ports_are n c mid before its p part m_reached q apart serves.answers_ok_what_had_ended;
         link_change_leaves_none = λ gone e here own.
             let b = stood laws (port_at n) m x.steps x.steps_are_of_turn e (carrying.in_turn AService laws s start old reached at ports_are n c mid before its p part m_reached q apart e here) in
             serves.link_change_leaves_none (alike.link_changed.1 gone) b.was b.here (ap (λ r. r.port) b.request ∙ own);
         link_change_tells_alike = λ gone. ⊎_elim (λ a. inl (told_whole _ a)) (λ b. inr (told_whole _ b)) (serves.link_change_tells_alike (alike.link_changed.1 gone));
-        trouble_interrupts = λ port_error. carrying.named AService laws s start old reached at ports_are n c mid before its p part m_reached q apart evidence alike (serves.trouble_interrupts (⊎_elim (λ failed. inl (alike.showing_error.1 failed)) (λ gone. inr (alike.link_changed.1 gone)) port_error));
+        trouble_stops_or_sticks = λ port_error. carrying.named AService laws s start old reached at ports_are n c mid before its p part m_reached q apart evidence alike (serves.trouble_stops_or_sticks (⊎_elim (λ failed. inl (alike.showing_error.1 failed)) (λ gone. inr (alike.link_changed.1 gone)) port_error));
         error_or_stop_leaves_no_old_issue = λ port_error. carrying.anew_still AService laws s start old reached at ports_are n c mid before its p part m_reached q apart (serves.error_or_stop_leaves_no_old_issue (⊎_elim (λ failed. inl (alike.showing_error.1 failed)) (λ stopped. inr (alike.stopped.1 stopped)) port_error));
         one_fault_at_most = let one = serves.one_fault_at_most in omega (arith, counted, one);
         fatal_tells_no_fault = λ here. let y = serves.fatal_tells_no_fault (alike.showing_fatal_error.1 here) in (alike.showing_error.0 y.0, counted ∙ y.1);
@@ -110,7 +110,7 @@ module _ (laws : PrerequisiteLaws) (s : ServerState) (start : SettledInvariant s
             (λ (a : IsLeftAlone old.ports p.evidence p.steps (ports_of c) q). inr (record {
               port_is_same = same_then old.ports (ports_of c) (ports_of mid) q a.port_is_same same;
               only_ok_is_told = told_whole _ a.only_ok_is_told;
-              is_not_interrupted = λ i. a.is_not_interrupted (carrying.unnamed AService laws s start old reached at ports_are n c mid before its p part m_reached q apart evidence alike i);
+              is_neither_stopped_nor_stuck = λ i. a.is_neither_stopped_nor_stuck (carrying.unnamed AService laws s start old reached at ports_are n c mid before its p part m_reached q apart evidence alike i);
             }))
             serves.is_left_alone_if_calm;
       }
@@ -122,7 +122,7 @@ module _ (laws : PrerequisiteLaws) (s : ServerState) (start : SettledInvariant s
 
       -- and where it showed a failure when the call began, or a change of its link, it was stopped
       stops_troubled : ShowsFailure (s.device.port q.0) ⊎ ShowsLinkChange (s.device.port q.0) → IsStoppedOrStuck p.evidence q
-      stops_troubled port_error = serves.trouble_interrupts (⊎_elim (λ failure. inl (d.evidenced.shown_failure_of_ready_is_named asked failure)) (λ change. inr (d.evidenced.shown_loss_of_ready_is_named asked (inl change))) port_error)
+      stops_troubled port_error = serves.trouble_stops_or_sticks (⊎_elim (λ failure. inl (d.evidenced.shown_failure_of_ready_is_named asked failure)) (λ change. inr (d.evidenced.shown_loss_of_ready_is_named asked (inl change))) port_error)
 
       -- ---- the whole
 

@@ -17,7 +17,7 @@ use Rattle.adapter.specs.Device.{Device}
 use Rattle.refinement.specs.Relation.{port_at}
 use Rattle.refinement.specs.Fragments.{SparesOtherPorts}
 use Rattle.refinement.specs.PreservedParts.{DoesNotWrite}
-use Rattle.block_machine.specs.Events.{AnswersEnded, ShownDiskWasInOrCame, AbstractState, NoneStaysIssued, ShowsDisk, changes_disk, issues_id}
+use Rattle.block_machine.specs.Events.{AnswersOkWhatHadEnded, ShownDiskWasInOrCame, AbstractState, IssuedOnPortAreIssuedInSteps, ShowsDisk, changes_disk, issues_id}
 use Rattle.block_machine.specs.Histories.{JointState, IsReachable}
 use Rattle.block_machine.specs.Expected.{after}
 use Rattle.block_machine.specs.Ports.{Evidence, IsStoppedOrStuck, Ports, SamePort}
@@ -125,13 +125,13 @@ module _ (plan : Plan) (laws : PrerequisiteLaws) (s : ServerState) (start : Sett
       }
 
       -- what was answered is; and who kept no issue keeps none
-      pub ended_still : AnswersEnded old.machine p.steps q → AnswersEnded old.machine all q
+      pub ended_still : AnswersOkWhatHadEnded old.machine p.steps q → AnswersOkWhatHadEnded old.machine all q
       ended_still answers e there own ended = let y = answers e there own ended in (y.0, y.1, Contains-append_right x.steps p.steps (Answer y.0 Ok) y.2)
 
       pub in_turn : (e : Pending) → Contains (after old.machine all).book e → Contains (after m x.steps).book e
       in_turn e here = subst (λ (k : Machine). Contains k.book e) whole_is here
 
-      pub anew_still : NoneStaysIssued p.steps m q → NoneStaysIssued all (after old.machine all) q
+      pub anew_still : IssuedOnPortAreIssuedInSteps p.steps m q → IssuedOnPortAreIssuedInSteps all (after old.machine all) q
       anew_still none e here own issued =
           let b = others_were laws (port_at n) m m_reached x.steps x.steps_are_of_turn x.steps_are_enabled e (in_turn e here) (λ is. apart (sym own ∙ is)) in
           issued_early e.request.id x.steps p.steps

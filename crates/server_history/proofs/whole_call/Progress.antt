@@ -17,7 +17,7 @@ use Rattle.adapter.specs.Commands.{is_queued}
 use Rattle.adapter.specs.Device.{Device}
 use Rattle.adapter.specs.Rules.{IsOn}
 use Rattle.refinement.specs.Driver.{TapeBacksSteps}
-use Rattle.block_machine.specs.Events.{AnswersAndWaitsLawful, AnswersEnded, AreStepsOfCall, ShownDiskWasInOrCame, IsToldBefore, AbstractState, NoneStaysIssued, Replied, UnpluggedEmptiesPort, answers_of, reply_of}
+use Rattle.block_machine.specs.Events.{AnswersAndWaitsLawful, AnswersOkWhatHadEnded, AreStepsOfCall, ShownDiskWasInOrCame, IsLowerByPortThenId, AbstractState, IssuedOnPortAreIssuedInSteps, Replied, UnpluggedOutcomeEmptiesPort, answers_of, reply_of}
 use Rattle.block_machine.specs.Histories.{JointState, IsReachable}
 use Rattle.block_machine.specs.Expected.{after}
 use Rattle.block_machine.specs.Ports.{Evidence, RequestFault, IsStoppedOrStuck, IsServiced, Ports, SameSerialAndSize, SamePort}
@@ -27,7 +27,7 @@ use Rattle.host_boot.specs.TakeOver.{probe_result_of}
 use Rattle.driver_history.specs.Evidence.{IsEvidencedOf, IsFaultTold}
 use Rattle.driver_history.specs.Histories.{FindsDone, IsForeignOrUnfit, IssuesDue, PortCorresponds}
 use Rattle.driver_history.specs.PortInvariants.{HasNoUnanswered}
-use Rattle.driver_history.specs.PortTurn.{ChangedUnreadyPortEndsNoLinkDue, IsOfOtherPort}
+use Rattle.driver_history.specs.PortTurn.{ForeignOrUnfitShowingXEndsNoLinkDue, IsOfOtherPort}
 use Rattle.driver_history.specs.AccessTrace.{UsesPortsAndNotGhc, WritesNeitherCmdNorSctl, ResetsLink}
 use Rattle.server_history.specs.Prerequisites.{PrerequisiteLaws}
 use Rattle.server_history.specs.Turns.{HandlesShownErrors, ServingReady, IsByDeviceOrOnSuchPort, abstract_state_of, joint_event_of_turn}
@@ -46,9 +46,9 @@ use Rattle.server_history.proofs.unready_turn.UnfitPort.{bad_tends}
 pub record IsRestarted (old : JointState Device) (port : Port) (accesses : List Access) (c : ServerState) (evidence : Evidence) (steps : List Step) : Type 0 where
   pub finds : FindsDone port accesses old steps
   pub boots : (state_of (probe_result_of c.probe_results port.0) ≡ Dead) ⊎ ResetsLink port accesses
-  pub ended : AnswersEnded old.abstract.machine steps port
+  pub ended : AnswersOkWhatHadEnded old.abstract.machine steps port
   pub interrupts : IsStoppedOrStuck evidence port
-  pub anew : NoneStaysIssued steps (after old.abstract.machine steps) port
+  pub anew : IssuedOnPortAreIssuedInSteps steps (after old.abstract.machine steps) port
   pub another : (e : Pending) → Contains steps (Answer e Unplugged) → e.request.port ≡ port
       → (state_of (probe_result_of c.probe_results port.0) ≢ Dead) × (state_of (probe_result_of c.probe_results port.0) ≡ ReadyState → SameSerialAndSize old.abstract.ports (ports_of c) port → ⊥)
   pub disk : ShownDiskWasInOrCame old.abstract steps (abstract_state_of c (after old.abstract.machine steps)) port
@@ -69,7 +69,7 @@ pub record HasTicked (hung : ℕ → Bool) (s : ServerState) (old : AbstractStat
 
 abbrev pub TiesSoFar : Plan → ServerState → AbstractState → Port → List Access → ServerState → Evidence → List Step → Type 0
 TiesSoFar AService s old port accesses c evidence steps =
-    PortCorresponds (record { device = s.device; abstract = old }) (joint_event_of_turn ServingReady [] c evidence steps) accesses port × ChangedUnreadyPortEndsNoLinkDue port (record { device = s.device; abstract = old }) (ports_of c) c.device
+    PortCorresponds (record { device = s.device; abstract = old }) (joint_event_of_turn ServingReady [] c evidence steps) accesses port × ForeignOrUnfitShowingXEndsNoLinkDue port (record { device = s.device; abstract = old }) (ports_of c) c.device
 TiesSoFar (ATick hung) s old port accesses c evidence steps = HasTicked hung s old port accesses c evidence steps
 
 -- nothing is done of a port that had no turn
@@ -164,10 +164,10 @@ module _ (plan : Plan) (laws : PrerequisiteLaws) (s : ServerState) (start : Sett
     pub lost : All (λ q. state_at q.0 ≡ ReadyState) evidence.lost
     pub lawful : AnswersAndWaitsLawful old evidence (ports_of c) steps
     pub owes : OwesBy plan evidence steps
-    pub unplugs : UnpluggedEmptiesPort steps (after old.machine steps)
+    pub unplugs : UnpluggedOutcomeEmptiesPort steps (after old.machine steps)
     pub answers : List (Pending × Outcome)
     pub permuted : IsPermutation answers (answers_of steps)
-    pub book_is_in_order : AllPairs IsToldBefore answers
+    pub book_is_in_order : AllPairs IsLowerByPortThenId answers
     pub low : All (λ a. a.0.request.port.0 < n) answers
     pub told : replies ≡ map reply_of answers
     pub faults : (told : RequestFault) → Contains evidence.faults told → HasTold n c accesses told
@@ -242,7 +242,7 @@ module _ (plan : Plan) (laws : PrerequisiteLaws) (s : ServerState) (start : Sett
   none_evidenced accesses new ports evidence q not names of =
       let was_ready : old.ports.state q ≡ ReadyState → ⊥ = λ is. not (ready_takes plan (probe_result_of s.probe_results q.0) (sym (ap (λ (ports : Ports). ports.state q) ports_are) ∙ is)) in
       record {
-        named_lost_may_have_lost_disk = λ here. absurd (not (All-contains Takes evidence.lost q names.lost here));
+        named_lost_showed_loss_or_changed = λ here. absurd (not (All-contains Takes evidence.lost q names.lost here));
         shown_loss_of_ready_is_named = λ is. absurd (was_ready is);
         named_link_changed_had_change_or_no_device = λ here. absurd (not (All-contains Takes evidence.link_changed q names.gone here));
         shown_failure_of_ready_is_named = λ is. absurd (was_ready is);

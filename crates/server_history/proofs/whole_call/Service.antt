@@ -21,7 +21,7 @@ use Rattle.driver_history.specs.Histories.{PortCorresponds}
 use Rattle.server_history.proofs.any_turn.JoinedParts.{dead_or_not}
 use Rattle.driver_history.specs.Evidence.{IsEvidenced}
 use Rattle.request_queue.specs.BookRelation.{EntryRelation}
-use Rattle.server_history.specs.Histories.{ExtendsSettled, LeadsToServer}
+use Rattle.server_history.specs.Histories.{ExtendsToSettled, LeadsToServer}
 use Rattle.server_history.specs.Prerequisites.{PrerequisiteLaws}
 use Rattle.server_history.specs.Turns.{IsPortTurn, ServicesEachPort, ServicesPort, ProbesUnready}
 use Rattle.server_history.specs.Probing.{FindsReasonToBoot}
@@ -105,10 +105,10 @@ module _ (laws : PrerequisiteLaws) (s new : ServerState) (replies : List Reply) 
   all_answered = record {
     replies_match = record { answers = p.answers; is_permutation = p.permuted; ordered = p.book_is_in_order; replies_are_of_answers = p.told };
     dead_ports_tell_only_port_dead = λ e o h dead. absurd ((answered_was AService laws s start old reached at same ends.count new replies p e o h).1 (sym (is_ready e.request.port) ∙ dead));
-    unplugged_empties_port = p.unplugs;
+    unplugged_outcome_empties_port = p.unplugs;
     none_is_due_where_ready = λ port ready. none_due new (after old.machine p.steps) p.machine_relation (mode_in new port) port (p.settled_invariant.nothing_is_due port);
     empty_unless_ready = none_waits;
-    answers_ended = λ port ready. ((done port).ties.0.handles_evidence ready).answers_ended;
+    answers_ok_what_had_ended = λ port ready. ((done port).ties.0.handles_evidence ready).answers_ok_what_had_ended;
     port_is_serviced = λ port. (done port).becomes;
     shown_disk_was_in_or_came = λ port. (done port).disk;
   }
@@ -122,7 +122,7 @@ module _ (laws : PrerequisiteLaws) (s new : ServerState) (replies : List Reply) 
     each_port_is_evidenced = λ port.
         let v = (done port).evidenced in
         record {
-          named_lost_may_have_lost_disk = v.named_lost_may_have_lost_disk;
+          named_lost_showed_loss_or_changed = v.named_lost_showed_loss_or_changed;
           shown_loss_of_ready_is_named = v.shown_loss_of_ready_is_named;
           named_link_changed_had_change_or_no_device = v.named_link_changed_had_change_or_no_device;
           shown_failure_of_ready_is_named = v.shown_failure_of_ready_is_named;
@@ -152,5 +152,5 @@ module _ (laws : PrerequisiteLaws) (s new : ServerState) (replies : List Reply) 
       port_part
       p.backed p.machine_relation
 
-pub law_services_extend_history : PrerequisiteLaws → (s new : ServerState) (replies : List Reply) → SettledInvariant s → ServicesEachPort 0 s.probe_results replies s new → ExtendsSettled s new Service (Replied replies)
+pub law_services_extend_history : PrerequisiteLaws → (s new : ServerState) (replies : List Reply) → SettledInvariant s → ServicesEachPort 0 s.probe_results replies s new → ExtendsToSettled s new Service (Replied replies)
 law_services_extend_history laws s new replies start serves = record { settled_invariant = turns_kept ServicesPort ProbesUnready s.probe_results 0 s new replies start serves; extends_history = λ first past leads. service_event laws s new replies start serves first past leads }

@@ -22,7 +22,7 @@ use Rattle.driver_history.specs.Histories.{IsServedAndNotDead}
 use Rattle.host_boot.specs.declared.ProbeResult.{ProbeResult}
 use Rattle.host_boot.specs.declared.ProbeResult.TheVariants.{Ready, Unready, Unserved}
 use Rattle.server_history.specs.ServerState.{ServerState, is_served, state_of}
-use Rattle.server_history.specs.Turns.{RestingInTick, InRestart, ServingReady, InProbe, IsByDeviceOrOnSuchPort, MeetsTurnDuty, Turn, ask_of_turn}
+use Rattle.server_history.specs.Turns.{RestingInTick, InRestart, ServingReady, InProbe, IsByDeviceOrOnSuchPort, RequeuesOnFailedPortsOrRestartsOrRestsByTurn, Turn, ask_of_turn}
 use Rattle.server_history.proofs.any_turn.JoinedParts.{joined}
 use Rattle.server_history.proofs.state.CallEvidence.{no_evidence}
 use Rattle.server_history.proofs.any_turn.TurnsInOrder.{grounded_join, grounded_on}
@@ -122,7 +122,7 @@ belong_on plan Such old new same (step ∷ steps) all a = (belong_on plan Such o
 pub any_said : (plan : Plan) (one other : List Reply) (made : List Access) (i : JointState Device) (ports : Ports) (d : Device) (e : Evidence) (q : Port) → IsEvidencedOf (asks_for plan) (Replied one) made i ports d e q
     → IsEvidencedOf (asks_for plan) (Replied other) made i ports d e q
 any_said AService one other made i ports d e q v = record {
-  named_lost_may_have_lost_disk = v.named_lost_may_have_lost_disk;
+  named_lost_showed_loss_or_changed = v.named_lost_showed_loss_or_changed;
   shown_loss_of_ready_is_named = v.shown_loss_of_ready_is_named;
   named_link_changed_had_change_or_no_device = v.named_link_changed_had_change_or_no_device;
   shown_failure_of_ready_is_named = v.shown_failure_of_ready_is_named;
@@ -134,7 +134,7 @@ any_said AService one other made i ports d e q v = record {
   stuck_only = v.stuck_only;
 }
 any_said (ATick hung) one other made i ports d e q v = record {
-  named_lost_may_have_lost_disk = v.named_lost_may_have_lost_disk;
+  named_lost_showed_loss_or_changed = v.named_lost_showed_loss_or_changed;
   shown_loss_of_ready_is_named = v.shown_loss_of_ready_is_named;
   named_link_changed_had_change_or_no_device = v.named_link_changed_had_change_or_no_device;
   shown_failure_of_ready_is_named = v.shown_failure_of_ready_is_named;
@@ -147,13 +147,13 @@ any_said (ATick hung) one other made i ports d e q v = record {
 }
 
 -- what is owed is so of more steps, with what the turn owes
-pub owes_join : (plan : Plan) (found : ProbeResult) (n : ℕ) (port : Port) (accesses : List Access) (old new : ServerState) (m : Machine) (early its : Evidence) (steps late : List Step) → OwesBy plan early steps → MeetsTurnDuty (turn_at plan found n) port accesses old new m its late
+pub owes_join : (plan : Plan) (found : ProbeResult) (n : ℕ) (port : Port) (accesses : List Access) (old new : ServerState) (m : Machine) (early its : Evidence) (steps late : List Step) → OwesBy plan early steps → RequeuesOnFailedPortsOrRestartsOrRestsByTurn (turn_at plan found n) port accesses old new m its late
     → OwesBy plan (joined early its) (late ++ steps)
 owes_join AService found n port accesses old new m early its steps late so_far turn = grounded_join (joined early its) late steps
     (grounded_on its (joined early its) (λ q there. Contains-append_right early.showing_error its.showing_error q there) late (by found turn))
     (grounded_on early (joined early its) (λ q there. Contains-append_left early.showing_error its.showing_error q there) steps so_far)
   where
-    by : (was : ProbeResult) → MeetsTurnDuty (turn_at AService was n) port accesses old new m its late → OnlyFailedPortsRequeueAbortRevokeOrFault its late
+    by : (was : ProbeResult) → RequeuesOnFailedPortsOrRestartsOrRestsByTurn (turn_at AService was n) port accesses old new m its late → OnlyFailedPortsRequeueAbortRevokeOrFault its late
     by (Ready info) o = o
     by (Unready state) o = o.0
     by Unserved o = o.0
@@ -162,12 +162,12 @@ owes_join (ATick hung) found n port accesses old new m early its steps late so_f
     none : its.faults ≡ [] → early.faults ++ its.faults ≡ []
     none is = ap (λ list. list ++ its.faults) so_far ∙ is
 
-    by : (b : Bool) → MeetsTurnDuty (if b then InRestart else RestingInTick) port accesses old new m its late → early.faults ++ its.faults ≡ []
+    by : (b : Bool) → RequeuesOnFailedPortsOrRestartsOrRestsByTurn (if b then InRestart else RestingInTick) port accesses old new m its late → early.faults ++ its.faults ≡ []
     by true (restarts, is) = none is
     by false (made, did, is, uninterrupted) = none is
 
 -- of a port that isn't ready no fault is told, and no loss
-pub ready_or_silent : (plan : Plan) (found : ProbeResult) (n : ℕ) (port : Port) (accesses : List Access) (old new : ServerState) (m : Machine) (its : Evidence) (steps : List Step) → TakesTurn plan found → MeetsTurnDuty (turn_at plan found n) port accesses old new m its steps
+pub ready_or_silent : (plan : Plan) (found : ProbeResult) (n : ℕ) (port : Port) (accesses : List Access) (old new : ServerState) (m : Machine) (its : Evidence) (steps : List Step) → TakesTurn plan found → RequeuesOnFailedPortsOrRestartsOrRestsByTurn (turn_at plan found n) port accesses old new m its steps
     → (state_of found ≡ ReadyState) ⊎ ((its.faults ≡ []) × (its.lost ≡ []))
 ready_or_silent AService (Ready info) n port accesses old new m its steps takes o = inl refl
 ready_or_silent AService (Unready state) n port accesses old new m its steps takes o = inr (o.1, o.2)

@@ -25,7 +25,7 @@ use Rattle.refinement.specs.Relation.{port_at}
 use Rattle.refinement.specs.Fragments.{SparesOtherPorts}
 use Rattle.refinement.specs.PreservedParts.{DoesNotWrite}
 use Rattle.refinement.specs.Slots.{ServesRequest}
-use Rattle.block_machine.specs.Events.{AnswersAndWaitsLawful, AnswersEnded, AnswersTick, TimesOutAtTick, IssueIsLastOfRequest, UnansweredKeepSerialAndSize, AbstractState, NoneStaysIssued, RestartsTimedOut, Replied, Tick, IsIssuedInBook, answers_of, changes_disk, is_age, issues_id}
+use Rattle.block_machine.specs.Events.{AnswersAndWaitsLawful, AnswersOkWhatHadEnded, AnswersTick, TimesOutAtTick, IssueIsLastOfRequest, UnansweredKeepSerialAndSize, AbstractState, IssuedOnPortAreIssuedInSteps, RestartsTimedOut, Replied, Tick, IsIssuedInBook, answers_of, changes_disk, is_age, issues_id}
 use Rattle.block_machine.specs.Histories.{JointEvent, JointState, IsReachable, joint_state_after}
 use Rattle.block_machine.specs.Expected.{after}
 use Rattle.block_machine.specs.Ports.{IsStoppedOrStuck, Ports, SamePort}
@@ -36,14 +36,14 @@ use Rattle.server_history.proofs.state.ListMembers.{contains_cases, contains_her
 use Rattle.driver_history.specs.Evidence.{IsEvidenced}
 use Rattle.driver_history.specs.Histories.{FindsDone, IssuesDue, PortCorresponds}
 use Rattle.driver_history.specs.PortTurn.{IsOfOtherPort}
-use Rattle.driver_history.specs.AccessTrace.{ClearsNoError, StaysInDriverFrames, UsesPortsAndNotGhc, WritesNeitherCmdNorSctl}
+use Rattle.driver_history.specs.AccessTrace.{WritesOneToNoTroubleBit, StaysInDriverFrames, UsesPortsAndNotGhc, WritesNeitherCmdNorSctl}
 use Rattle.host_boot.specs.TakeOver.{probe_result_of}
 use Rattle.host_boot.specs.declared.ProbeResult.{ProbeResult}
 use Rattle.host_boot.specs.declared.ProbeResult.TheVariants.{Ready, Unready, Unserved}
 use Rattle.request_queue.specs.BookEntries.{BookEntry, HasOverdueOn}
 use Rattle.request_queue.specs.BookRelation.{EntryRelation}
 use Rattle.server_history.specs.Prerequisites.{PrerequisiteLaws}
-use Rattle.server_history.specs.Histories.{ExtendsSettled, LeadsToServer}
+use Rattle.server_history.specs.Histories.{ExtendsToSettled, LeadsToServer}
 use Rattle.server_history.specs.ServerState.{ServerState, InCallInvariant, MachineRelation, SettledInvariant, mode_in, ports_of, state_of}
 use Rattle.server_history.specs.Turns.{RestingInTick, IsPortTurn, HandlesShownErrors, InRestart, ServingReady, IsByDeviceOrOnSuchPort, Ticks, TakesTickTurn, a_tick_older, joint_state_of, is_ready}
 use Rattle.server_history.proofs.plain_calls.OlderRequests.{older_by, older_ended, older_issued, older_request, older_settled, older_stands, serves_on}
@@ -124,9 +124,9 @@ module _ (laws : PrerequisiteLaws) (port : Port) (low : port.0 < 4) (c : ServerS
         stuck = All-nil (λ q. q ≡ port);
       };
       answers_are_lawful = tt;
-      meets_turn_duty = (refl, refl, refl, uninterrupted);
+      requeues_on_failed_port_or_restarts_by_turn = (refl, refl, refl, uninterrupted);
       replies_match = record { answers = []; is_permutation = IsPermutation-refl []; ordered = λ i j d lt below. absurd (omega (arith, lt, below)); replies_are_of_answers = refl };
-      unplugged_empties_port = record { none_is_left = λ e other here there. absurd (nowhere (Answer e Unplugged) here); none_is_told_dead = λ e other here there. absurd (nowhere (Answer e Unplugged) here) };
+      unplugged_outcome_empties_port = record { none_is_left = λ e other here there. absurd (nowhere (Answer e Unplugged) here); none_is_told_dead = λ e other here there. absurd (nowhere (Answer e Unplugged) here) };
       port_is_serviced = (λ dead. same, λ lives. (record { served_is_unchanged = refl; dead_exactly_if_stuck = (λ dead. absurd (lives dead), λ named. absurd (nowhere port named)); disk_is_remembered_unless_ready = λ unready. (refl, refl) }, inl same));
       shown_disk_was_in_or_came = inl same;
       same_disk_or_none_unanswered = inl (refl, refl);
@@ -178,7 +178,7 @@ serving_on One Other each (Loading at bytes) is = (is.0, is.1, tt)
 serving_on One Other each (Storing at bytes) is = (is.0, is.1, tt)
 
 -- accesses of another port clear no bit that tells of this one's trouble
-other_clears_none : (port : Port) (access : Access) → IsOfOtherPort port access → ClearsNoError port access
+other_clears_none : (port : Port) (access : Access) → IsOfOtherPort port access → WritesOneToNoTroubleBit port access
 other_clears_none port (Writing (Px at r) v) (other, apart, of) = record {
   pxis_trouble_is_kept = λ q. let z : Px at r ≡ Px port register.Is = q in absurd (apart (ap (λ (p : Port). p.0) (sym (let same : at ≡ port = cc in same) ∙ of)));
   serr_trouble_is_kept = λ q. let z : Px at r ≡ Px port register.Serr = q in absurd (apart (ap (λ (p : Port). p.0) (sym (let same : at ≡ port = cc in same) ∙ of)));
@@ -344,7 +344,7 @@ module _ (laws : PrerequisiteLaws) (s new : ServerState) (replies : List Reply) 
   aged_in : (e : Pending) → Contains was.machine.book e → Contains old.machine.book (aged_pending ready e)
   aged_in e here = into_map (aged_pending ready) was.machine.book e here
 
-  ended_before : (port : Port) → AnswersEnded old.machine p.steps port → AnswersEnded was.machine steps port
+  ended_before : (port : Port) → AnswersOkWhatHadEnded old.machine p.steps port → AnswersOkWhatHadEnded was.machine steps port
   ended_before port answers e here own ended =
       let y = answers (aged_pending ready e) (aged_in e here) (ap (λ r. r.port) (older_request ready e) ∙ own) (older_ended ready e ∙ ended) in
       (y.0, y.1 ∙ older_request ready e, Contains-append_left p.steps (Age ready ∷ []) (Answer y.0 outcome.Ok) y.2)
@@ -359,7 +359,7 @@ module _ (laws : PrerequisiteLaws) (s new : ServerState) (replies : List Reply) 
         issued = sym (older_issued ready y.0) ∙ ap (λ (x : Pending). x.issued) (sym y.2) ∙ w.issued;
       }
 
-  anew_before : (port : Port) → NoneStaysIssued p.steps (after old.machine p.steps) port → NoneStaysIssued steps end.machine port
+  anew_before : (port : Port) → IssuedOnPortAreIssuedInSteps p.steps (after old.machine p.steps) port → IssuedOnPortAreIssuedInSteps steps end.machine port
   anew_before port none e here own issued = issued_late e.request.id p.steps (Age ready ∷ []) (none e (in_end e here) own issued)
 
   any_of : (f : Step → Bool) → f (Age ready) ≡ false → list_any f steps ≡ list_any f p.steps
@@ -409,8 +409,8 @@ module _ (laws : PrerequisiteLaws) (s new : ServerState) (replies : List Reply) 
         (restarted_or_not port);
     only_timed_out_wait_again = λ e here. ⊎_elim (λ r. is_hung e.request.port r.0) (λ r. absurd (r.1.again e (again_in e here) refl)) (restarted_or_not e.request.port);
     only_timed_out_are_answered = λ e o here. is_hung e.request.port (answered_hung e o (in_steps e o here));
-    answers_ended = λ port h. ended_before port (restart port h).ended;
-    none_stays_issued = λ port h. anew_before port (restart port h).anew;
+    answers_ok_what_had_ended = λ port h. ended_before port (restart port h).ended;
+    issued_are_issued_in_steps = λ port h. anew_before port (restart port h).anew;
     timed_out_iff_stopped_or_stuck = λ port. (λ h. (restart port h).interrupts, λ i. ⊎_elim (λ r. is_hung port r.0) (λ r. absurd (r.1.uninterrupted i)) (restarted_or_not port));
     unplugged_lost_disk = λ e here.
         let early = in_steps e Unplugged here in
@@ -437,7 +437,7 @@ module _ (laws : PrerequisiteLaws) (s new : ServerState) (replies : List Reply) 
       no_other_age = no_ages (λ q. (q.0 < ends.count) × TakesTurn plan (probe_result_of aged.probe_results q.0)) p.steps p.of;
     };
     restarts_timed_out = restarts;
-    unplugged_empties_port = record {
+    unplugged_outcome_empties_port = record {
       none_is_left = λ e other here there. p.unplugs.none_is_left e other (in_steps e Unplugged here) (in_end other there);
       none_is_told_dead = λ e other here there. p.unplugs.none_is_told_dead e other (in_steps e Unplugged here) (in_steps other PortDead there);
     };
@@ -462,7 +462,7 @@ module _ (laws : PrerequisiteLaws) (s new : ServerState) (replies : List Reply) 
     each_port_is_evidenced = λ port.
         let v = (done port).evidenced in
         record {
-          named_lost_may_have_lost_disk = v.named_lost_may_have_lost_disk;
+          named_lost_showed_loss_or_changed = v.named_lost_showed_loss_or_changed;
           shown_loss_of_ready_is_named = v.shown_loss_of_ready_is_named;
           named_link_changed_had_change_or_no_device = v.named_link_changed_had_change_or_no_device;
           shown_failure_of_ready_is_named = v.shown_failure_of_ready_is_named;
@@ -491,7 +491,7 @@ module _ (laws : PrerequisiteLaws) (s new : ServerState) (replies : List Reply) 
       (λ r. record {
         loses_no_error = laws.calls.ordinary_accesses_lose_no_error port (record { device = s.device; abstract = old }) new.device p.accesses p.evidence (ports_of new) kept.adapter_is_on p.turn_is_taken
             (All-weaker (UsesPortsAndNotGhc (Uses plan old.ports)) (DoesNotWrite Ghc) (λ access serving. serving.1) p.accesses p.serving)
-            (All-weaker (IsOfOtherPort port) (ClearsNoError port) (other_clears_none port) p.accesses r.1.others);
+            (All-weaker (IsOfOtherPort port) (WritesOneToNoTroubleBit port) (other_clears_none port) p.accesses r.1.others);
         runs_well_anew = λ i. absurd (r.1.uninterrupted i);
       })
       (restarted_or_not port)
@@ -528,7 +528,7 @@ module _ (laws : PrerequisiteLaws) (s new : ServerState) (replies : List Reply) 
       (laws.backed_parts_join s.device s.device new.device was.machine (Age ready ∷ []) p.steps (laws.drivers_own_step_is_backed s.device was.machine (Age ready) (λ x. x)) p.backed)
       (subst (MachineRelation new) (sym whole_is) p.machine_relation)
 
-pub law_ticks_extend_history : PrerequisiteLaws → (s new : ServerState) (replies : List Reply) → SettledInvariant s → Ticks replies s new → ExtendsSettled s new Tick (Replied replies)
+pub law_ticks_extend_history : PrerequisiteLaws → (s new : ServerState) (replies : List Reply) → SettledInvariant s → Ticks replies s new → ExtendsToSettled s new Tick (Replied replies)
 law_ticks_extend_history laws s new replies start ticks = record {
   settled_invariant = turns_kept (TakesTickTurn (a_tick_older s).book) (λ port one other. other ≡ one) s.probe_results 0 (a_tick_older s) new replies (older_settled laws s start) ticks;
   extends_history = λ first past leads. tick_event laws s new replies start ticks first past leads;

@@ -111,7 +111,7 @@ module _ (laws : PrerequisiteLaws) (s : ServerState) (start : SettledInvariant s
       serves = did.handles_evidence ready_c
 
       finding : (e : Pending) → IsIssuedOn (port_at n) old.machine e → FindsDone (port_at n) accesses began all
-      finding e leads = lifting.finding AService laws s start old reached at ports_are n c mid before its p next part m_reached on_mid ready (x.finds_done is_service (leading e leads).now_is (then_issued e leads (leading e leads))) serves.answers_ended
+      finding e leads = lifting.finding AService laws s start old reached at ports_are n c mid before its p next part m_reached on_mid ready (x.finds_done is_service (leading e leads).now_is (then_issued e leads (leading e leads))) serves.answers_ok_what_had_ended
 
       -- ---- a plain request's fault
 
@@ -193,10 +193,10 @@ module _ (laws : PrerequisiteLaws) (s : ServerState) (start : SettledInvariant s
 
       heeds_whole : ServicesReadyPort old evidence all (record { machine = after old.machine all; ports = ports_of mid }) (port_at n)
       heeds_whole = record {
-        answers_ended = lifting.ended_whole AService laws s start old reached at ports_are n c mid before its p next part m_reached on_mid ready serves.answers_ended;
+        answers_ok_what_had_ended = lifting.ended_whole AService laws s start old reached at ports_are n c mid before its p next part m_reached on_mid ready serves.answers_ok_what_had_ended;
         link_change_leaves_none = λ gone e here. serves.link_change_leaves_none (alike.link_changed.1 gone) e (subst (λ (k : Machine). Contains k.book e) whole_is here);
         link_change_tells_alike = λ gone. ⊎_elim (λ a. inl (told_whole _ a)) (λ b. inr (told_whole _ b)) (serves.link_change_tells_alike (alike.link_changed.1 gone));
-        trouble_interrupts = λ port_error. lifting.named AService laws s start old reached at ports_are n c mid before its p next part m_reached on_mid evidence alike (serves.trouble_interrupts (⊎_elim (λ failed. inl (alike.showing_error.1 failed)) (λ gone. inr (alike.link_changed.1 gone)) port_error));
+        trouble_stops_or_sticks = λ port_error. lifting.named AService laws s start old reached at ports_are n c mid before its p next part m_reached on_mid evidence alike (serves.trouble_stops_or_sticks (⊎_elim (λ failed. inl (alike.showing_error.1 failed)) (λ gone. inr (alike.link_changed.1 gone)) port_error));
         error_or_stop_leaves_no_old_issue = λ port_error. lifting.anew_whole AService laws s start old reached at ports_are n c mid before its p next part m_reached on_mid (serves.error_or_stop_leaves_no_old_issue (⊎_elim (λ failed. inl (alike.showing_error.1 failed)) (λ stopped. inr (alike.stopped.1 stopped)) port_error));
         one_fault_at_most = let one = serves.one_fault_at_most in omega (arith, counted, one);
         fatal_tells_no_fault = λ here. let y = serves.fatal_tells_no_fault (alike.showing_fatal_error.1 here) in (alike.showing_error.0 y.0, counted ∙ y.1);
@@ -206,7 +206,7 @@ module _ (laws : PrerequisiteLaws) (s : ServerState) (start : SettledInvariant s
             (λ (a : IsLeftAlone (ports_of c) x.evidence x.steps (ports_of mid) (port_at n)). inr (record {
               port_is_same = same_then old.ports (ports_of c) (ports_of mid) (port_at n) same_n a.port_is_same;
               only_ok_is_told = told_whole _ a.only_ok_is_told;
-              is_not_interrupted = λ i. a.is_not_interrupted (unnamed i);
+              is_neither_stopped_nor_stuck = λ i. a.is_neither_stopped_nor_stuck (unnamed i);
             }))
             serves.is_left_alone_if_calm;
       }
@@ -218,7 +218,7 @@ module _ (laws : PrerequisiteLaws) (s : ServerState) (start : SettledInvariant s
 
       -- where the port showed a failure when it began, or a change of its link, the turn stopped it
       stops_troubled : ShowsFailure (c.device.port n) ⊎ ShowsLinkChange (c.device.port n) → IsStoppedOrStuck x.evidence (port_at n)
-      stops_troubled port_error = serves.trouble_interrupts (⊎_elim (λ failure. inl (x.is_evidenced.shown_failure_of_ready_is_named ready_c failure)) (λ change. inr (x.is_evidenced.shown_loss_of_ready_is_named ready_c (inl change))) port_error)
+      stops_troubled port_error = serves.trouble_stops_or_sticks (⊎_elim (λ failure. inl (x.is_evidenced.shown_failure_of_ready_is_named ready_c failure)) (λ change. inr (x.is_evidenced.shown_loss_of_ready_is_named ready_c (inl change))) port_error)
 
       -- ---- the whole
 

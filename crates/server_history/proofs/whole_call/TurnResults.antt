@@ -22,7 +22,7 @@ use Rattle.refinement.specs.Relation.{port_at}
 use Rattle.refinement.specs.Fragments.{SparesOtherPorts}
 use Rattle.refinement.specs.PreservedParts.{DoesNotWrite}
 use Rattle.refinement.specs.Slots.{IsEmptySlot, RelatesSlot, Serves, ServesRequest, IsInSomeStage, SlotState}
-use Rattle.block_machine.specs.Events.{AnswersEnded, ShownDiskWasInOrCame, AbstractState, NoneStaysIssued, changes_disk}
+use Rattle.block_machine.specs.Events.{AnswersOkWhatHadEnded, ShownDiskWasInOrCame, AbstractState, IssuedOnPortAreIssuedInSteps, changes_disk}
 use Rattle.block_machine.specs.Histories.{JointState, IsReachable}
 use Rattle.block_machine.specs.Expected.{after}
 use Rattle.block_machine.specs.Ports.{Evidence, IsStoppedOrStuck, Ports, SamePort}
@@ -128,7 +128,7 @@ module _ (plan : Plan) (laws : PrerequisiteLaws) (s : ServerState) (start : Sett
 
     -- ---- what is answered, and what keeps its issue
 
-    pub anew_whole : NoneStaysIssued x.steps (after m x.steps) (port_at n) → NoneStaysIssued all (after old.machine all) (port_at n)
+    pub anew_whole : IssuedOnPortAreIssuedInSteps x.steps (after m x.steps) (port_at n) → IssuedOnPortAreIssuedInSteps all (after old.machine all) (port_at n)
     anew_whole none e here own issued = issued_late e.request.id x.steps p.steps (none e (subst (λ (k : Machine). Contains k.book e) whole_is here) own issued)
 
     pub changed_whole : list_any (changes_disk (port_at n)) x.steps ≡ true → list_any (changes_disk (port_at n)) all ≡ true
@@ -266,7 +266,7 @@ module _ (plan : Plan) (laws : PrerequisiteLaws) (s : ServerState) (start : Sett
 
       -- ---- what is found done
 
-      module _ (f : FindsDoneInTurn (port_at n) part.accesses c m x.steps) (ended : AnswersEnded m x.steps (port_at n)) where
+      module _ (f : FindsDoneInTurn (port_at n) part.accesses c m x.steps) (ended : AnswersOkWhatHadEnded m x.steps (port_at n)) where
         abbrev AreClear : ℕ → Type 0
         AreClear slot = (bit f.finds_done.ci slot ≡ false) × (bit f.finds_done.sact slot ≡ false)
 
@@ -309,7 +309,7 @@ module _ (plan : Plan) (laws : PrerequisiteLaws) (s : ServerState) (start : Sett
               (cases_eq slot (leading other own).has.slot);
         }
 
-      pub ended_whole : AnswersEnded m x.steps (port_at n) → AnswersEnded old.machine all (port_at n)
+      pub ended_whole : AnswersOkWhatHadEnded m x.steps (port_at n) → AnswersOkWhatHadEnded old.machine all (port_at n)
       ended_whole answers e there own ended =
           let h = leading e (ended_on e there own ended) in
           let y = answers h.now_is h.here (ap (λ r. r.port) h.same_as.request ∙ own) (h.same_as.ended ended) in

@@ -7,7 +7,7 @@ use Rattle.adapter.specs.Access.{Access}
 use Rattle.adapter.specs.Device.{Device}
 use Rattle.adapter.specs.Rules.{IsOn}
 use Rattle.refinement.specs.Relation.{port_at}
-use Rattle.refinement.specs.PreservedParts.{ShowsDiskIfIn}
+use Rattle.refinement.specs.PreservedParts.{HasDet3IfDiskPresent}
 use Rattle.block_machine.specs.Events.{AbstractState, Replied, Service}
 use Rattle.block_machine.specs.Histories.{JointState, IsReachable}
 use Rattle.block_machine.specs.Expected.{after}
@@ -15,7 +15,7 @@ use Rattle.block_machine.specs.Ports.{Evidence, IsStoppedOrStuck, Ports, SamePor
 use Rattle.block_machine.specs.State.{Machine}
 use Rattle.block_machine.specs.Steps.{Step}
 use Rattle.driver_history.specs.Histories.{BootsAnewWhereRequired, IsForeignOrUnfit, ProbesDisk, PortCorresponds}
-use Rattle.driver_history.specs.PortTurn.{ChangedUnreadyPortEndsNoLinkDue, HasTurnIn, EvidenceAgreesOn}
+use Rattle.driver_history.specs.PortTurn.{ForeignOrUnfitShowingXEndsNoLinkDue, HasTurnIn, EvidenceAgreesOn}
 use Rattle.driver_history.specs.AccessTrace.{ResetsLink}
 use Rattle.host_boot.specs.TakeOver.{probe_result_of}
 use Rattle.host_boot.specs.declared.ProbeResult.{ProbeResult}
@@ -53,7 +53,7 @@ module _ (laws : PrerequisiteLaws) (s : ServerState) (start : SettledInvariant s
   state_was q = ap (λ (ports : Ports). ports.state q) ports_are
 
   -- in one with a disk that isn't served a device showed when the call began, or no disk was in
-  there : (q : Port) → IsForeignOrUnfit old.ports q → ShowsDiskIfIn (s.device.port q.0)
+  there : (q : Port) → IsForeignOrUnfit old.ports q → HasDet3IfDiskPresent (s.device.port q.0)
   there q bad =
       let found = ⊎_elim (λ foreign. inl (sym (state_was q) ∙ foreign)) (λ unfit. inr (unfit.0, sym (state_was q) ∙ unfit.1)) bad in
       (kept.port_invariant q.0 (kept.served_ports_exist q.0 (bad_tends (probe_result_of s.probe_results q.0) found).0).0).bad_disk_is_shown_if_in
@@ -115,7 +115,7 @@ module _ (laws : PrerequisiteLaws) (s : ServerState) (start : SettledInvariant s
       heeds = lifting.trouble_whole AService laws s start old reached at ports_are n c mid before its p next part m_reached on_mid evidence alike same_n
           (λ ready port_error. ⊎_elim (λ before. absurd (never_then before)) stopped ready) (λ ready. inr (resets ready)) (record { loses_no_error = did.loses_no_error; runs_well_anew = did.runs_well_anew })
 
-      pub tried_whole : PortCorresponds began (joint_event_of_turn ServingReady [] mid evidence all) accesses (port_at n) × ChangedUnreadyPortEndsNoLinkDue (port_at n) began (ports_of mid) mid.device
+      pub tried_whole : PortCorresponds began (joint_event_of_turn ServingReady [] mid evidence all) accesses (port_at n) × ForeignOrUnfitShowingXEndsNoLinkDue (port_at n) began (ports_of mid) mid.device
       tried_whole = (
         record {
           finds_done = λ ready. absurd (never ready);
@@ -175,7 +175,7 @@ module _ (laws : PrerequisiteLaws) (s : ServerState) (start : SettledInvariant s
     heeds_still = carrying.trouble_still AService laws s start old reached at ports_are n c mid before its p part m_reached q apart d evidence alike same
         (λ ready port_error. ⊎_elim (λ before. absurd (unready before)) stopped_so_far ready) (λ ready. inr (reset_so_far ready)) (record { loses_no_error = so_far.loses_no_error; runs_well_anew = so_far.runs_well_anew })
 
-    pub tried_still : PortCorresponds began (joint_event_of_turn ServingReady [] mid evidence steps_then) accesses_then q × ChangedUnreadyPortEndsNoLinkDue q began (ports_of mid) mid.device
+    pub tried_still : PortCorresponds began (joint_event_of_turn ServingReady [] mid evidence steps_then) accesses_then q × ForeignOrUnfitShowingXEndsNoLinkDue q began (ports_of mid) mid.device
     tried_still = (
       record {
         finds_done = λ ready. absurd (unready ready);

@@ -49,7 +49,7 @@ both_started = device_after_run (start 1) prepared
 both_started_reached : IsReachableByRun both_started
 unfolding changed same_others
 both_started_reached = reached_more prepared_reached (start 1) (
-  record { present = refl; no_comreset = refl; link_is_due = refl; sig_fits = omega arith },
+  record { present = refl; no_comreset = refl; link_is_due = refl; sig_is_32_bit = omega arith },
   (
     ((record { ae_is_set = refl; no_reset = refl }, (omega arith, refl)), refl),
     (

@@ -71,7 +71,7 @@ started area = device_after_run (start 0) (prepared area)
 pub started_reached : (area : ℕ) → area % 256 ≡ 0 → area + 256 ≤ 4096 * 256 → IsReachableByRun (started area)
 unfolding changed same_others
 started_reached area aligned inside = reached_more (prepared_reached area aligned inside) (start 0) (
-  record { present = refl; no_comreset = refl; link_is_due = refl; sig_fits = omega arith },
+  record { present = refl; no_comreset = refl; link_is_due = refl; sig_is_32_bit = omega arith },
   (
     ((record { ae_is_set = refl; no_reset = refl }, (omega arith, refl)), refl),
     (

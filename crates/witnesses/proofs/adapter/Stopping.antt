@@ -29,7 +29,7 @@ linking_safe = unused_safe linking (λ k. refl) (λ k. refl) (prepared_elsewhere
 
 pub may_link : Can (LinkUp 0 0x101 true) linking
 unfolding changed
-may_link = record { present = refl; no_comreset = refl; link_is_due = refl; sig_fits = omega arith }
+may_link = record { present = refl; no_comreset = refl; link_is_due = refl; sig_is_32_bit = omega arith }
 
 -- ---- the port runs
 

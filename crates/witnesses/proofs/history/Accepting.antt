@@ -26,7 +26,7 @@ use Rattle.block_machine.specs.Steps.{Accept, Answer, Issue, IsEnabled, newly_ac
 use Rattle.block_machine.specs.declared.due.Unanswered.{Unanswered}
 use Rattle.identify.specs.declared.wanted.Wanted.TheVariants.{Any}
 use Rattle.driver_history.specs.EvidenceHandling.{ServicesReadyPort, tells_fault}
-use Rattle.driver_history.specs.Histories.{IsIssuedOn, IsIssuingAccess, CallCorresponds, PortCorresponds}
+use Rattle.driver_history.specs.Histories.{IsIssuedOn, StoresOrWritesSactOrCi, CallCorresponds, PortCorresponds}
 use Rattle.driver_history.specs.PortInvariants.{DriverInvariantWith}
 use Rattle.witnesses.specs.ReadyPort.{HistoryBeginsReady}
 use Rattle.witnesses.specs.RunningAdapter.{plain_disk_mode, running_port}
@@ -161,7 +161,7 @@ is_issued = record {
   all_issued = λ port is. none_due plain_disk_mode (unanswered waiting ∷ []) (λ r here. ap (λ (x : Unanswered). x.issued) (only (unanswered waiting) r here)) port;
   due = issuing_on.due_alone submission refl may_issue.1 refl;
   does = submits;
-  only = All-from_recursion (IsIssuingAccess (port_at 0)) submit_accesses (omega arith, (omega arith, (omega arith, (inr refl, tt))));
+  only = All-from_recursion (StoresOrWritesSactOrCi (port_at 0)) submit_accesses (omega arith, (omega arith, (omega arith, (inr refl, tt))));
 }
 
 abbrev pub submit : JointEvent Device DeviceStep
@@ -206,10 +206,10 @@ the_answer told e o here = let same : Answer e o ≡ Answer waiting told = only 
 pub leaves_other : (told : Outcome) (evidence : Evidence) (new : AbstractState) → IsUnnamed evidence (port_at 1) → count_by (tells_fault (port_at 1)) (Answer waiting told ∷ []) ≤ 1 → SamePort both new.ports (port_at 1)
     → ServicesReadyPort submitted_at.abstract evidence (Answer waiting told ∷ []) new (port_at 1)
 leaves_other told evidence new un single same = record {
-  answers_ended = λ e here at_port ended. absurd (not_ended 0 e here ended);
+  answers_ok_what_had_ended = λ e here at_port ended. absurd (not_ended 0 e here ended);
   link_change_leaves_none = λ g. absurd (un.gone g);
   link_change_tells_alike = λ g. absurd (un.gone g);
-  trouble_interrupts = λ why. absurd (⊎_elim un.failed un.gone why);
+  trouble_stops_or_sticks = λ why. absurd (⊎_elim un.failed un.gone why);
   error_or_stop_leaves_no_old_issue = λ why. absurd (⊎_elim un.failed un.stopped why);
   one_fault_at_most = single;
   fatal_tells_no_fault = λ h. absurd (un.fatal h);
@@ -217,6 +217,6 @@ leaves_other told evidence new un single same = record {
   is_left_alone_if_calm = inr (record {
     port_is_same = same;
     only_ok_is_told = λ e o here at_port. absurd (let z : 0 ≡ 1 = sym (ap (λ (x : Pending). x.request.port.0) (the_answer told e o here).0) ∙ ap (λ (p : Port). p.0) at_port in omega (arith, z));
-    is_not_interrupted = λ why. ⊎_elim un.stopped un.stuck why;
+    is_neither_stopped_nor_stuck = λ why. ⊎_elim un.stopped un.stuck why;
   });
 }

@@ -20,7 +20,7 @@ use Rattle.block_machine.specs.State.{Pending, unanswered}
 use Rattle.block_machine.specs.Steps.{Step, WaitAgain, Age, Answer}
 use Rattle.block_machine.specs.declared.due.Unanswered.{Unanswered}
 use Rattle.identify.specs.declared.wanted.Wanted.TheVariants.{Any}
-use Rattle.driver_history.specs.Evidence.{IsEvidencedOf, ShowsFailure, ShowsLoss}
+use Rattle.driver_history.specs.Evidence.{IsEvidencedOf, ShowsFailure, BeganWithLinkChangeOrNoDeviceAndNoneComes}
 use Rattle.driver_history.specs.Histories.{IssuesDue, CallCorresponds, PortCorresponds}
 use Rattle.driver_history.specs.AccessTrace.{UsesPortsAndNotGhc, WritesNeitherCmdNorSctl}
 use Rattle.witnesses.specs.RunningAdapter.{plain_disk_mode}
@@ -69,7 +69,7 @@ pub not_due : (age : ℕ) (port : Port) → NoneDue plain_disk_mode (unanswered 
 not_due age = none_due plain_disk_mode (unanswered (waiting_for age) ∷ []) (λ r here. ap (λ (x : Unanswered). x.issued) (only (unanswered (waiting_for age)) r here))
 
 -- nor does a port tell of trouble
-pub quiet : (n : ℕ) → both.state (port_at n) ≡ Ready → (ShowsLoss (port_at n) submitted submitted → ⊥) × (ShowsFailure (submitted.port n) → ⊥)
+pub quiet : (n : ℕ) → both.state (port_at n) ≡ Ready → (BeganWithLinkChangeOrNoDeviceAndNoneComes (port_at n) submitted submitted → ⊥) × (ShowsFailure (submitted.port n) → ⊥)
 quiet = calm submitted.tape read_memory issued refl refl refl (λ place from. refl) submitted
 
 -- ---- a tick that restarts nothing
@@ -113,8 +113,8 @@ module _ (age : ℕ) where
       each_port_is_same_or_restarts = λ port. inl (not_hung age young port, (refl, refl, refl, refl, refl, refl));
       only_timed_out_wait_again = λ e here. absurd (unrepeated e here);
       only_timed_out_are_answered = λ e o here. absurd (unanswered_then e o here);
-      answers_ended = λ port h. absurd (not_hung age young port h);
-      none_stays_issued = λ port h. absurd (not_hung age young port h);
+      answers_ok_what_had_ended = λ port h. absurd (not_hung age young port h);
+      issued_are_issued_in_steps = λ port h. absurd (not_hung age young port h);
       timed_out_iff_stopped_or_stuck = λ port. (λ h. absurd (not_hung age young port h), λ why. absurd (⊎_elim (nowhere port) (nowhere port) why));
       unplugged_lost_disk = λ e here. absurd (unanswered_then e outcome.Unplugged here);
       shown_disk_was_in_or_came = λ port h. absurd (not_hung age young port h);
@@ -132,7 +132,7 @@ module _ (age : ℕ) where
         replies_match = record { answers = []; is_permutation = IsPermutation-refl _; ordered = λ i j d less low. absurd (omega (arith, less, low)); replies_are_of_answers = refl };
         ages_once = ages_once [] refl;
         restarts_timed_out = restarts_none;
-        unplugged_empties_port = record {
+        unplugged_outcome_empties_port = record {
           none_is_left = λ e other here. absurd (unanswered_then e outcome.Unplugged here);
           none_is_told_dead = λ e other here. absurd (unanswered_then e outcome.Unplugged here);
         };

@@ -32,7 +32,7 @@ use Rattle.adapter.specs.declared.access.DeviceStep.{DeviceStep}
 use Rattle.refinement.specs.PreservedParts.{IsPlugEvent}
 use Rattle.error_recovery.specs.Evidence.{ShowsFatal}
 use Rattle.driver_history.specs.EvidenceHandling.{ServicesReadyPort}
-use Rattle.driver_history.specs.Evidence.{TapeGainsEntry, IsEvidencedOf, ShowsLoss, ShowsFailure}
+use Rattle.driver_history.specs.Evidence.{TapeGainsEntry, IsEvidencedOf, BeganWithLinkChangeOrNoDeviceAndNoneComes, ShowsFailure}
 use Rattle.driver_history.specs.Histories.{FindsDone, IsIssuedOn, CallCorresponds, PortCorresponds, BootsAnewWhereRequired, LosesNoPortError, RunsWellAnew, IsServedAndNotDead}
 use Rattle.driver_history.specs.AccessTrace.{DoesNotWriteCmd}
 use Rattle.port_control.specs.Engines.{Stops}
@@ -227,7 +227,7 @@ service_evidenced zero = apart_evidenced 0 (omega arith)
 service_evidenced (suc zero) =
     let quiet = calm submitted.tape read_memory issued refl refl refl (λ place from. refl) lost 1 refl in
     record {
-      named_lost_may_have_lost_disk = λ h. inr (inr (inl gains));
+      named_lost_showed_loss_or_changed = λ h. inr (inr (inl gains));
       shown_loss_of_ready_is_named = λ is loss. named 1;
       named_link_changed_had_change_or_no_device = λ h. (refl, inr (inr gains));
       shown_failure_of_ready_is_named = λ is f. absurd (quiet.1 f);
@@ -256,10 +256,10 @@ service_finds (suc n) e on = absurd (none_there 0 n e on)
 
 heeds : (n : ℕ) → both.state (port_at n) ≡ Ready → ServicesReadyPort submitted_at.abstract loss_evidence service_steps lost_at.abstract (port_at n)
 heeds zero is = record {
-  answers_ended = λ e here at_port done. absurd (not_ended 0 e here done);
+  answers_ok_what_had_ended = λ e here at_port done. absurd (not_ended 0 e here done);
   link_change_leaves_none = λ g e here. absurd (nowhere e here);
   link_change_tells_alike = λ g. absurd ((unnamed 0 (omega arith)).gone g);
-  trouble_interrupts = λ why. absurd (⊎_elim (nowhere (port_at 0)) (unnamed 0 (omega arith)).gone why);
+  trouble_stops_or_sticks = λ why. absurd (⊎_elim (nowhere (port_at 0)) (unnamed 0 (omega arith)).gone why);
   error_or_stop_leaves_no_old_issue = λ why e here. absurd (nowhere e here);
   one_fault_at_most = omega arith;
   fatal_tells_no_fault = λ h. absurd (nowhere (port_at 0) h);
@@ -267,14 +267,14 @@ heeds zero is = record {
   is_left_alone_if_calm = inr (record {
     port_is_same = (refl, refl, refl, refl, refl, refl);
     only_ok_is_told = λ e o here at_port. inl (only_ok e o here);
-    is_not_interrupted = λ why. ⊎_elim (unnamed 0 (omega arith)).stopped (nowhere (port_at 0)) why;
+    is_neither_stopped_nor_stuck = λ why. ⊎_elim (unnamed 0 (omega arith)).stopped (nowhere (port_at 0)) why;
   });
 }
 heeds (suc zero) is = record {
-  answers_ended = λ e here at_port done. absurd (not_ended 0 e here done);
+  answers_ok_what_had_ended = λ e here at_port done. absurd (not_ended 0 e here done);
   link_change_leaves_none = λ g e here. absurd (nowhere e here);
   link_change_tells_alike = λ g. inl (λ e o here at_port. inl (only_ok e o here));
-  trouble_interrupts = λ why. inl (named 1);
+  trouble_stops_or_sticks = λ why. inl (named 1);
   error_or_stop_leaves_no_old_issue = λ why e here. absurd (nowhere e here);
   one_fault_at_most = omega arith;
   fatal_tells_no_fault = λ h. absurd (nowhere (port_at 1) h);
@@ -283,10 +283,10 @@ heeds (suc zero) is = record {
 }
 heeds (suc (suc n)) is = absurd (let x : Absent ≡ Ready = is in cc)
 
-quiet : (n : ℕ) → both.state (port_at n) ≡ Ready → (ShowsLoss (port_at n) submitted lost → ⊥) × (ShowsFailure (submitted.port n) → ⊥)
+quiet : (n : ℕ) → both.state (port_at n) ≡ Ready → (BeganWithLinkChangeOrNoDeviceAndNoneComes (port_at n) submitted lost → ⊥) × (ShowsFailure (submitted.port n) → ⊥)
 quiet = calm submitted.tape read_memory issued refl refl refl (λ place from. refl) lost
 
-not_shown : (n : ℕ) → both.state (port_at n) ≡ Ready → ShowsFatal (submitted.port n) ⊎ ShowsLoss (port_at n) submitted lost → ⊥
+not_shown : (n : ℕ) → both.state (port_at n) ≡ Ready → ShowsFatal (submitted.port n) ⊎ BeganWithLinkChangeOrNoDeviceAndNoneComes (port_at n) submitted lost → ⊥
 not_shown n is f = ⊎_elim (λ fatal. (quiet n is).1 (inl fatal)) (quiet n is).0 f
 
 service_boots : (n : ℕ) → BootsAnewWhereRequired Service (Replied (reply ∷ [])) turns submitted_at one lost (port_at n)
@@ -338,10 +338,10 @@ service_happens = record {
   result_matches_steps = record {
     replies_match = record { answers = (ended, outcome.Ok) ∷ []; is_permutation = IsPermutation-refl _; ordered = λ i j d less low. absurd (omega (arith, less, low)); replies_are_of_answers = refl };
     dead_ports_tell_only_port_dead = λ e o here is. absurd (not_dead e.request.port.0 is);
-    unplugged_empties_port = record { none_is_left = λ e other here. absurd (not_unplugged e here); none_is_told_dead = λ e other here. absurd (not_unplugged e here) };
+    unplugged_outcome_empties_port = record { none_is_left = λ e other here. absurd (not_unplugged e here); none_is_told_dead = λ e other here. absurd (not_unplugged e here) };
     none_is_due_where_ready = λ port is r at_port due. absurd (nowhere r due.is_in_book);
     empty_unless_ready = λ port other e here. absurd (nowhere e here);
-    answers_ended = λ port is e here at_port done. absurd (not_ended 0 e here done);
+    answers_ok_what_had_ended = λ port is e here at_port done. absurd (not_ended 0 e here done);
     port_is_serviced = λ port. becomes port.0;
     shown_disk_was_in_or_came = λ port. had_disk port.0;
   };
@@ -380,7 +380,7 @@ loss_is_a_history = record {
   asked_is_read = refl;
   submits = (refl, refl);
   service = service;
-  asks_for_service = (refl, refl);
+  service_replies_ok = (refl, refl);
   between = between;
   completing_turn_is_made = finds;
   completing_turn_is_allowed = finding_allowed;

@@ -89,7 +89,7 @@ module _ (k : ℕ) where
       steps = record {
         steps = LinkUp k 0xeb140101 false ∷ [];
         lead = (
-          subst (λ (p : DevicePort). MayLinkUp p 0xeb140101) (sym (at awaiting)) (record { present = refl; no_comreset = refl; link_is_due = refl; sig_fits = omega arith }),
+          subst (λ (p : DevicePort). MayLinkUp p 0xeb140101) (sym (at awaiting)) (record { present = refl; no_comreset = refl; link_is_due = refl; sig_is_32_bit = omega arith }),
           put_device pages read_memory k (around awaiting) (around (up awaiting)) (up (port_or_empty (around awaiting) k)) (at (up awaiting) ∙ ap up (sym (at awaiting))) (alike awaiting (up awaiting)),
         );
       };

@@ -92,10 +92,10 @@ of_tended = (tended, ((λ is. cc, tended), ((λ is. cc, tt), (tended, of_served 
 
 heeds : (n : ℕ) → both.state (port_at n) ≡ Ready → ServicesReadyPort broken_at.abstract fatal_evidence (answer ∷ []) (booted_at outset).abstract (port_at n)
 heeds zero is = record {
-  answers_ended = λ e here at_port ended. absurd (not_ended 0 e here ended);
+  answers_ok_what_had_ended = λ e here at_port ended. absurd (not_ended 0 e here ended);
   link_change_leaves_none = λ g. absurd (nowhere (port_at 0) g);
   link_change_tells_alike = λ g. absurd (nowhere (port_at 0) g);
-  trouble_interrupts = λ why. inl (named 0);
+  trouble_stops_or_sticks = λ why. inl (named 0);
   error_or_stop_leaves_no_old_issue = λ why e here. absurd (nowhere e here);
   one_fault_at_most = omega arith;
   fatal_tells_no_fault = λ h. (named 0, refl);
@@ -125,10 +125,10 @@ happens = record {
   result_matches_steps = record {
     replies_match = record { answers = (waiting, outcome.Unplugged) ∷ []; is_permutation = IsPermutation-refl _; ordered = λ i j d less low. absurd (omega (arith, less, low)); replies_are_of_answers = refl };
     dead_ports_tell_only_port_dead = λ e o here is. absurd (not_dead e.request.port.0 is);
-    unplugged_empties_port = unplugs restart is_restart;
+    unplugged_outcome_empties_port = unplugs restart is_restart;
     none_is_due_where_ready = λ port is r at_port due. absurd (nowhere r due.is_in_book);
     empty_unless_ready = λ port other e here. absurd (nowhere e here);
-    answers_ended = λ port is e here at_port done. absurd (not_ended 0 e here done);
+    answers_ok_what_had_ended = λ port is e here at_port done. absurd (not_ended 0 e here done);
     port_is_serviced = λ port. becomes port.0;
     shown_disk_was_in_or_came = λ port. had_disk port.0;
   };
@@ -170,7 +170,7 @@ fatal_error_is_a_history = record {
   shows = shows_fatal;
   ready = refl;
   service = service;
-  asks_for_service = (refl, refl);
+  service_replies_unplugged = (refl, refl);
   evidence = refl;
   unfit = refl;
   service_makes_accesses = does;

@@ -168,7 +168,7 @@ reset_evidenced : (n : ℕ) → IsEvidencedOf Reset (WasReset None) stuck_reset_
 reset_evidenced n =
     let quiet = calm submitted.tape read_memory issued refl refl refl (λ place from. refl) pending n in
     record {
-      named_lost_may_have_lost_disk = λ h. absurd (nowhere (port_at n) h);
+      named_lost_showed_loss_or_changed = λ h. absurd (nowhere (port_at n) h);
       shown_loss_of_ready_is_named = λ is loss. absurd ((quiet is).0 loss);
       named_link_changed_had_change_or_no_device = λ h. absurd (nowhere (port_at n) h);
       shown_failure_of_ready_is_named = λ is f. absurd ((quiet is).1 f);
@@ -295,10 +295,10 @@ service_happens = record {
   result_matches_steps = record {
     replies_match = record { answers = (waiting, outcome.PortDead) ∷ []; is_permutation = IsPermutation-refl _; ordered = λ i j d less low. absurd (omega (arith, less, low)); replies_are_of_answers = refl };
     dead_ports_tell_only_port_dead = λ e o here is. (the_answer outcome.PortDead e o here).1;
-    unplugged_empties_port = record { none_is_left = λ e other here. absurd (not_unplugged e here); none_is_told_dead = λ e other here. absurd (not_unplugged e here) };
+    unplugged_outcome_empties_port = record { none_is_left = λ e other here. absurd (not_unplugged e here); none_is_told_dead = λ e other here. absurd (not_unplugged e here) };
     none_is_due_where_ready = λ port is r at_port due. absurd (nowhere r due.is_in_book);
     empty_unless_ready = λ port other e here. absurd (nowhere e here);
-    answers_ended = λ port is e here at_port done. absurd (not_ended 0 e here done);
+    answers_ok_what_had_ended = λ port is e here at_port done. absurd (not_ended 0 e here done);
     port_is_serviced = λ port. becomes port.0;
     shown_disk_was_in_or_came = λ port. inl (refl, refl, refl, refl, refl, refl);
   };
@@ -372,7 +372,7 @@ death_is_a_history = record {
   resets = (refl, refl);
   both_become_dead = (refl, refl);
   service = service;
-  asks_for_service = (refl, refl);
+  service_replies_port_dead = (refl, refl);
   history = (((((starts, fit_ready plain_disks), begins plain_disks), submit_happens, submit_ties), reset_happens, reset_ties), service_happens, service_ties);
   kept = waiting;
   read_is_kept = ((0, omega arith, refl), refl);

@@ -39,7 +39,7 @@ use Rattle.block_machine.specs.Steps.{Step, Answer, End, Touch, AllTouched, mark
 use Rattle.block_machine.specs.declared.due.Unanswered.{Unanswered}
 use Rattle.identify.specs.declared.wanted.Wanted.TheVariants.{Any}
 use Rattle.driver_history.specs.EvidenceHandling.{ServicesReadyPort}
-use Rattle.driver_history.specs.Evidence.{IsEvidencedOf, ShowsFailure, ShowsLoss}
+use Rattle.driver_history.specs.Evidence.{IsEvidencedOf, ShowsFailure, BeganWithLinkChangeOrNoDeviceAndNoneComes}
 use Rattle.driver_history.specs.Histories.{FindsDone, IsAnsweredOk, IsIssuedOn, IsServedAndNotDead, CallCorresponds, PortCorresponds, with_issue_undone}
 use Rattle.driver_history.specs.PortInvariants.{mode_of_disk}
 use Rattle.driver_history.specs.AccessTrace.{DoesNotWriteCmd, WritesNeitherCmdNorSctl}
@@ -205,7 +205,7 @@ module _ (c : Discovery) where
         brought : (b : ℕ) → b < 512 → slice_index (first_disk_sector c.sector) b ≡ c.machine.disk_bytes (port_at 0) (c.sector + 0) b
         brought b low = tells c.sector b low ∙ (let same : c.sector ≡ c.sector + 0 = omega arith in same) ∙ sym (ap (λ (f : Port → ℕ → ℕ → ℕ). f (port_at 0) (c.sector + 0) b) is.agreed.disks.3)
 
-    quiet : (n : ℕ) → two_states (port_at n) ≡ Ready → (ShowsLoss (port_at n) before.device served_at.device → ⊥) × (ShowsFailure (before.device.port n) → ⊥)
+    quiet : (n : ℕ) → two_states (port_at n) ≡ Ready → (BeganWithLinkChangeOrNoDeviceAndNoneComes (port_at n) before.device served_at.device → ⊥) × (ShowsFailure (before.device.port n) → ⊥)
     quiet = shows_none before.device.tape c.memory c.port is.agreed.stands served_at.device
 
     pub evidenced : (n : ℕ) → IsEvidencedOf Service (Replied replies) masks before (two_ready c.disk) served_at.device nothing (port_at n)
@@ -226,10 +226,10 @@ module _ (c : Discovery) where
 
     heeds : (n : ℕ) → ServicesReadyPort before.abstract nothing steps served_at.abstract (port_at n)
     heeds n = record {
-      answers_ended = λ e here at_port done. absurd (not_ended e here done);
+      answers_ok_what_had_ended = λ e here at_port done. absurd (not_ended e here done);
       link_change_leaves_none = λ g. absurd (nowhere (port_at n) g);
       link_change_tells_alike = λ g. absurd (nowhere (port_at n) g);
-      trouble_interrupts = λ why. absurd (⊎_elim (nowhere (port_at n)) (nowhere (port_at n)) why);
+      trouble_stops_or_sticks = λ why. absurd (⊎_elim (nowhere (port_at n)) (nowhere (port_at n)) why);
       error_or_stop_leaves_no_old_issue = λ why. absurd (⊎_elim (nowhere (port_at n)) (nowhere (port_at n)) why);
       one_fault_at_most = omega arith;
       fatal_tells_no_fault = λ h. absurd (nowhere (port_at n) h);
@@ -237,7 +237,7 @@ module _ (c : Discovery) where
       is_left_alone_if_calm = inr (record {
         port_is_same = (refl, refl, refl, refl, refl, refl);
         only_ok_is_told = λ e o here at_port. inl (only_answer e o here).1;
-        is_not_interrupted = λ why. ⊎_elim (nowhere (port_at n)) (nowhere (port_at n)) why;
+        is_neither_stopped_nor_stuck = λ why. ⊎_elim (nowhere (port_at n)) (nowhere (port_at n)) why;
       });
     }
       where
@@ -266,10 +266,10 @@ module _ (c : Discovery) where
       result_matches_steps = record {
         replies_match = record { answers = (ended, outcome.Ok) ∷ []; is_permutation = IsPermutation-refl _; ordered = λ i j d less low. absurd (omega (arith, less, low)); replies_are_of_answers = refl };
         dead_ports_tell_only_port_dead = λ e o here dead. absurd (not_dead e.request.port.0 dead);
-        unplugged_empties_port = record { none_is_left = λ e other here. absurd (not_unplugged e here); none_is_told_dead = λ e other here. absurd (not_unplugged e here) };
+        unplugged_outcome_empties_port = record { none_is_left = λ e other here. absurd (not_unplugged e here); none_is_told_dead = λ e other here. absurd (not_unplugged e here) };
         none_is_due_where_ready = λ port ready. is.none_due port;
         empty_unless_ready = λ port other e here at. other (ap (λ (n : ℕ). two_states (port_at n)) (ap (λ (q : Port). q.0) (sym at) ∙ is.agreeing.first_alone e here));
-        answers_ended = λ port ready e here at_port done. absurd (true≢false (sym done ∙ is.unended e here));
+        answers_ok_what_had_ended = λ port ready e here at_port done. absurd (true≢false (sym done ∙ is.unended e here));
         port_is_serviced = λ port. stay_serviced c.disk nothing port.0 (nowhere port);
         shown_disk_was_in_or_came = λ port. inl (refl, refl, refl, refl, refl, refl);
       };

@@ -20,7 +20,7 @@ use Rattle.adapter.specs.declared.command.Operation.TheVariants.{Identify}
 use Rattle.adapter.specs.declared.tape.Entry.{Entry}
 use Rattle.refinement.specs.Acts.{DriverSlots}
 use Rattle.refinement.specs.Relation.{port_at}
-use Rattle.refinement.specs.PortFacts.{IsFaulted, IsFaultOf}
+use Rattle.refinement.specs.PortFacts.{IsHaltedPlainOrQueued, IsFaultOf}
 use Rattle.refinement.specs.Slots.{Free, Serves, SlotStates, IsMove}
 use Rattle.refinement.specs.ReadWitness.{first_id}
 use Rattle.block_machine.specs.Events.{AbstractCall, AbstractCallResult}
@@ -32,9 +32,9 @@ use Rattle.block_machine.specs.declared.due.QueueMode.{QueueMode}
 use Rattle.port_boot.specs.States.{HasFitDiskAndInterrupts}
 use Rattle.port_control.specs.Ports.{programmed_bases}
 use Rattle.error_recovery.specs.Evidence.{GainsSinceStart}
-use Rattle.driver_history.specs.Evidence.{IsEvidencedOf, ShowsFailure, ShowsLoss, TapeGainsEntry}
+use Rattle.driver_history.specs.Evidence.{IsEvidencedOf, ShowsFailure, BeganWithLinkChangeOrNoDeviceAndNoneComes, TapeGainsEntry}
 use Rattle.driver_history.specs.Histories.{IsForeignOrUnfit, ProbesDisk, LosesNoPortError}
-use Rattle.driver_history.specs.PortInvariants.{HasAllSlotsFreeAndNoneParked, ReadySlotsInvariant, IsFreeOrServes, IsQueuedAsAsked, IsUnservedAt, HasNoUnanswered, EngineRuns}
+use Rattle.driver_history.specs.PortInvariants.{HasAllSlotsFreeAndNoneParked, ReadySlotsInvariant, IsFreeOrServes, SlotCommandIsQueuedUnlessPlain, IsUnservedAt, HasNoUnanswered, EngineRuns}
 use Rattle.driver_history.specs.AccessTrace.{WritesNeitherCmdNorSctl}
 use Rattle.witnesses.specs.RunningAdapter.{page_entry, page_move}
 use Rattle.witnesses.proofs.history.Pages.{Kind}
@@ -74,7 +74,7 @@ unserved_at s i port absent quiet slots waits kept = record {
 }
 
 -- nothing has halted it
-unfaulted : IsFaulted NotHalted → ⊥
+unfaulted : IsHaltedPlainOrQueued NotHalted → ⊥
 unfaulted f = ⊎_elim (λ a. let x : NotHalted ≡ HaltedPlain = a in cc) (λ a. let x : NotHalted ≡ HaltedQueued = a in cc) f
 
 -- a port runs on which no fault is on record
@@ -86,7 +86,7 @@ runs_on port d st cr fre bases saw known linked calm whole = record {
   fre_is_set = fre;
   bases_are_programmed = bases;
   device_was_seen = saw;
-  faults_are_recorded = record { st_set_is_on_tape = known; no_link_is_due = linked; tfes_tells_fault = λ f. absurd (true≢false (sym f ∙ calm)); shows_last_fault = λ f. absurd (unfaulted (subst IsFaulted whole f)) };
+  faults_are_recorded = record { st_set_is_on_tape = known; no_link_is_due = linked; tfes_tells_fault = λ f. absurd (true≢false (sym f ∙ calm)); shows_last_fault = λ f. absurd (unfaulted (subst IsHaltedPlainOrQueued whole f)) };
 }
 
 -- the last page of its disk stands on the tape
@@ -123,7 +123,7 @@ requests_none s i port mode free unparked = record {
     unserved slot id is = let z : Free ≡ Serves id = sym (free slot) ∙ is in cc
 
 -- slot 0 of port 0 serves the one request, by a command of its kind
-pub requests_first : (i : JointState Device) (mode : QueueMode) → 1 ≤ mode.usable_slots → ((e : Pending) → Contains i.abstract.machine.book e → IsQueuedAsAsked mode i.device 0 0 e) → ReadySlotsInvariant first_slots i (port_at 0) mode
+pub requests_first : (i : JointState Device) (mode : QueueMode) → 1 ≤ mode.usable_slots → ((e : Pending) → Contains i.abstract.machine.book e → SlotCommandIsQueuedUnlessPlain mode i.device 0 0 e) → ReadySlotsInvariant first_slots i (port_at 0) mode
 requests_first i mode usable kind = record {
   slots_serve_clients = clients;
   unusable_are_free = λ slot above. low slot (omega (arith, usable, above));
@@ -140,7 +140,7 @@ requests_first i mode usable kind = record {
     low zero above = absurd (omega (arith, above))
     low (suc slot) above = refl
 
-    kinds : (slot : ℕ) (e : Pending) → Contains i.abstract.machine.book e → uses_first 0 slot ≡ Serves e.request.id → IsQueuedAsAsked mode i.device 0 slot e
+    kinds : (slot : ℕ) (e : Pending) → Contains i.abstract.machine.book e → uses_first 0 slot ≡ Serves e.request.id → SlotCommandIsQueuedUnlessPlain mode i.device 0 slot e
     kinds zero e here u = kind e here
     kinds (suc slot) e here u = absurd (let z : Free ≡ Serves e.request.id = u in cc)
 
@@ -171,7 +171,7 @@ pub record IsUnnamed (evidence : Evidence) (port : Port) : Type 0 where
   pub stuck : Contains evidence.stuck port → ⊥
 
 -- a port that shows its device, and no change
-pub unlost : (port : Port) (old new : Device) → (old.port port.0).serr_n ≡ false → (old.port port.0).serr_x ≡ false → (old.port port.0).ssts_det ≡ 3 → ShowsLoss port old new → ⊥
+pub unlost : (port : Port) (old new : Device) → (old.port port.0).serr_n ≡ false → (old.port port.0).serr_x ≡ false → (old.port port.0).ssts_det ≡ 3 → BeganWithLinkChangeOrNoDeviceAndNoneComes port old new → ⊥
 unlost port old new n x there loss = ⊎_elim (λ change. ⊎_elim (λ a. absurd (true≢false (sym a ∙ n))) (λ a. absurd (true≢false (sym a ∙ x))) change) (λ missing. missing.0 there) loss
 
 -- and one with no bit of PxIS that tells of trouble
@@ -180,10 +180,10 @@ unfailing p calm fails = ⊎_elim (λ fatal. absurd (true≢false (sym fatal.cau
 
 -- a port that isn't named, wasn't stopped, and showed no trouble if it was ready
 pub unnamed_evidenced : (ask : AbstractCall DeviceStep) (said : AbstractCallResult) (accesses : List Access) (old : JointState Device) (ports : Ports) (new : Device) (evidence : Evidence) (port : Port) → IsUnnamed evidence port
-    → (old.abstract.ports.state port ≡ Ready → (ShowsLoss port old.device new → ⊥) × (ShowsFailure (old.device.port port.0) → ⊥)) → All (WritesNeitherCmdNorSctl port) accesses
+    → (old.abstract.ports.state port ≡ Ready → (BeganWithLinkChangeOrNoDeviceAndNoneComes port old.device new → ⊥) × (ShowsFailure (old.device.port port.0) → ⊥)) → All (WritesNeitherCmdNorSctl port) accesses
     → IsEvidencedOf ask said accesses old ports new evidence port
 unnamed_evidenced ask said accesses old ports new evidence port un calm left = record {
-  named_lost_may_have_lost_disk = λ h. absurd (un.lost h);
+  named_lost_showed_loss_or_changed = λ h. absurd (un.lost h);
   shown_loss_of_ready_is_named = λ is loss. absurd ((calm is).0 loss);
   named_link_changed_had_change_or_no_device = λ h. absurd (un.gone h);
   shown_failure_of_ready_is_named = λ is f. absurd ((calm is).1 f);
@@ -241,7 +241,7 @@ each xs goes all k d low = goes _ (all k d low)
 -- where a port showed no trouble, and none came, there is none to be heeded
 pub no_trouble : (evidence : Evidence) (old : JointState Device) (ports : Ports) (new : Device) (port : Port) (gained : List Entry) → new.tape ≡ old.device.tape ++ gained → All (IsCalm port.0) gained
     → (old.abstract.ports.served port ≡ true → old.abstract.ports.state port ≡ Ready)
-    → (old.abstract.ports.state port ≡ Ready → (ShowsLoss port old.device new → ⊥) × (ShowsFailure (old.device.port port.0) → ⊥)) → LosesNoPortError evidence old ports new port
+    → (old.abstract.ports.state port ≡ Ready → (BeganWithLinkChangeOrNoDeviceAndNoneComes port old.device new → ⊥) × (ShowsFailure (old.device.port port.0) → ⊥)) → LosesNoPortError evidence old ports new port
 no_trouble evidence old ports new port gained is none served calm = record {
   ready_errors_are_handled_or_shown = λ ready why. absurd (⊎_elim (calm ready).1 (λ came. ⊎_elim faults fatals came) why);
   changes_are_handled_or_shown_unless_dead = λ tends why. absurd (⊎_elim (λ change. (calm (served tends.0)).0 (inl change)) plugs why);

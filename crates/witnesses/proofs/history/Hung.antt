@@ -123,8 +123,8 @@ restarts_hung = record {
   each_port_is_same_or_restarts = λ port. becomes port.0;
   only_timed_out_wait_again = λ e here. absurd (unrepeated e here);
   only_timed_out_are_answered = λ e o here. is_hung e.request.port (answers_first e o here);
-  answers_ended = λ port h e here at_port ended. absurd (not_ended 2 e here ended);
-  none_stays_issued = λ port h e here. absurd (nowhere e here);
+  answers_ok_what_had_ended = λ port h e here at_port ended. absurd (not_ended 2 e here ended);
+  issued_are_issued_in_steps = λ port h e here. absurd (nowhere e here);
   timed_out_iff_stopped_or_stuck = λ port. (λ h. subst (IsStoppedOrStuck (restart_evidence [])) (sym (hung_first 2 port h)) (inl (named 0)), interrupted port);
   unplugged_lost_disk = λ e here. (not_dead_then e.request.port.0, λ ready. absurd (not_ready_first e.request.port (answers_first e outcome.Unplugged here) ready));
   shown_disk_was_in_or_came = λ port h shows. inl (subst (λ (p : Port). (issued_for 2).present p ≡ true) (sym (hung_first 2 port h)) refl);
@@ -145,7 +145,7 @@ happens = record {
     replies_match = record { answers = (waiting_for 3, outcome.Unplugged) ∷ []; is_permutation = IsPermutation-refl _; ordered = λ i j d less low. absurd (omega (arith, less, low)); replies_are_of_answers = refl };
     ages_once = ages_once (answer ∷ []) refl;
     restarts_timed_out = restarts_hung;
-    unplugged_empties_port = unplugs restart is_restart;
+    unplugged_outcome_empties_port = unplugs restart is_restart;
     none_is_due_where_ready = λ port is r at_port due. absurd (nowhere r due.is_in_book);
     was_ready_empty_unless_ready = λ port is not_ready e here. absurd (nowhere e here);
   };

@@ -35,7 +35,7 @@ use Rattle.block_machine.specs.Steps.{Step, Accept, Issue, MayAccept, IsEnabled,
 use Rattle.block_machine.specs.declared.due.Unanswered.{Unanswered}
 use Rattle.identify.specs.declared.wanted.Wanted.TheVariants.{Any}
 use Rattle.driver_history.specs.Evidence.{IsEvidencedOf}
-use Rattle.driver_history.specs.Histories.{IssuesDue, IsIssuingAccess, CallCorresponds, PortCorresponds, with_issue_undone}
+use Rattle.driver_history.specs.Histories.{IssuesDue, StoresOrWritesSactOrCi, CallCorresponds, PortCorresponds, with_issue_undone}
 use Rattle.driver_history.specs.PortInvariants.{mode_of_disk}
 use Rattle.driver_history.specs.AccessTrace.{WritesNeitherCmdNorSctl}
 use Rattle.witnesses.specs.RunningAdapter.{port_or_empty, queueing_cap}
@@ -116,7 +116,7 @@ pub none_named : (port : Port) → IsUnnamed nothing port
 none_named port = record { lost = nowhere port; gone = nowhere port; failed = nowhere port; fatal = nowhere port; stopped = nowhere port; stuck = nowhere port }
 
 -- what issues on port 0 leaves each engine alone
-leaves_engine : (port : Port) (access : Access) → IsIssuingAccess (port_at 0) access → WritesNeitherCmdNorSctl port access
+leaves_engine : (port : Port) (access : Access) → StoresOrWritesSactOrCi (port_at 0) access → WritesNeitherCmdNorSctl port access
 leaves_engine port (Reading r v) i = absurd i
 leaves_engine port (Loading at bytes) i = absurd i
 leaves_engine port (Storing at bytes) i = (tt, tt)
@@ -180,7 +180,7 @@ module _ (c : Submission) where
     pub all_issued : NoneDueWhereReady submitted_at.abstract
     pub due : (port : Port) → IssuesDue (mode_of_disk queueing_cap c.disk.info) submit_steps issuing port
     pub does : DoesAll c.accesses before.device submitted_at.device
-    pub only : All (IsIssuingAccess (port_at 0)) c.accesses
+    pub only : All (StoresOrWritesSactOrCi (port_at 0)) c.accesses
 
   -- A request that was due while no other was unanswered, and is issued: so exactly what is due is issued.
   pub due_alone : with_issue_undone submit_steps (map unanswered issuing.book) ≡ unanswered (newly_accepted accepted) ∷ []

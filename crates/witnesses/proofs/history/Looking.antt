@@ -17,7 +17,7 @@ use Rattle.adapter.specs.declared.tape.Entry.TheVariants as entry
 use Rattle.refinement.specs.Relation.{port_at}
 use Rattle.witnesses.specs.AllowedAccesses.{AreAllowed}
 use Rattle.witnesses.specs.RunningAdapter.{running_device}
-use Rattle.witnesses.specs.MissingDisk.{unfit_look_accesses, missing_look_accesses}
+use Rattle.witnesses.specs.MissingDisk.{unfit_look_accesses, missing_disk_turn}
 use Rattle.witnesses.proofs.history.Booting.{rebooted, unfit}
 use Rattle.witnesses.proofs.history.Command.{read_memory}
 use Rattle.witnesses.proofs.history.Devices.{but_first, but_second, no_bit, put_device, reads, writes}
@@ -109,7 +109,7 @@ none_shown place = no_bit place ∙ sym (by (nat_eq place 6) (nat_eq place 22))
     by false true = refl
     by false false = refl
 
-unfoldable pub does : DoesAll (missing_look_accesses ++ unfit_look_accesses) unplugged looked_over
+unfoldable pub does : DoesAll (missing_disk_turn ++ unfit_look_accesses) unplugged looked_over
 does = (
   dev told (unfit 1),
   reads_here Is 0x400000 gone (λ place cause. prcs_shown place),
@@ -154,7 +154,7 @@ may_command = record {
   other_bits_are_kept = λ place low start receive. refl;
 }
 
-pub allowed : AreAllowed (missing_look_accesses ++ unfit_look_accesses) unplugged looked_over does
+pub allowed : AreAllowed (missing_disk_turn ++ unfit_look_accesses) unplugged looked_over does
 unfolding does reads_here writes_here reads_there reads writes
 allowed = (
   (record { ae_is_set = refl; no_reset = refl }, (omega arith, refl)),

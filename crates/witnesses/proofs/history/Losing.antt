@@ -10,7 +10,7 @@ use Rattle.adapter.specs.Device.{IsValidSector, DevicePort, Device}
 use Rattle.adapter.specs.FirstRead.{first_disk_sector}
 use Rattle.adapter.specs.Memory.{changed, patched}
 use Rattle.witnesses.specs.AllowedAccesses.{AreAllowed}
-use Rattle.adapter.specs.Steps.{Steps, done_entry, move_of, port_after_done, port_after_move}
+use Rattle.adapter.specs.Steps.{Steps, done_entry, move_of, port_after_done_except_lasting, port_after_move}
 use Rattle.adapter.specs.Steps.DeviceTransition.{Move, Done, Unplug}
 use Rattle.adapter.specs.declared.command.Operation.TheVariants.{Read, Trim}
 use Rattle.adapter.specs.declared.tape.Entry.{Entry}
@@ -29,7 +29,7 @@ abbrev moved : DevicePort
 moved = port_after_move taken 0 command (first_disk_sector 100)
 
 abbrev done : DevicePort
-done = port_after_done moved 0 0 Read
+done = port_after_done_except_lasting moved 0 0 Read
 
 abbrev pub tape_moved : List Entry
 tape_moved = pages ++ entry.Move (move_of 0 0 command (first_disk_sector 100)) ∷ []

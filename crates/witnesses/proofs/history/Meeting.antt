@@ -30,9 +30,9 @@ use Rattle.block_machine.specs.State.{Pending}
 use Rattle.error_recovery.specs.Evidence.{ShowsFatal}
 use Rattle.host_boot.specs.TakeOver.{wanted_of}
 use Rattle.identify.specs.declared.wanted.Wanted.TheVariants.{Any}
-use Rattle.driver_history.specs.Evidence.{TapeGainsEntry, IsEvidencedOf, ShowsFailure, ShowsLoss}
+use Rattle.driver_history.specs.Evidence.{TapeGainsEntry, IsEvidencedOf, ShowsFailure, BeganWithLinkChangeOrNoDeviceAndNoneComes}
 use Rattle.driver_history.specs.Histories.{LosesNoPortError, CallCorresponds, PortCorresponds}
-use Rattle.driver_history.specs.PortInvariants.{PortStateInvariant, DriverInvariantWith, IsQueuedAsAsked, IsReadyAt}
+use Rattle.driver_history.specs.PortInvariants.{PortStateInvariant, DriverInvariantWith, SlotCommandIsQueuedUnlessPlain, IsReadyAt}
 use Rattle.driver_history.specs.AccessTrace.{WritesNeitherCmdNorSctl}
 use Rattle.witnesses.specs.RunningAdapter.{port_or_empty, page_entry, plain_disk_mode}
 use Rattle.witnesses.proofs.history.Accepting.{both, holds_submitted, in_book, issuing, submitted_at, waiting}
@@ -91,7 +91,7 @@ knows = agreeing issuing first_slots tape_broken read_memory broken second
     (record { own_first = refl; own_second = refl; disks = (refl, refl); present = present; ids = refl; sizes = refl; bytes = refl; lasting = (refl, refl); still = refl })
     slots holds_submitted.driver_relation.state_relation.serve_distinct_requests (λ f b from small. past_driver f b from) holds_submitted.driver_relation.have_slots_unless_parked
 
-kind_of : (e : Pending) → e ≡ waiting → IsQueuedAsAsked plain_disk_mode (dev broken) 0 0 e
+kind_of : (e : Pending) → e ≡ waiting → SlotCommandIsQueuedUnlessPlain plain_disk_mode (dev broken) 0 0 e
 kind_of e is = record {
   command = read_of 100 1;
   places = piece_addresses 0x64000 1;
@@ -159,7 +159,7 @@ backed = record {
     plugs (suc zero) = refl
     plugs (suc (suc n)) = refl
 
-quiet : (n : ℕ) → both.state (port_at n) ≡ Ready → (ShowsLoss (port_at n) submitted (dev broken) → ⊥) × (ShowsFailure (submitted.port n) → ⊥)
+quiet : (n : ℕ) → both.state (port_at n) ≡ Ready → (BeganWithLinkChangeOrNoDeviceAndNoneComes (port_at n) submitted (dev broken) → ⊥) × (ShowsFailure (submitted.port n) → ⊥)
 quiet = calm submitted.tape read_memory issued refl refl refl (λ place from. refl) (dev broken)
 
 pub evidenced : (n : ℕ) → IsEvidencedOf meeting.event.call meeting.event.result [] submitted_at both (dev broken) nothing (port_at n)

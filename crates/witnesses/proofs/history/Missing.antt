@@ -32,7 +32,7 @@ use Rattle.driver_history.specs.Histories.{IsForeignOrUnfit, IsServedAndNotDead,
 use Rattle.driver_history.specs.PortInvariants.{PortStateInvariant}
 use Rattle.driver_history.specs.AccessTrace.{DoesNotWriteCmd, WritesNeitherCmdNorSctl, ResetsLink}
 use Rattle.witnesses.specs.RunningAdapter.{port_or_empty, ports_with_disks}
-use Rattle.witnesses.specs.MissingDisk.{MissingDiskIsAHistory, unfit_look_accesses, missing_look_accesses}
+use Rattle.witnesses.specs.MissingDisk.{MissingDiskIsAHistory, unfit_look_accesses, missing_disk_turn}
 use Rattle.witnesses.proofs.history.Accepting.{first, submit, submit_happens, submit_ties}
 use Rattle.witnesses.proofs.history.Booting.{rebooted, unfit}
 use Rattle.witnesses.proofs.history.Command.{read_memory}
@@ -259,10 +259,10 @@ answers : AnswersService unplugged_at.abstract evidence [] [] looked_at.abstract
 answers = record {
   replies_match = record { answers = []; is_permutation = IsPermutation-refl _; ordered = λ i j d less low. absurd (omega (arith, less, low)); replies_are_of_answers = refl };
   dead_ports_tell_only_port_dead = λ e o here. absurd (nowhere (Answer e o) here);
-  unplugged_empties_port = record { none_is_left = λ e other here. absurd (nowhere (Answer e outcome.Unplugged) here); none_is_told_dead = λ e other here. absurd (nowhere (Answer e outcome.Unplugged) here) };
+  unplugged_outcome_empties_port = record { none_is_left = λ e other here. absurd (nowhere (Answer e outcome.Unplugged) here); none_is_told_dead = λ e other here. absurd (nowhere (Answer e outcome.Unplugged) here) };
   none_is_due_where_ready = λ port ready. absurd (not_ready_then port.0 ready);
   empty_unless_ready = λ port other e here. absurd (nowhere e here);
-  answers_ended = λ port ready e here. absurd (nowhere e here);
+  answers_ok_what_had_ended = λ port ready e here. absurd (nowhere e here);
   port_is_serviced = λ port. becomes port.0;
   shown_disk_was_in_or_came = λ port. had_disk port.0;
 }
@@ -278,7 +278,7 @@ service_happens = record {
   result_matches_steps = answers;
 }
 
-stops : Stops (port_at 0) (missing_look_accesses ++ unfit_look_accesses)
+stops : Stops (port_at 0) (missing_disk_turn ++ unfit_look_accesses)
 stops = record {
   before = Reading (Px (port_at 0) Is) 0x400000 ∷ Reading (Px (port_at 0) Ssts) 0 ∷ Reading (Px (port_at 0) Cmd) 0x4010 ∷ [];
   written_cmd = 0x4010;
@@ -291,10 +291,10 @@ stops = record {
   stop_is_shown = refl;
 }
 
-of_first : WritesOf (IsOf (port_at 0)) (missing_look_accesses ++ unfit_look_accesses)
+of_first : WritesOf (IsOf (port_at 0)) (missing_disk_turn ++ unfit_look_accesses)
 of_first = (refl, (refl, tt))
 
-of_served : AreServing (IsServedAndNotDead unfit_ports) (missing_look_accesses ++ unfit_look_accesses)
+of_served : AreServing (IsServedAndNotDead unfit_ports) (missing_disk_turn ++ unfit_look_accesses)
 of_served = (tended 0 refl, (tended 0 refl, (tended 0 refl, ((λ is. cc, tended 0 refl), (tended 0 refl, ((λ is. cc, tended 0 refl), (tended 0 refl, (tended 1 refl, (tended 1 refl, tt)))))))))
   where
     tended : (n : ℕ) → unfit_ports.served (port_at n) ≡ true → IsServedAndNotDead unfit_ports (port_at n)
@@ -310,9 +310,9 @@ unnamed n = record {
   stuck = nowhere (port_at (suc n));
 }
 
-service_evidenced : (n : ℕ) → IsEvidencedOf Service (Replied []) (missing_look_accesses ++ unfit_look_accesses) unplugged_at one_absent looked_over evidence (port_at n)
+service_evidenced : (n : ℕ) → IsEvidencedOf Service (Replied []) (missing_disk_turn ++ unfit_look_accesses) unplugged_at one_absent looked_over evidence (port_at n)
 service_evidenced zero = record {
-  named_lost_may_have_lost_disk = λ h. absurd (nowhere (port_at 0) h);
+  named_lost_showed_loss_or_changed = λ h. absurd (nowhere (port_at 0) h);
   shown_loss_of_ready_is_named = λ ready loss. absurd (not_ready 0 ready);
   named_link_changed_had_change_or_no_device = λ h. absurd (nowhere (port_at 0) h);
   shown_failure_of_ready_is_named = λ ready f. absurd (not_ready 0 ready);
@@ -323,14 +323,14 @@ service_evidenced zero = record {
   named_stopped_was_stopped_or_reset = λ h. inl stops;
   stuck_only = λ h. absurd (nowhere (port_at 0) h);
 }
-service_evidenced (suc n) = unnamed_evidenced Service (Replied []) (missing_look_accesses ++ unfit_look_accesses) unplugged_at one_absent looked_over evidence (port_at (suc n)) (unnamed n) (λ ready. absurd (not_ready (suc n) ready))
-    (leaves (IsOf (port_at 0)) (port_at (suc n)) (λ is. apart (ap (λ (p : Port). p.0) is)) (λ is. apart (ap (λ (p : Port). p.0) is)) (missing_look_accesses ++ unfit_look_accesses) of_first)
+service_evidenced (suc n) = unnamed_evidenced Service (Replied []) (missing_disk_turn ++ unfit_look_accesses) unplugged_at one_absent looked_over evidence (port_at (suc n)) (unnamed n) (λ ready. absurd (not_ready (suc n) ready))
+    (leaves (IsOf (port_at 0)) (port_at (suc n)) (λ is. apart (ap (λ (p : Port). p.0) is)) (λ is. apart (ap (λ (p : Port). p.0) is)) (missing_disk_turn ++ unfit_look_accesses) of_first)
   where
     apart : suc n ≡ 0 → ⊥
     apart e = omega (arith, e)
 
 -- the first port's disk isn't there; the other's is, and shows no change
-probes : (n : ℕ) → ProbesDisk (missing_look_accesses ++ unfit_look_accesses) unplugged_at one_absent looked_over (port_at n)
+probes : (n : ℕ) → ProbesDisk (missing_disk_turn ++ unfit_look_accesses) unplugged_at one_absent looked_over (port_at n)
 probes zero = record {
   absent_with_device_is_booted_dead_or_has_plug_event = λ is. absurd (let x : Unfit 8 ≡ Absent = is in cc);
   absent_gets_first_fis_or_dead_or_no_device = λ is. absurd (let x : Unfit 8 ≡ Absent = is in cc);
@@ -354,7 +354,7 @@ probes (suc (suc n)) = record {
     not_bad (inl is) = let x : Absent ≡ Foreign = is in cc
     not_bad (inr is) = let x : Absent ≡ Unfit is.0 = is.1 in cc
 
-service_part : (n : ℕ) → PortCorresponds unplugged_at service (missing_look_accesses ++ unfit_look_accesses) (port_at n)
+service_part : (n : ℕ) → PortCorresponds unplugged_at service (missing_disk_turn ++ unfit_look_accesses) (port_at n)
 service_part n = record {
   finds_done = λ ready. absurd (not_ready n ready);
   lone_plain_faults_are_told_unless_dead = λ alone. absurd (not_ready n alone.ready);
@@ -371,7 +371,7 @@ service_part n = record {
   handles_evidence = λ ready. absurd (not_ready n ready);
 }
   where
-    boots : (n : ℕ) → SamePort unfit_ports one_absent (port_at n) ⊎ ((one_absent.state (port_at n) ≡ Dead) ⊎ ((one_absent.state (port_at n) ≡ Absent) ⊎ ResetsLink (port_at n) (missing_look_accesses ++ unfit_look_accesses)))
+    boots : (n : ℕ) → SamePort unfit_ports one_absent (port_at n) ⊎ ((one_absent.state (port_at n) ≡ Dead) ⊎ ((one_absent.state (port_at n) ≡ Absent) ⊎ ResetsLink (port_at n) (missing_disk_turn ++ unfit_look_accesses)))
     boots zero = inr (inr (inl refl))
     boots (suc n) = inl (same_past n)
 
@@ -440,8 +440,8 @@ holds_of (suc (suc n)) = unserved_at no_slots looked_at (suc (suc n)) refl refl 
 
 service_ties : CallCorresponds (Any ∷ Any ∷ []) unplugged_at service
 service_ties = record {
-  accesses = missing_look_accesses ++ unfit_look_accesses;
-  accesses_are_explained = (does, serving (IsServedAndNotDead unfit_ports) (missing_look_accesses ++ unfit_look_accesses) of_served);
+  accesses = missing_disk_turn ++ unfit_look_accesses;
+  accesses_are_explained = (does, serving (IsServedAndNotDead unfit_ports) (missing_disk_turn ++ unfit_look_accesses) of_served);
   is_backed = service_backed;
   is_evidenced = record { faults_are_told = λ f here. absurd (nowhere f here); each_port_is_evidenced = λ port. service_evidenced port.0 };
   only_failed_requeue_if_service = tt;
@@ -470,7 +470,7 @@ missing_disk_is_a_history = record {
   disk_is_unplugged = (refl, refl);
   port_0_shows_unfit_still = refl;
   service = service;
-  asks_for_service = (refl, refl);
+  service_has_no_replies = (refl, refl);
   port_0_becomes_absent = refl;
   port_1_stays_unfit = refl;
   service_makes_accesses = does;

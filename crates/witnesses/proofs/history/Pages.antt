@@ -10,7 +10,7 @@ use Rattle.identify.specs.IdentityPage.{IsFitPage, ZeroesAfterTrim, identity_wor
 use Rattle.identify.specs.declared.DiskInfo.{DiskInfo}
 use Rattle.identify.specs.declared.Unfit.TheVariants.{BadChecksum, Word83, No48Bit, SectorSize, NoFlush, NoSectors}
 use Rattle.port_boot.specs.States.{IsFitAndWanted}
-use Rattle.witnesses.specs.RunningAdapter.{fit_page, page_from_word_83, identify_page, queueing_cap, queueing_page}
+use Rattle.witnesses.specs.RunningAdapter.{fit_page, page_from_byte_167, identify_page, queueing_cap, queueing_page}
 
 -- what a page with this queue says
 abbrev pub info_with : ℕ → Bool → DiskInfo
@@ -30,7 +30,7 @@ module _ (depth queues : ℕ) where
 
   -- what the first bytes of the page are
   zero_at : (n : ℕ) → n < 150 → slice_index page n ≡ 0
-  zero_at n low = get_or_append_left (replicate 150 0) (depth ∷ 0 ∷ 0 ∷ queues ∷ (replicate 13 0 ++ page_from_word_83)) 0 n low ∙ get_or-replicate 150 n 0 0 low
+  zero_at n low = get_or_append_left (replicate 150 0) (depth ∷ 0 ∷ 0 ∷ queues ∷ (replicate 13 0 ++ page_from_byte_167)) 0 n low ∙ get_or-replicate 150 n 0 0 low
 
   zero_in : (n : ℕ) → n < 20 → slice_index (replicate 20 0) n ≡ 0
   zero_in n low = get_or-replicate 20 n 0 0 low

@@ -17,7 +17,7 @@ use Rattle.adapter.specs.declared.tape.Entry.{Entry}
 use Rattle.refinement.specs.Relation.{port_at}
 use Rattle.refinement.specs.MemoryLayout.{command_table_address}
 use Rattle.refinement.specs.Slots.{SlotDecodesTo}
-use Rattle.driver_history.specs.Histories.{IsIssuingAccess}
+use Rattle.driver_history.specs.Histories.{StoresOrWritesSactOrCi}
 use Rattle.witnesses.specs.RunningAdapter.{running_device, running_port}
 use Rattle.witnesses.proofs.history.Command.{header_to, frame_head, queued_bytes, queued_read, told_queued, zeros}
 use Rattle.witnesses.proofs.history.Devices.{but_first, other_bit, stores, writes}
@@ -115,8 +115,8 @@ neither k =
     ap (λ (b : Bool). b || bit 2 (suc (suc k))) (other_bit (suc (suc k)) (omega arith))
     ∙ (ap (λ (b : ℕ). b == 1) (bit_at-suc 2 (suc k)) ∙ other_bit (suc k) (omega arith))
 
-pub one_submits : All (IsIssuingAccess (port_at 0)) (queue_accesses 0 100 100 1)
-one_submits = All-from_recursion (IsIssuingAccess (port_at 0)) (queue_accesses 0 100 100 1) (omega arith, (omega arith, (omega arith, (inl refl, (inr refl, tt)))))
+pub one_submits : All (StoresOrWritesSactOrCi (port_at 0)) (queue_accesses 0 100 100 1)
+one_submits = All-from_recursion (StoresOrWritesSactOrCi (port_at 0)) (queue_accesses 0 100 100 1) (omega arith, (omega arith, (omega arith, (inl refl, (inr refl, tt)))))
 
-pub two_submits : All (IsIssuingAccess (port_at 0)) (queue_accesses 1 101 101 2)
-two_submits = All-from_recursion (IsIssuingAccess (port_at 0)) (queue_accesses 1 101 101 2) (omega arith, (omega arith, (omega arith, (inl refl, (inr refl, tt)))))
+pub two_submits : All (StoresOrWritesSactOrCi (port_at 0)) (queue_accesses 1 101 101 2)
+two_submits = All-from_recursion (StoresOrWritesSactOrCi (port_at 0)) (queue_accesses 1 101 101 2) (omega arith, (omega arith, (omega arith, (inl refl, (inr refl, tt)))))

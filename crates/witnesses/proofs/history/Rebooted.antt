@@ -25,7 +25,7 @@ use Rattle.refinement.specs.PreservedParts.{DoesNotWrite}
 use Rattle.refinement.specs.Slots.{IsEmptySlot, IsMove, ServesRequest}
 use Rattle.refinement.specs.Tape.{NoneByDevice, PutsInDisks}
 use Rattle.refinement.specs.ReadWitness.{first_id}
-use Rattle.block_machine.specs.Events.{AbstractCall, AbstractCallResult, UnpluggedEmptiesPort}
+use Rattle.block_machine.specs.Events.{AbstractCall, AbstractCallResult, UnpluggedOutcomeEmptiesPort}
 use Rattle.block_machine.specs.Histories.{JointState}
 use Rattle.block_machine.specs.Expected.{AllStepsFaithful, after}
 use Rattle.block_machine.specs.Ports.{PortsWellFormed, Evidence, MayBecome, Ports, SamePort}
@@ -33,7 +33,7 @@ use Rattle.block_machine.specs.State.{Machine, Pending}
 use Rattle.block_machine.specs.Steps.{Step, Answer}
 use Rattle.host_boot.specs.TakeOver.{wanted_of}
 use Rattle.identify.specs.declared.wanted.Wanted.TheVariants.{Any}
-use Rattle.driver_history.specs.Evidence.{IsEvidencedOf, ShowsFailure, ShowsLoss}
+use Rattle.driver_history.specs.Evidence.{IsEvidencedOf, ShowsFailure, BeganWithLinkChangeOrNoDeviceAndNoneComes}
 use Rattle.error_recovery.specs.Evidence.{ShowsFatal}
 use Rattle.driver_history.specs.Histories.{FindsDone, IsAnsweredOk, LosesNoPortError, RunsWellAnew}
 use Rattle.driver_history.specs.PortInvariants.{PortStateInvariant, DriverInvariantWith, IsReadyAt, IsStoppedAt}
@@ -260,7 +260,7 @@ module _ (c : Restart) where
     pub plugged : issued.plug_history ≡ c.port.plug_history ++ []
 
   module _ (is : IsRestart) where
-    pub there : (n : ℕ) → both.state (port_at n) ≡ Ready → ShowsLoss (port_at n) old_device after_it → ⊥
+    pub there : (n : ℕ) → both.state (port_at n) ≡ Ready → BeganWithLinkChangeOrNoDeviceAndNoneComes (port_at n) old_device after_it → ⊥
     there zero ready = unlost (port_at 0) old_device after_it is.no_change.0 is.no_change.1 is.device
     there (suc zero) ready = unlost (port_at 1) old_device after_it refl refl refl
     there (suc (suc n)) ready = absurd (let x : Absent ≡ Ready = ready in cc)
@@ -285,7 +285,7 @@ module _ (c : Restart) where
 
     pub evidenced : (n : ℕ) → IsEvidencedOf c.ask c.said accesses old one after_it evidence (port_at n)
     evidenced zero = record {
-      named_lost_may_have_lost_disk = λ h. inr (inr (inr (not_dead_then 0, λ ready. absurd (not_ready_then ready))));
+      named_lost_showed_loss_or_changed = λ h. inr (inr (inr (not_dead_then 0, λ ready. absurd (not_ready_then ready))));
       shown_loss_of_ready_is_named = λ ready loss. absurd (there 0 ready loss);
       named_link_changed_had_change_or_no_device = λ h. absurd (nowhere (port_at 0) h);
       shown_failure_of_ready_is_named = λ ready f. is.failed_all f;
@@ -307,7 +307,7 @@ module _ (c : Restart) where
     none_ok e a = let same : outcome.Ok ≡ outcome.Unplugged = is.told a.0 outcome.Ok a.2 in cc
 
     -- and no request is left
-    pub unplugs : UnpluggedEmptiesPort c.steps answered
+    pub unplugs : UnpluggedOutcomeEmptiesPort c.steps answered
     unplugs = record {
       none_is_left = λ e other here there. absurd (nowhere other there);
       none_is_told_dead = λ e other here there. absurd (let x : outcome.PortDead ≡ outcome.Unplugged = is.told other outcome.PortDead there in cc);

@@ -36,7 +36,7 @@ use Rattle.host_boot.specs.TakeOver.{wanted_of}
 use Rattle.identify.specs.declared.wanted.Wanted.TheVariants.{Any}
 use Rattle.error_recovery.specs.Evidence.{GainsSinceStart}
 use Rattle.driver_history.specs.EvidenceHandling.{ServicesReadyPort}
-use Rattle.driver_history.specs.Evidence.{TapeGainsEntry, IsEvidencedOf, ShowsLoss, ShowsFailure}
+use Rattle.driver_history.specs.Evidence.{TapeGainsEntry, IsEvidencedOf, BeganWithLinkChangeOrNoDeviceAndNoneComes, ShowsFailure}
 use Rattle.driver_history.specs.Histories.{CallCorresponds, PortCorresponds, FindsDone, IsAnsweredOk, IsIssuedOn, LosesNoPortError, RunsWellAnew, IsServedAndNotDead}
 use Rattle.driver_history.specs.PortInvariants.{PortStateInvariant, DriverInvariantWith, IsReadyAt}
 use Rattle.driver_history.specs.AccessTrace.{DoesNotWriteCmd}
@@ -162,12 +162,12 @@ of_served = (tended, (tended, (tended, (tended, ((λ is. cc, tended), (tended, (
     tended : IsServedAndNotDead both (port_at 0)
     tended = (refl, not_dead 0)
 
-quiet : (n : ℕ) → both.state (port_at n) ≡ Ready → (ShowsLoss (port_at n) submitted recovered → ⊥) × (ShowsFailure (submitted.port n) → ⊥)
+quiet : (n : ℕ) → both.state (port_at n) ≡ Ready → (BeganWithLinkChangeOrNoDeviceAndNoneComes (port_at n) submitted recovered → ⊥) × (ShowsFailure (submitted.port n) → ⊥)
 quiet = calm submitted.tape read_memory issued refl refl refl (λ place from. refl) recovered
 
 evidenced_of : (n : ℕ) → IsEvidencedOf Service (Replied replies) recovery_accesses submitted_at both recovered fault_evidence (port_at n)
 evidenced_of zero = record {
-  named_lost_may_have_lost_disk = λ h. absurd (nowhere (port_at 0) h);
+  named_lost_showed_loss_or_changed = λ h. absurd (nowhere (port_at 0) h);
   shown_loss_of_ready_is_named = λ is loss. absurd ((quiet 0 is).0 loss);
   named_link_changed_had_change_or_no_device = λ h. absurd (nowhere (port_at 0) h);
   shown_failure_of_ready_is_named = λ is f. named 0;
@@ -202,10 +202,10 @@ service_finds (suc n) e on = absurd (none_there 0 n e on)
 
 heeds : (n : ℕ) → both.state (port_at n) ≡ Ready → ServicesReadyPort submitted_at.abstract fault_evidence (answer ∷ []) recovered_at.abstract (port_at n)
 heeds zero is = record {
-  answers_ended = λ e here at_port ended. absurd (not_ended 0 e here ended);
+  answers_ok_what_had_ended = λ e here at_port ended. absurd (not_ended 0 e here ended);
   link_change_leaves_none = λ g. absurd (nowhere (port_at 0) g);
   link_change_tells_alike = λ g. absurd (nowhere (port_at 0) g);
-  trouble_interrupts = λ why. inl (named 0);
+  trouble_stops_or_sticks = λ why. inl (named 0);
   error_or_stop_leaves_no_old_issue = λ why e here. absurd (nowhere e here);
   one_fault_at_most = omega arith;
   fatal_tells_no_fault = λ h. absurd (nowhere (port_at 0) h);
@@ -312,10 +312,10 @@ happens = record {
   result_matches_steps = record {
     replies_match = record { answers = (waiting, outcome.DeviceError 0x41 0x40) ∷ []; is_permutation = IsPermutation-refl _; ordered = λ i j d less low. absurd (omega (arith, less, low)); replies_are_of_answers = refl };
     dead_ports_tell_only_port_dead = λ e o here is. absurd (not_dead e.request.port.0 is);
-    unplugged_empties_port = record { none_is_left = λ e other here. absurd (unplugged_not e here); none_is_told_dead = λ e other here. absurd (unplugged_not e here) };
+    unplugged_outcome_empties_port = record { none_is_left = λ e other here. absurd (unplugged_not e here); none_is_told_dead = λ e other here. absurd (unplugged_not e here) };
     none_is_due_where_ready = λ port is r at_port due. absurd (nowhere r due.is_in_book);
     empty_unless_ready = λ port other e here. absurd (nowhere e here);
-    answers_ended = λ port is e here at_port done. absurd (not_ended 0 e here done);
+    answers_ok_what_had_ended = λ port is e here at_port done. absurd (not_ended 0 e here done);
     port_is_serviced = λ port. stay_serviced plain_disks fault_evidence port.0 (nowhere port);
     shown_disk_was_in_or_came = λ port. inl (refl, refl, refl, refl, refl, refl);
   };
@@ -346,7 +346,7 @@ recovery_ties = record {
   submits = (refl, refl);
   ready = refl;
   service = service;
-  asks_for_service = (refl, refl);
+  service_replies_device_error = (refl, refl);
   evidence = refl;
   port_0_stays_ready = refl;
   port_runs_well = runs_well;

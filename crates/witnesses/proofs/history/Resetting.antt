@@ -150,7 +150,7 @@ answers : AnswersReset submitted_at.abstract evidence steps replies rebooted_at.
 answers = record {
   replies_match = record { answers = (waiting, outcome.Unplugged) ∷ []; is_permutation = IsPermutation-refl _; ordered = λ i j d less low. absurd (omega (arith, less, low)); replies_are_of_answers = refl };
   releases_once = record { later = answer ∷ []; earlier = []; release_splits_steps = refl; earlier_are_by_device = tt; no_other_release = refl };
-  unplugged_empties_port = record {
+  unplugged_outcome_empties_port = record {
     none_is_left = λ e other here there. absurd (nowhere other there);
     none_is_told_dead = λ e other here there. absurd (let x : outcome.PortDead ≡ outcome.Unplugged = (the_answer other outcome.PortDead there).1 in cc);
   };
@@ -158,7 +158,7 @@ answers = record {
   none_is_due_where_ready = λ port is r at_port due. absurd (nowhere r due.is_in_book);
   empty_unless_ready = λ port other e here. absurd (nowhere e here);
   port_may_become = λ port. becomes port.0;
-  none_stays_issued = λ port e here. absurd (nowhere e here);
+  issued_are_issued_in_steps = λ port e here. absurd (nowhere e here);
   served_are_stopped = λ port. stopped_served port.0;
   shown_disk_was_in_or_came = λ port shows. inl (had port.0 shows);
 }
@@ -241,7 +241,7 @@ evidenced : (n : ℕ) → IsEvidencedOf Reset (WasReset (Some replies)) reset_an
 evidenced n =
     let quiet = calm submitted.tape read_memory issued refl refl refl (λ place from. refl) rebooted n in
     record {
-      named_lost_may_have_lost_disk = λ h. inr (inr (inr (not_dead n, λ ready. absurd (not_ready n ready))));
+      named_lost_showed_loss_or_changed = λ h. inr (inr (inr (not_dead n, λ ready. absurd (not_ready n ready))));
       shown_loss_of_ready_is_named = λ is loss. absurd ((quiet is).0 loss);
       named_link_changed_had_change_or_no_device = λ h. absurd (nowhere (port_at n) h);
       shown_failure_of_ready_is_named = λ is f. absurd ((quiet is).1 f);

@@ -138,7 +138,7 @@ module _ (c : Outset) where
   closes = reads_after tape (FrFall 0) closing (unheard closing) Cmd 0 (refl, refl, refl) (alike tape closing (unheard closing)) (refl, refl, refl, refl)
 
   comes_up : Reads (Px (port_at 0) Ssts) 3 (dev tape awaiting) (dev tape shown)
-  comes_up = reads_after tape (LinkUp 0 0xeb140101 false) awaiting (up awaiting) Ssts 3 (record { present = refl; no_comreset = refl; link_is_due = refl; sig_fits = omega arith }) (alike tape awaiting (up awaiting)) refl
+  comes_up = reads_after tape (LinkUp 0 0xeb140101 false) awaiting (up awaiting) Ssts 3 (record { present = refl; no_comreset = refl; link_is_due = refl; sig_is_32_bit = omega arith }) (alike tape awaiting (up awaiting)) refl
 
   resets : DoesAll comreset_accesses (dev tape hearing) (dev tape unfit)
   resets = (dev tape sending, writes_here tape Sctl 1 hearing, (dev tape awaiting, writes_here tape Sctl 0 sending, (dev tape shown, comes_up, (dev tape unchanged, writes_here tape Serr 0xffffffff shown, (dev tape quieted, writes_here tape Is 0xffffffff unchanged, (dev tape idle, reads_here tape Tfd 0x77 quieted refl, (dev tape unfit, reads_here tape Sig 0xeb140101 idle refl, refl)))))))

@@ -16,7 +16,7 @@ use Rattle.block_machine.specs.Rules.{HasRow}
 use Rattle.block_machine.specs.State.{Pending}
 use Rattle.block_machine.specs.Steps.{Answer, Revoke, Step}
 use Rattle.identify.specs.declared.wanted.Wanted.TheVariants.{Any}
-use Rattle.driver_history.specs.Histories.{IsIssuingAccess, CallCorresponds, PortCorresponds}
+use Rattle.driver_history.specs.Histories.{StoresOrWritesSactOrCi, CallCorresponds, PortCorresponds}
 use Rattle.driver_history.specs.AccessTrace.{WritesNeitherCmdNorSctl}
 use Rattle.witnesses.specs.Revocation.{RevocationIsAHistory}
 use Rattle.witnesses.proofs.history.Accepting.{asked, both, first, in_book, issued_agrees, issued_at, issued_under, submit, submit_happens, submit_parts, submit_ties, waiting_for}
@@ -88,7 +88,7 @@ part n = record {
 unfoldable ties : CallCorresponds (Any ∷ Any ∷ []) (issued_at 0) revoke
 ties = record {
   accesses = [];
-  accesses_are_explained = (refl, ((row 0, (0, omega arith, refl), (refl, refl)), All-nil (IsIssuingAccess (port_at 0)), λ ready. refl));
+  accesses_are_explained = (refl, ((row 0, (0, omega arith, refl), (refl, refl)), All-nil (StoresOrWritesSactOrCi (port_at 0)), λ ready. refl));
   is_backed = record {
     telling_is_same = refl;
     new_entries = [];

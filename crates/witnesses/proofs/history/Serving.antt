@@ -14,12 +14,12 @@ use Rattle.refinement.specs.Relation.{ServeDistinctRequests, SameClientFrames}
 use Rattle.refinement.specs.MemoryLayout.{sector_address}
 use Rattle.refinement.specs.Slots.{IsDropped, IsEnded, IsEmptySlot, IsMove, RelatesSlot, Serves, IsTakenFor, ServesRequest, IsInSomeStage, SlotDecodesTo, AwaitsFetch, client_operation_of}
 use Rattle.refinement.specs.ReadWitness.{first_id}
-use Rattle.block_machine.specs.DueRequests.{NoneDue, waits_for, is_unblocked, is_plain}
+use Rattle.block_machine.specs.DueRequests.{NoneDue, waits_for, is_waiting_and_unblocked, is_plain}
 use Rattle.block_machine.specs.State.{Block, Machine, Pending}
 use Rattle.block_machine.specs.Steps.{newly_issued, newly_accepted}
 use Rattle.block_machine.specs.declared.due.QueueMode.{QueueMode}
 use Rattle.block_machine.specs.declared.due.Unanswered.{Unanswered}
-use Rattle.driver_history.specs.PortInvariants.{IsQueuedAsAsked, mode_of_disk}
+use Rattle.driver_history.specs.PortInvariants.{SlotCommandIsQueuedUnlessPlain, mode_of_disk}
 use Rattle.witnesses.specs.RunningAdapter.{queueing_cap}
 use Rattle.witnesses.proofs.history.Holding.{first_slots, requests_first, answers_first_only, uses_first}
 use Rattle.witnesses.proofs.history.Issuing.{accepted_as}
@@ -106,8 +106,8 @@ module _ (disk : Kind) (m : Machine) (more : List Entry) (memory : ℕ → ℕ) 
     slots zero = serves_one m memory p 0 c first_id k n held age (ap (λ (q : DevicePort). q.bases.clb) has.stands.same) (omega arith) (subst (λ (es : List Pending). Contains es the_request) (sym has.book) (0, omega arith, refl)) has.op has.first has.told has.stage
     slots (suc slot) = has.others slot
 
-    kind_of : (e : Pending) → e ≡ the_request → IsQueuedAsAsked mode (served_with disk first_slots m more memory p) 0 0 e
-    kind_of e is = subst (IsQueuedAsAsked mode (served_with disk first_slots m more memory p) 0 0) (sym is) (record {
+    kind_of : (e : Pending) → e ≡ the_request → SlotCommandIsQueuedUnlessPlain mode (served_with disk first_slots m more memory p) 0 0 e
+    kind_of e is = subst (SlotCommandIsQueuedUnlessPlain mode (served_with disk first_slots m more memory p) 0 0) (sym is) (record {
       command = c;
       places = piece_addresses (4096 * n) 1;
       slot_decodes_to = subst (λ (at : ℕ). SlotDecodesTo memory at 0 0 c (piece_addresses (4096 * n) 1)) (sym (ap (λ (q : DevicePort). q.bases.clb) has.stands.same)) has.told;
@@ -136,5 +136,5 @@ module _ (disk : Kind) (m : Machine) (more : List Entry) (memory : ℕ → ℕ) 
 -- no request is due where each is issued
 pub none_due : (mode : QueueMode) (book : List Unanswered) → ((r : Unanswered) → Contains book r → r.issued ≡ true) → (port : Port) → NoneDue mode book port
 none_due mode book all port r at_port due =
-    let held : is_unblocked mode book r ≡ false = ap (λ (issued : Bool). not issued && not (list_any (waits_for mode r) book)) (all r due.is_in_book) in
+    let held : is_waiting_and_unblocked mode book r ≡ false = ap (λ (issued : Bool). not issued && not (list_any (waits_for mode r) book)) (all r due.is_in_book) in
     absurd (true≢false (sym due.waits_and_nothing_blocks ∙ held))

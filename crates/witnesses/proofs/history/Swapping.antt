@@ -11,7 +11,7 @@ use Rattle.adapter.specs.Device.{Disk, DevicePort, FetchedCommand, Device}
 use Rattle.adapter.specs.FirstRead.{first_disk_sector}
 use Rattle.adapter.specs.Memory.{changed, patched}
 use Rattle.adapter.specs.Decoding.{DecodesTo, piece_addresses}
-use Rattle.adapter.specs.Steps.{admits, MayBring, IsUnmixed, IsWorking, Steps, newly_fetched, done_entry, move_of, port_after_done, port_after_fetch, port_after_move}
+use Rattle.adapter.specs.Steps.{admits, MayBring, IsUnmixed, IsWorking, Steps, newly_fetched, done_entry, move_of, port_after_done_except_lasting, port_after_fetch, port_after_move}
 use Rattle.adapter.specs.Steps.DeviceTransition.{Fetch, Move, Done}
 use Rattle.adapter.specs.declared.command.Operation.TheVariants.{ReadQueued, Trim}
 use Rattle.adapter.specs.declared.tape.Entry.{Entry}
@@ -35,7 +35,7 @@ reads_into k n = newly_fetched (queued_read k) (piece_addresses (4096 * n) 1)
 
 -- the sector is moved, and the command ends with a Set Device Bits FIS
 abbrev pub finished : ℕ → ℕ → ℕ → DevicePort → DevicePort
-finished slot k n p = port_after_done (port_after_move p slot (reads_into k n) (first_disk_sector k)) slot 3 ReadQueued
+finished slot k n p = port_after_done_except_lasting (port_after_move p slot (reads_into k n) (first_disk_sector k)) slot 3 ReadQueued
 
 works : (p : DevicePort) → Stands p → IsWorking p ReadQueued
 works p stands = record {

@@ -19,7 +19,7 @@ use Rattle.block_machine.specs.State.{Block, Machine, Pending, unanswered}
 use Rattle.block_machine.specs.Steps.{Accept, Issue, IsEnabled, newly_accepted}
 use Rattle.block_machine.specs.declared.due.Unanswered.{Unanswered}
 use Rattle.driver_history.specs.Histories.{IssuesDue}
-use Rattle.driver_history.specs.PortInvariants.{ReadySlotsInvariant, IsFreeOrServes, IsQueuedAsAsked}
+use Rattle.driver_history.specs.PortInvariants.{ReadySlotsInvariant, IsFreeOrServes, SlotCommandIsQueuedUnlessPlain}
 use Rattle.witnesses.specs.RunningAdapter.{queued_disk_mode, running_port}
 use Rattle.witnesses.proofs.history.Command.{queued_read, zeros}
 use Rattle.witnesses.proofs.history.Devices.{other_bit}
@@ -196,7 +196,7 @@ two_requests = record {
     kind_of : (e : Pending) → Contains both_issuing.book e → true ≡ not (is_plain queued_disk_mode e.request.asked.op)
     kind_of = each_has (λ x. true ≡ not (is_plain queued_disk_mode x.request.asked.op)) refl refl
 
-    kinds : (slot : ℕ) (e : Pending) → Contains both_issuing.book e → two_uses 0 slot ≡ Serves e.request.id → IsQueuedAsAsked queued_disk_mode (issued_on.submitted_at submission_two).device 0 slot e
+    kinds : (slot : ℕ) (e : Pending) → Contains both_issuing.book e → two_uses 0 slot ≡ Serves e.request.id → SlotCommandIsQueuedUnlessPlain queued_disk_mode (issued_on.submitted_at submission_two).device 0 slot e
     kinds zero e here u = record { command = queued_read 100; places = piece_addresses 0x64000 1; slot_decodes_to = first_told; is_queued_if_not_plain = kind_of e here }
     kinds (suc zero) e here u = record { command = queued_read 101; places = piece_addresses 0x65000 1; slot_decodes_to = second_told; is_queued_if_not_plain = kind_of e here }
     kinds (suc (suc slot)) e here u = absurd (let x : Free ≡ Serves e.request.id = u in cc)

@@ -20,7 +20,7 @@ const SECTORS: u32 = 256;
 const SERIAL: [u8; 20] = *b"IMAGEDISK           ";
 
 /// A disk is wanted in port 0, and none in the others.
-const IMAGE_DISK: [Wanted; PORTS] = [
+const ONLY_IMAGE_DISK_WANTED: [Wanted; PORTS] = [
     Wanted::Serial(SERIAL),
     Wanted::Nothing,
     Wanted::Nothing,
@@ -265,7 +265,7 @@ fn taken_over<A: Adapter>(adapter: &mut A, r: Reg) -> (ProbeResult, u32)
     requires idle { IsIdle (A.device adapter.old) }
     requires room { DRIVER_BYTES ≤ (A.device adapter.old).memory_size }
 {
-    let host = take_over(adapter, &IMAGE_DISK);
+    let host = take_over(adapter, &ONLY_IMAGE_DISK_WANTED);
     let shown = match r {
         Reg::Cap => adapter.read(Reg::Cap),
         Reg::Pi => adapter.read(Reg::Pi),

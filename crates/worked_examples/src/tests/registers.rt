@@ -15,7 +15,7 @@ fn bits_of_the_adapter(rt: HostRuntime) {
     let capabilities = Capabilities(0x4000_1f03);
     let found = (
         capabilities.has_ncq(),
-        capabilities.last_port(),
+        capabilities.port_count_less_one(),
         capabilities.last_slot(),
     );
     assert_eq!(rt; found, (true, 3, 31));
@@ -50,7 +50,10 @@ fn bits_of_a_link(rt: HostRuntime) {
     let errors = SataError::X | SataError::N;
     assert_eq!(rt; errors, SataError(0x0401_0000));
     assert_eq!(rt;
-        (errors.has_exchanged(), errors.has_phy_ready_change()),
+        (
+            errors.has_device_presence_change(),
+            errors.has_phy_ready_change()
+        ),
         (true, true)
     );
 }

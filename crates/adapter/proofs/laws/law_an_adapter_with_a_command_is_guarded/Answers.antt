@@ -4,5 +4,5 @@ use Rattle.adapter.proofs.laws.law_an_adapter_with_a_command_is_guarded.Goals as
 pub returns-clause-guarded : goal.returns-clause-guarded
 returns-clause-guarded c = λ port slot d one. command_is_guarded d port slot one
 
-pub returns-clause-bytes_are_unowned : goal.returns-clause-bytes_are_unowned
-returns-clause-bytes_are_unowned c = λ port slot at n d one. elsewhere_free d port slot one at n
+pub returns-clause-device_owns_no_bytes : goal.returns-clause-device_owns_no_bytes
+returns-clause-device_owns_no_bytes c = λ port slot at n d one. elsewhere_free d port slot one at n

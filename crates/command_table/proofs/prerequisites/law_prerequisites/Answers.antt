@@ -11,7 +11,7 @@ returns c = record {
   };
   access_keeps_on = c.law_adapter_stays.ensures.stays_on;
   access_keeps_adapter = c.law_adapter_stays.ensures.access_keeps_adapter;
-  storable_bytes_are_unowned = c.law_driver_stores_are_permitted.ensures;
+  device_owns_no_storable_bytes = c.law_driver_stores_are_permitted.ensures;
   store_keeps_tables = c.law_tables_and_idle_scratch_are_kept.ensures.stores;
   kept_tables_keep_meaning = c.law_stored_commands_stay.ensures.told;
   store_keeps_other_tables = c.law_stored_commands_stay.ensures.beside;

@@ -18,7 +18,7 @@ returns-clause-one_more_task c =
         more = c.law_acts_compose.ensures.acts_join;
         accesses = c.law_acts_compose.ensures.accesses;
         steps = c.law_acts_compose.ensures.steps;
-        device = c.law_histories_compose.ensures.device_steps_join;
+        device = c.law_device_and_faithful_step_lists_compose.ensures.device_steps_join;
       };
       stays = c.law_stored_stays_over_acts.ensures;
       misses = c.law_stored_commands_stay.ensures.misses;

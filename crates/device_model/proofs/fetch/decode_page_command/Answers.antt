@@ -1,42 +1,35 @@
-use Rattle.std.proofs.Common.{true, ◌≡◌, ◌∙◌, ap, subst, sym, Some}
+use Rattle.std.proofs.Common.{true, ◌≡◌, ◌∙◌, subst, sym, Some}
 use Rattle.byteorder.specs.Endian.{little_from}
-use Rattle.adapter.specs.Commands.{command_of}
+use Rattle.adapter.specs.Commands.{sends_page}
 use Rattle.adapter.specs.declared.command.Operation.{Operation}
 use Rattle.device_model.proofs.Absurd.{some-none, true-false}
-use Rattle.device_model.specs.Finishing.{sends_page}
-use Rattle.device_model.specs.PortView.{operation_of_kind}
-use Rattle.device_model.specs.declared.port.CommandKind.{CommandKind}
-use Rattle.device_model.proofs.Transfers.{kind_of_operation}
 use Rattle.device_model.proofs.fetch.decode_page_command.Goals as goal
 
-pub returns-in_err-command_kind-clause-complete : goal.returns-in_err-command_kind-clause-complete
-returns-in_err-command_kind-clause-complete c = λ none m places sends s.
-    let t = kind_of_operation m.operation in
+pub returns-in_err-operation-clause-complete : goal.returns-in_err-operation-clause-complete
+returns-in_err-operation-clause-complete c = λ none m places sends s.
     let header = rw c.header_place.ensures at c.header_bytes-header.ensures in
     let points : little_from 8 4 c.header_bytes-header.result ≡ s.table = rw (← header) at s.header.table_address_is in
     let fis = rw points at c.command_fis_bytes-fis.ensures in
     let code = rw (← fis) at s.fis.code in
-    let its = c.kind_of_code.ensures t.0 c.args.slot m.first m.count (ap (λ (o : Operation). (command_of o c.args.slot m.first m.count).code) (sym t.1) ∙ sym code) in
-    some-none its c.in_err-command_kind.was
+    let its = c.operation_of_code.ensures m.operation c.args.slot m.first m.count (sym code) in
+    some-none its c.in_err-operation.was
 
 pub returns-then-not-sends_page-clause-complete : goal.returns-then-not-sends_page-clause-complete
 returns-then-not-sends_page-clause-complete c = λ none m places sends s.
-    let t = kind_of_operation m.operation in
     let header = rw c.header_place.ensures at c.header_bytes-header.ensures in
     let points : little_from 8 4 c.header_bytes-header.result ≡ s.table = rw (← header) at s.header.table_address_is in
     let fis = rw points at c.command_fis_bytes-fis.ensures in
     let code = rw (← fis) at s.fis.code in
-    let its = c.kind_of_code.ensures t.0 c.args.slot m.first m.count (ap (λ (o : Operation). (command_of o c.args.slot m.first m.count).code) (sym t.1) ∙ sym code) in
-    let same : t.0 ≡ c.in_ok-command_kind.command_kind = let z : Some t.0 ≡ Some c.in_ok-command_kind.command_kind = sym its ∙ c.in_ok-command_kind.was in cc in
-    true-false (subst (λ (k : CommandKind). sends_page (operation_of_kind k) ≡ true) same (ap sends_page (sym t.1) ∙ sends)) (sym c.sends_page.ensures ∙ c.if-not-sends_page.true)
+    let its = c.operation_of_code.ensures m.operation c.args.slot m.first m.count (sym code) in
+    let same : m.operation ≡ c.in_ok-operation.operation = let z : Some m.operation ≡ Some c.in_ok-operation.operation = sym its ∙ c.in_ok-operation.was in cc in
+    true-false (subst (λ (k : Operation). sends_page k ≡ true) same sends) (sym c.sends_page.ensures ∙ c.if-not-sends_page.true)
 
 pub returns-else-decode_command-clause-complete : goal.returns-else-decode_command-clause-complete
 returns-else-decode_command-clause-complete c = λ none m places sends s.
-    let t = kind_of_operation m.operation in
     let header = rw c.header_place.ensures at c.header_bytes-header.ensures in
     let points : little_from 8 4 c.header_bytes-header.result ≡ s.table = rw (← header) at s.header.table_address_is in
     let fis = rw points at c.command_fis_bytes-fis.ensures in
     let code = rw (← fis) at s.fis.code in
-    let its = c.kind_of_code.ensures t.0 c.args.slot m.first m.count (ap (λ (o : Operation). (command_of o c.args.slot m.first m.count).code) (sym t.1) ∙ sym code) in
-    let same : t.0 ≡ c.in_ok-command_kind.command_kind = let z : Some t.0 ≡ Some c.in_ok-command_kind.command_kind = sym its ∙ c.in_ok-command_kind.was in cc in
-    c.decode_command.ensures.only c.if-decode_command.false c.args.list header m places (t.1 ∙ ap operation_of_kind same) s
+    let its = c.operation_of_code.ensures m.operation c.args.slot m.first m.count (sym code) in
+    let same : m.operation ≡ c.in_ok-operation.operation = let z : Some m.operation ≡ Some c.in_ok-operation.operation = sym its ∙ c.in_ok-operation.was in cc in
+    c.decode_command.ensures.only c.if-decode_command.false c.args.list header m places same s

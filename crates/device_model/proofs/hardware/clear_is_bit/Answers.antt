@@ -1,7 +1,7 @@
 use Rattle.std.proofs.Common.{rules, Bool, true, false, ◌≡◌, ◌<◌, ◌≤◌, ◌∙◌, sym, refl, length}
 use Rattle.std.specs.Prelude.{if◌then◌else◌}
 use Rattle.adapter.specs.Access.{port_after_hba_is_write}
-use Rattle.device_model.specs.PortView.{Media, port_after_hba_is_bits, port_of, blank_port}
+use Rattle.device_model.specs.PortView.{Media, port_after_hba_is_bits, port_of, reset_port_without_disk}
 use Rattle.device_model.proofs.EachPort.{none_done, skip_port, change_port, all_done}
 use Rattle.device_model.proofs.SlotLemmas.{at_port}
 use Rattle.device_model.proofs.hardware.clear_is_bit.Goals as goal
@@ -25,7 +25,7 @@ loop-port-preserved c =
           rw w.ports-is (skip_port f c.args.ports.now c.loop-port.ports c.loop-port.port (λ p. rw zero refl) c.loop-port.invariant)
     ]
 
-blank_stays : (b : Bool) (m : Media) → (if b then port_after_hba_is_write (port_of blank_port m) else port_of blank_port m) ≡ port_of blank_port m
+blank_stays : (b : Bool) (m : Media) → (if b then port_after_hba_is_write (port_of reset_port_without_disk m) else port_of reset_port_without_disk m) ≡ port_of reset_port_without_disk m
 blank_stays true m = refl
 blank_stays false m = refl
 

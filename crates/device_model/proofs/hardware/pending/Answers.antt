@@ -4,8 +4,8 @@ use Rattle.std.proofs.lemmas.Bool.{cases_eq}
 use Rattle.std.proofs.lemmas.List.{get_or_past}
 use Rattle.std.proofs.lemmas.Nat.Bits.{bit_at-pow_same, bit_at-pow_other, bit_at-zero}
 use Rattle.hba_regs.specs.Bits.{bit}
-use Rattle.adapter.specs.Access.{is_pending}
-use Rattle.device_model.specs.PortView.{port_of, blank_port}
+use Rattle.adapter.specs.Access.{is_ips_set}
+use Rattle.device_model.specs.PortView.{port_of, reset_port_without_disk}
 use Rattle.device_model.proofs.BitLemmas.{bit-or}
 use Rattle.device_model.proofs.SlotLemmas.{at_port}
 use Rattle.device_model.proofs.hardware.pending.Goals as goal
@@ -49,16 +49,16 @@ module _ (a b c d : Bool) where
 pub returns : goal.returns
 returns c = λ m port low.
     let ports = c.args.ports.now in
-    let w : Bool = c.is_pending.result in
-    let x : Bool = c.is_pending-2.result in
-    let y : Bool = c.is_pending-3.result in
-    let z : Bool = c.is_pending-4.result in
+    let w : Bool = c.is_ips_set.result in
+    let x : Bool = c.is_ips_set-2.result in
+    let y : Bool = c.is_ips_set-3.result in
+    let z : Bool = c.is_ips_set-4.result in
     let four : length ports ≡ 4 = search rules in
-    let P : ℕ → Type 0 = λ k. bit (word w x y z) k ≡ is_pending (port_of (slice_index_or ports k blank_port) m) in
-    let at_0 : P 0 = first w x y z ∙ (rw (at_port ports 0 c.index-ports-0.result (omega (arith, four))) at (c.is_pending.ensures m)) in
-    let at_1 : P 1 = second w x y z ∙ (rw (at_port ports 1 c.index-ports-1.result (omega (arith, four))) at (c.is_pending-2.ensures m)) in
-    let at_2 : P 2 = third w x y z ∙ (rw (at_port ports 2 c.index-ports-2.result (omega (arith, four))) at (c.is_pending-3.ensures m)) in
-    let at_3 : P 3 = fourth w x y z ∙ (rw (at_port ports 3 c.index-ports-3.result (omega (arith, four))) at (c.is_pending-4.ensures m)) in
+    let P : ℕ → Type 0 = λ k. bit (word w x y z) k ≡ is_ips_set (port_of (slice_index_or ports k reset_port_without_disk) m) in
+    let at_0 : P 0 = first w x y z ∙ (rw (at_port ports 0 c.index-ports-0.result (omega (arith, four))) at (c.is_ips_set.ensures m)) in
+    let at_1 : P 1 = second w x y z ∙ (rw (at_port ports 1 c.index-ports-1.result (omega (arith, four))) at (c.is_ips_set-2.ensures m)) in
+    let at_2 : P 2 = third w x y z ∙ (rw (at_port ports 2 c.index-ports-2.result (omega (arith, four))) at (c.is_ips_set-3.ensures m)) in
+    let at_3 : P 3 = fourth w x y z ∙ (rw (at_port ports 3 c.index-ports-3.result (omega (arith, four))) at (c.is_ips_set-4.ensures m)) in
     rw (c.bit_if.ensures, c.bit_if-2.ensures, c.bit_if-3.ensures, c.bit_if-4.ensures)
     (elim (cases_eq port 0) [
       | inl e ↦ subst P (sym e) at_0
@@ -68,7 +68,7 @@ returns c = λ m port low.
           | inl e ↦ subst P (sym e) at_2
           | inr d ↦ elim (cases_eq port 3) [
             | inl e ↦ subst P (sym e) at_3
-            | inr f ↦ none w x y z port (omega (arith, a, b, d, f)) ∙ rw (get_or_past ports port blank_port (omega (arith, four, a, b, d, f))) refl
+            | inr f ↦ none w x y z port (omega (arith, a, b, d, f)) ∙ rw (get_or_past ports port reset_port_without_disk (omega (arith, four, a, b, d, f))) refl
           ]
         ]
       ]

@@ -11,8 +11,8 @@ loop-port-init c = none_done (λ _. port_after_reset) c.args.ports.now
 pub loop-port-preserved : goal.loop-port-preserved
 loop-port-preserved c =
     let small : c.loop-port.port < length c.loop-port.ports = search rules in
-    change_port (λ _. port_after_reset) c.args.ports.now c.loop-port.ports c.loop-port.port c.reset.new.self small
-    (rw (at_port c.loop-port.ports c.loop-port.port c.index-ports-port.result small) at c.reset.ensures) c.loop-port.invariant
+    change_port (λ _. port_after_reset) c.args.ports.now c.loop-port.ports c.loop-port.port c.apply_hba_reset.new.self small
+    (rw (at_port c.loop-port.ports c.loop-port.port c.index-ports-port.result small) at c.apply_hba_reset.ensures) c.loop-port.invariant
 
 pub returns-clause-size : goal.returns-clause-size
 returns-clause-size c = c.loop-port.invariant.size

@@ -7,7 +7,6 @@ use Rattle.device_model.specs.TakenBlocks.{taken_in_slot}
 use Rattle.device_model.specs.declared.port.TakenCommand.{TakenCommand}
 use Rattle.std.proofs.lemmas.Bool.{cases_lt}
 use Rattle.adapter.specs.Commands.{is_queued}
-use Rattle.device_model.specs.PortView.{operation_of_kind}
 use Rattle.std.proofs.Common.{inl, inr}
 use Rattle.device_model.proofs.taken.hold_queued.Goals as goal
 use Rattle.device_model.proofs.taken.hold_queued.Goals.{else-is_set-via-then-is_set+else-not-is_queued, else-is_set-via-else-is_set}
@@ -39,7 +38,7 @@ loop-slot-preserved c = λ k few t held.
                 let set : bit c.args.filled slot ≡ true = sym c.is_set.ensures ∙ w.if-is_set.true in
                 let there = held_room c.args.filled rooms slot w.index-rooms-slot.result small set in
                 let one : u ≡ t = some_one (sym there ∙ is) in
-                ap (λ (x : TakenCommand). is_queued (operation_of_kind x.command_kind)) (sym one) ∙ (sym w.is_queued.ensures ∙ w.if-not-is_queued.false)
+                ap (λ (x : TakenCommand). is_queued x.operation) (sym one) ∙ (sym w.is_queued.ensures ∙ w.if-not-is_queued.false)
             | else-is_set-via-else-is_set w ↦ some-none is (held_none c.args.filled rooms slot (sym c.is_set.ensures ∙ w.if-is_set.false))
           ]
     ]

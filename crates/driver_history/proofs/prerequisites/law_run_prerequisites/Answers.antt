@@ -5,7 +5,7 @@ returns c = record {
   run_steps_are_legal = c.law_runs_are_legal.ensures.legal;
   touches_are_confined = c.law_runs_are_legal.ensures.touches;
   faithful_runs_read_expected = c.law_answered_reads_hold_expected.ensures;
-  after_joins = c.law_histories_compose.ensures.machine_after_joins;
-  faithful_lists_join = c.law_histories_compose.ensures.faithful_steps_join;
-  holders_were_accepted = c.law_frame_holder_was_accepted.ensures;
+  after_joins = c.law_device_and_faithful_step_lists_compose.ensures.machine_after_joins;
+  faithful_lists_join = c.law_device_and_faithful_step_lists_compose.ensures.faithful_steps_join;
+  holders_were_accepted = c.law_request_in_book_or_kept_was_accepted.ensures;
 }

@@ -7,7 +7,7 @@ use Rattle.ata_types.specs.declared.PortState.TheVariants.{Ready}
 use Rattle.block_machine.specs.Events.{AbstractCall, Service, abstract_after}
 use Rattle.block_machine.specs.Histories.{JointEvent, JointState, joint_state_after}
 use Rattle.identify.specs.declared.wanted.Wanted.{Wanted}
-use Rattle.driver_history.specs.EvidenceHandling.{HandlesEvidenceAt, ServicesReadyPort}
+use Rattle.driver_history.specs.EvidenceHandling.{HandlesIfServiceElseOnlyTickOrResetStops, ServicesReadyPort}
 use Rattle.driver_history.specs.Claims.{HandlesShownFailure}
 use Rattle.driver_history.specs.Evidence.{ShowsFailure}
 use Rattle.driver_history.specs.Histories.{IsDriverHistory, TellsLonePlainFaultsUnlessDead}
@@ -22,11 +22,11 @@ heeds_fault wanted first past h port history asks asked failure =
     let evidenced = history.2.is_evidenced.each_port_is_evidenced port in
     let failed = evidenced.shown_failure_of_ready_is_named asked failure in
     let serves : ServicesReadyPort old.abstract h.event.evidence h.event.steps (abstract_after old.abstract h.event) port =
-    subst (λ (ask : AbstractCall DeviceStep). HandlesEvidenceAt port ask old.abstract h.event.evidence h.event.steps (abstract_after old.abstract h.event)) asks (history.2.ports_correspond port).handles_evidence asked in
+    subst (λ (ask : AbstractCall DeviceStep). HandlesIfServiceElseOnlyTickOrResetStops port ask old.abstract h.event.evidence h.event.steps (abstract_after old.abstract h.event)) asks (history.2.ports_correspond port).handles_evidence asked in
     record {
-      answers_ended = serves.answers_ended;
-      is_stopped_or_stuck = serves.trouble_interrupts (inl failed);
-      none_stays_issued = serves.error_or_stop_leaves_no_old_issue (inl failed);
+      answers_ok_what_had_ended = serves.answers_ok_what_had_ended;
+      is_stopped_or_stuck = serves.trouble_stops_or_sticks (inl failed);
+      issued_are_issued_in_steps = serves.error_or_stop_leaves_no_old_issue (inl failed);
       one_fault_at_most = serves.one_fault_at_most;
       fatal_tells_no_fault = λ shown. (serves.fatal_tells_no_fault (evidenced.shown_fatal_of_ready_is_named asked shown)).1;
       tells_lone_plain_faults_unless_dead = subst (λ (ask : AbstractCall DeviceStep). TellsLonePlainFaultsUnlessDead ask old h.event.ports h.device h.event.steps port) asks ties.lone_plain_faults_are_told_unless_dead;

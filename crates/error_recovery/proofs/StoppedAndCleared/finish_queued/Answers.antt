@@ -45,7 +45,7 @@ returns-in-Some-clause-finishes g c = record {
       let log = g.A.Adapter.device c.read_log.new.adapter in
       let P : Port → Type 0 = λ p. LeavesPortWhileAsking p.0 start log × GainsNoMove p.0 Identify start log × ((log.port p.0).halt ≡ NotHalted) × ReadsLog p c.args.outstanding (Some c.in-Some.failed) start log in
       let e = c.in-Some.ensures in
-      let x = subst P same (e.asks.leaves, e.asks.no_identify_moves, e.asks.is_not_halted, e.asks.reads) in
+      let x = subst P same (e.asks.leaves, e.asks.no_identify_moves, e.asks.is_not_halted_if_named, e.asks.reads) in
       names_one c.law_prerequisites.ensures port c.args.outstanding true _ _ old _ r _ c.start_again-running.ensures.goes _ refl x.0 x.1 c.in-Some.failed c.others-again.result c.start_again-running.result c.start_again-running.ensures.names
       x.2 x.3 c.others-again.ensures;
 }

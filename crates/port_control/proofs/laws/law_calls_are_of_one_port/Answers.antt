@@ -1,6 +1,6 @@
 use Rattle.std.proofs.Common.{◌≡◌, inl, inr}
 use Rattle.hba_regs.specs.declared.reg.PortReg.TheVariants.{Clb, Clbu, Cmd, Fb, Fbu, Sctl}
-use Rattle.port_control.specs.Laws.RegisterSet.{Commanding, Placing, Resetting}
+use Rattle.port_control.specs.Laws.RegisterSet.{Commanding, Placing, ResettingLink}
 use Rattle.port_control.specs.Ports.{IsPlacingRegister}
 use Rattle.port_control.proofs.laws.law_calls_are_of_one_port.Goals as goal
 
@@ -19,4 +19,4 @@ pub returns-clause-placing : goal.returns-clause-placing
 returns-clause-placing c = λ port access is. (c.law_prerequisites.ensures.control_spares_other_ports Placing port access is, c.law_prerequisites.ensures.control_spares_other_registers Placing port Sctl no_control access is)
 
 pub returns-clause-resetting : goal.returns-clause-resetting
-returns-clause-resetting c = c.law_prerequisites.ensures.control_spares_other_ports Resetting
+returns-clause-resetting c = c.law_prerequisites.ensures.control_spares_other_ports ResettingLink

@@ -3,7 +3,7 @@ use Rattle.refinement.proofs.driver.Stretches.{followed_plain, followed_silent}
 use Rattle.refinement.proofs.access_kinds.law_followed_fragments_agree.Goals as goal
 
 pub returns-clause-agreed : goal.returns-clause-agreed
-returns-clause-agreed g c = λ kind. agreed_to (g.K.AccessKinds.may kind) (g.K.AccessKinds.fits kind)
+returns-clause-agreed g c = λ kind. agreed_to (g.K.AccessKindsWithSlotUses.may kind) (g.K.AccessKindsWithSlotUses.fits kind)
 
 pub returns-clause-gains_no_move : goal.returns-clause-gains_no_move
 returns-clause-gains_no_move g c = λ kind next uses port o old new fits issues arms own none followed a.

@@ -4,7 +4,7 @@ use Rattle.std.proofs.lemmas.List.{length-map, get_or-map, get_or_default}
 use Rattle.ata_types.specs.declared.request.RequestId.{RequestId}
 use Rattle.block_machine.specs.declared.due.Unanswered.{Unanswered}
 use Rattle.request_queue.specs.BookEntries.{BookEntry, as_unanswered, unanswered_of, is_among, aged_request}
-use Rattle.request_queue.specs.Blockers.{IsBlockerOf, may_be_blocked}
+use Rattle.request_queue.specs.Blockers.{IsBlockerOf, is_waiting_read_or_write}
 use Rattle.request_queue.specs.RequestSlab.{blank_request}
 use Rattle.request_queue.proofs.Aging as aging
 use Rattle.request_queue.proofs.Changing.{all_are_changed, keeps_its_id, next_changed, older_spares, request_is}
@@ -21,7 +21,7 @@ held_waits : (es : List BookEntry) (i : ℕ) (h : Option RequestId) → i < leng
 held_waits es i h lt some its d =
     let r = get_or (unanswered_of es) i (as_unanswered d.request) in
     let held = a_holder (unanswered_of es) r h some (its (as_unanswered d.request)) in
-    let waits = not-true r.issued (and_parts (not r.issued) _ (and_parts (may_be_blocked r) _ held).0).0 in
+    let waits = not-true r.issued (and_parts (not r.issued) _ (and_parts (is_waiting_read_or_write r) _ held).0).0 in
     sym (ap (λ (u : Unanswered). u.issued) (get_or-map (λ (e : BookEntry). as_unanswered e.request) es i d (as_unanswered d.request) lt)) ∙ waits
 
 pub replace-requires-clause-same_id : goal.replace-requires-clause-same_id

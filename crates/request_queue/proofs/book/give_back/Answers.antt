@@ -3,7 +3,7 @@ use Rattle.std.specs.List.{All, AllPairs}
 use Rattle.std.proofs.lemmas.List.Elements.{All-head}
 use Rattle.ata_types.specs.declared.request.RequestId.{RequestId}
 use Rattle.dma_frames.specs.FrameTables.{lent_to}
-use Rattle.request_queue.specs.BookEntries.{BookEntry, HasItsFrames, IsEarlier, GivesBack}
+use Rattle.request_queue.specs.BookEntries.{BookEntry, FramesAreLentToIt, IsEarlier, GivesBack}
 use Rattle.request_queue.proofs.Ending.{first_and_rest, stand_still, ordered_rest, more_given, none_given}
 use Rattle.request_queue.proofs.book.give_back.Goals as goal
 
@@ -11,7 +11,7 @@ pub give_back-requires : goal.give_back-requires
 give_back-requires c =
     let e : BookEntry = record { request = c.remove-loan.result.0; frames = c.remove-loan.result.1.frames } in
     let is = first_and_rest c.loop-store.store c.remove-loan.new.self e c.remove-loan.ensures.entry c.remove-loan.ensures.rest in
-    let stands = All-head (HasItsFrames c.loop-store.table) e c.remove-loan.new.self (subst (λ (es : List BookEntry). All (HasItsFrames c.loop-store.table) es) is c.loop-store.invariant.stands) in
+    let stands = All-head (FramesAreLentToIt c.loop-store.table) e c.remove-loan.new.self (subst (λ (es : List BookEntry). All (FramesAreLentToIt c.loop-store.table) es) is c.loop-store.invariant.stands) in
     subst (λ (id : RequestId). All (λ f. lent_to c.loop-store.table f ≡ Some id) e.frames) (sym c.remove-loan.ensures.id) stands
 
 pub loop-store-preserved : goal.loop-store-preserved
@@ -19,7 +19,7 @@ loop-store-preserved c =
     let e : BookEntry = record { request = c.remove-loan.result.0; frames = c.remove-loan.result.1.frames } in
     let rest = c.remove-loan.new.self in
     let is = first_and_rest c.loop-store.store rest e c.remove-loan.ensures.entry c.remove-loan.ensures.rest in
-    let stands = subst (λ (es : List BookEntry). All (HasItsFrames c.loop-store.table) es) is c.loop-store.invariant.stands in
+    let stands = subst (λ (es : List BookEntry). All (FramesAreLentToIt c.loop-store.table) es) is c.loop-store.invariant.stands in
     let ordered = subst (λ (es : List BookEntry). AllPairs IsEarlier es) is c.loop-store.invariant.ordered in
     let still = stand_still c.loop-store.table c.give_back.new.self e rest c.give_back.ensures stands ordered in
     record {

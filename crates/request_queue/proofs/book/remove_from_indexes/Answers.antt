@@ -29,8 +29,8 @@ module _ (es : List BookEntry) (i : ℕ) (r : PendingRequest) (lt : i < length e
       let one = is_counted es (e es i r lt s is) i (at es i r lt s is) in
       one_uncounted es (e es i r lt s is) i counts (get_or counts r.client.0 0 - 1) are (at es i r lt s is) small (omega (arith, its, one))
 
-pub update_blockers-requires-clause-answered_blocks_excepted : goal.update_blockers-requires-clause-answered_blocks_excepted
-update_blockers-requires-clause-answered_blocks_excepted c =
+pub find_blockers_anew_before_removal-requires-clause-answered_blocks_excepted : goal.find_blockers_anew_before_removal-requires-clause-answered_blocks_excepted
+find_blockers_anew_before_removal-requires-clause-answered_blocks_excepted c =
     let es = c.args.store.now in
     let r = c.request-request.result in
     rw (c.remove-2.ensures.items) (fewer_holders es c.args.blockers.now.items c.args.place (e es c.args.place r c.requires.place c.requires.ordered c.request-request.ensures) r.id c.requires.beside.blockers_match
@@ -43,7 +43,7 @@ returns-clause-beside c =
     let less = sym (asks_less es c.args.place) in
     record {
       conflict_lists_match = subst (λ (book : List Unanswered). AreConflictLists book c.remove.new.self) less c.remove.ensures;
-      blockers_match = subst (λ (book : List Unanswered). AreBlockers book c.update_blockers.new.blockers.items) less c.update_blockers.ensures.blockers;
+      blockers_match = subst (λ (book : List Unanswered). AreBlockers book c.find_blockers_anew_before_removal.new.blockers.items) less c.find_blockers_anew_before_removal.ensures.blockers;
       client_counts_match = subst (λ (n : ℕ). AreClientCounts (remove es c.args.place) (set c.args.counts.now n (get_or c.args.counts.now n 0 - 1))) (sym c.from.ensures)
           (fewer es c.args.place r c.requires.place c.requires.ordered c.request-request.ensures c.args.counts.now c.requires.beside.client_counts_match);
     }

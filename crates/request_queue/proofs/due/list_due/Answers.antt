@@ -34,14 +34,14 @@ returns-then-ends c =
     let is = c.find_unblocked-issued.ensures.without_blocker in
     let ordered = unheld_in_order c.args.port all book is c.requires.ordered in
     let mine = own_at c.args.port all book is c.loop-number.number c.nth-asks.result c.nth-asks.ensures in
-    let clear = c.is_unblocked-clear.ensures book (reached c.args.port all book is c.requires.ordered c.args.mode c.loop-number.number c.nth-asks.result c.nth-asks.ensures c.loop-number.invariant.queued) c.find_unblocked-issued.ensures.issued in
+    let clear = c.is_waiting_and_unblocked-clear.ensures book (reached c.args.port all book is c.requires.ordered c.args.mode c.loop-number.number c.nth-asks.result c.nth-asks.ensures c.loop-number.invariant.queued) c.find_unblocked-issued.ensures.issued in
     let free = own_free c.args.port all book is c.args.mode c.free_slots-free.result (c.free_slots-free.ensures ∙ ap (λ (n : ℕ). c.args.mode.usable_slots - n) c.find_unblocked-issued.ensures.issued.0) in
     let so_far =
-    steps_on c.law_earlier_ones_stand_before.ensures c.law_due_and_unblocked_ahead_agree.ensures c.args.mode c.args.port book ordered c.loop-number.number c.nth-asks.result c.nth-asks.ensures mine
+    steps_on c.law_earlier_ones_stand_before.ensures c.law_counts_ahead_agree_on_slot_left.ensures c.args.mode c.args.port book ordered c.loop-number.number c.nth-asks.result c.nth-asks.ensures mine
     c.loop-number.due.items c.loop-number.invariant.so_far c.len.result c.free_slots-free.result c.len.ensures.value free c.if-goes.due.items c.goes.result (c.goes.ensures ∙ ap (λ (b : Bool). b && (is_plain c.args.mode c.nth-asks.result.op || nat_lt c.len.result c.free_slots-free.result)) clear)
     (elim c.if-goes.branch [ then-goes w ↦ rw (w.due-is, w.push.ensures.items, w.if-goes.true) refl | else-goes w ↦ rw (w.due-is, w.if-goes.false) refl ]) in
     own_due c.args.port all book is c.args.mode c.if-goes.due.items
-    (has_all c.law_earlier_ones_stand_before.ensures c.law_due_and_unblocked_ahead_agree.ensures c.args.mode c.args.port book ordered c.loop-number.number c.nth-asks.result c.nth-asks.ensures mine
+    (has_all c.law_earlier_ones_stand_before.ensures c.law_counts_ahead_agree_on_slot_left.ensures c.args.mode c.args.port book ordered c.loop-number.number c.nth-asks.result c.nth-asks.ensures mine
     c.if-goes.due.items so_far c.len-in-loop-number.result c.free_slots-free.result c.len-in-loop-number.ensures.value free (sym c.ends.ensures ∙ c.if-ends.true))
 
 pub loop-number-init : goal.loop-number-init
@@ -61,11 +61,11 @@ loop-number-preserved c =
     let is = c.find_unblocked-issued.ensures.without_blocker in
     let ordered = unheld_in_order c.args.port all book is c.requires.ordered in
     let mine = own_at c.args.port all book is c.loop-number.number c.nth-asks.result c.nth-asks.ensures in
-    let clear = c.is_unblocked-clear.ensures book (reached c.args.port all book is c.requires.ordered c.args.mode c.loop-number.number c.nth-asks.result c.nth-asks.ensures c.loop-number.invariant.queued) c.find_unblocked-issued.ensures.issued in
+    let clear = c.is_waiting_and_unblocked-clear.ensures book (reached c.args.port all book is c.requires.ordered c.args.mode c.loop-number.number c.nth-asks.result c.nth-asks.ensures c.loop-number.invariant.queued) c.find_unblocked-issued.ensures.issued in
     let free = own_free c.args.port all book is c.args.mode c.free_slots-free.result (c.free_slots-free.ensures ∙ ap (λ (n : ℕ). c.args.mode.usable_slots - n) c.find_unblocked-issued.ensures.issued.0) in
     let small = has_room c.args.mode c.args.port book c.nth-asks.result c.len-in-loop-number.result c.free_slots-free.result free c.requires.usable_slots_are_at_most_32 (sym c.ends.ensures ∙ c.if-ends.false) in
     record {
-      so_far = steps_on c.law_earlier_ones_stand_before.ensures c.law_due_and_unblocked_ahead_agree.ensures c.args.mode c.args.port book ordered c.loop-number.number c.nth-asks.result c.nth-asks.ensures mine
+      so_far = steps_on c.law_earlier_ones_stand_before.ensures c.law_counts_ahead_agree_on_slot_left.ensures c.args.mode c.args.port book ordered c.loop-number.number c.nth-asks.result c.nth-asks.ensures mine
           c.loop-number.due.items c.loop-number.invariant.so_far c.len.result c.free_slots-free.result c.len.ensures.value free c.if-goes.due.items c.goes.result (c.goes.ensures ∙ ap (λ (b : Bool). b && (is_plain c.args.mode c.nth-asks.result.op || nat_lt c.len.result c.free_slots-free.result)) clear)
           (elim c.if-goes.branch [ then-goes w ↦ rw (w.due-is, w.push.ensures.items, w.if-goes.true) refl | else-goes w ↦ rw (w.due-is, w.if-goes.false) refl ]);
       few = omega (arith, small, c.len-in-loop-number.ensures.value);

@@ -1,4 +1,4 @@
-use Rattle.ata_types.specs.declared.limits.TheConstants.{MOST_UNANSWERED}
+use Rattle.ata_types.specs.declared.limits.TheConstants.{MOST_UNANSWERED_OF_ALL_CLIENTS}
 use Rattle.std.proofs.Common.{◌≡◌, ◌≢◌, ◌<◌, ◌++◌, ◌∷◌, [], List, Bool, not, true, false, get_or, length, subst, sym, ap, ◌∙◌, arith, refl}
 use Rattle.std.proofs.lemmas.Bool.{not-true}
 use Rattle.std.specs.List.{All, insert}
@@ -20,7 +20,7 @@ insert-requires-clause-room c =
     let lists = c.args.sectors.now in
     let four = c.requires.1.four_lists in
     let e = by_default lists c.list_number_of_port.result (list_number_of_port r.port) c.index-sectors-list_number_of_port.result c.list_number_of_port.ensures (omega (arith, four, in_four r.port)) in
-    subst (λ (xs : List RequestRange). length xs < MOST_UNANSWERED) (sym e) (room_left c.requires.0 lists c.requires.1 r c.requires.2)
+    subst (λ (xs : List RequestRange). length xs < MOST_UNANSWERED_OF_ALL_CLIENTS) (sym e) (room_left c.requires.0 lists c.requires.1 r c.requires.2)
 
 pub insert-requires-clause-id_is_new : goal.insert-requires-clause-id_is_new
 insert-requires-clause-id_is_new c =

@@ -3,10 +3,10 @@ use Rattle.server_history.proofs.prerequisites.law_basics.Goals as goal
 pub returns : goal.returns
 returns c = record {
   steps_keep_adapter_and_notes = c.law_step_lists_keep_what_steps_keep.ensures;
-  device_steps_are_simulated = c.law_device_steps_are_parts.ensures;
+  device_steps_are_simulated = c.law_device_steps_are_a_call_part.ensures;
   history_ports_are_well_formed = c.law_driver_invariant_holds.ensures.ports_are_well_formed;
   ready_ports_are_served = c.law_ready_ports_are_served.ensures;
-  steps_switch_none_on = c.law_steps_never_switch_on.ensures;
+  steps_switch_none_on = c.law_steps_never_switch_adapter_on.ensures;
   after_joins = c.law_step_lists_compose.ensures.after_joins;
   enabled_lists_join = c.law_step_lists_compose.ensures.enabled_steps_join;
   reachable_stays_reachable = c.law_step_lists_compose.ensures.reached;

@@ -15,5 +15,5 @@ returns c = record {
   turn_without_due_link_is_calls = c.law_a_turn_that_probes_a_disk_is_the_calls.ensures.ends_no_link_due;
   stopped_port_set_st_since = c.law_st_of_a_stopped_port_was_set_since.ensures;
   fatal_in_part_is_in_whole = c.law_a_fatal_error_of_a_part_is_of_the_whole.ensures;
-  untroubled_since_st_is_calm = c.law_what_is_untroubled_since_st_was_set_is_calm.ensures;
+  untroubled_since_st_is_calm = c.law_untroubled_since_st_is_undisturbed.ensures;
 }

@@ -9,6 +9,6 @@ returns c = record {
     shown_disk_is_in = c.law_what_was_taken_over_may_be_served.ensures.disk_is_in_if_shown;
     bad_disk_shows_if_in = c.law_what_was_taken_over_may_be_served.ensures.bad_disk_shows_if_in;
   };
-  held_frame_is_of_request = c.law_lent_frame_is_its_own.ensures;
-  release_keeps_driver_relation = c.law_releasing_agrees.ensures;
+  held_frame_is_of_request = c.law_lent_frame_is_of_its_request.ensures;
+  release_keeps_driver_relation = c.law_releasing_kept_frames_agrees.ensures;
 }

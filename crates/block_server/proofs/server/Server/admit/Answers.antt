@@ -1,6 +1,7 @@
 use Rattle.std.specs.Prelude.{IsTrue}
 use Rattle.std.proofs.Common.{false, ℕ, ◌≡◌, ◌≢◌, ◌+◌, ◌<◌, ◌≤◌, refl, sym, ◌∙◌, subst, arith}
 use Rattle.std.proofs.lemmas.Bool.{true≢false}
+use Rattle.ata_types.specs.declared.limits.TheConstants.{MOST_UNANSWERED_OF_A_CLIENT}
 use Rattle.ata_types.specs.declared.refusal.Refusal.TheVariants.{Rule, PortNotReady, OutsideDisk, TrimUnsupported, ClientFull, IdsSpent}
 use Rattle.ata_types.specs.declared.refusal.Rule.TheVariants.{NoGrant}
 use Rattle.ata_types.specs.declared.request.Op.TheVariants.{Trim, Flush}
@@ -50,14 +51,14 @@ returns-then-lacks_trim-clause-refused g c =
     (c.lacks_trim.ensures.0 c.if-lacks_trim.true).0
     (subst (λ (v : ServerView g.row.A.Denot). zeroes_after_trim_of (probe_result_of v.probe_results c.in-Some.row.port.0) ≡ false) (sym c.self.view_is) (c.lacks_trim.ensures.0 c.if-lacks_trim.true).1))
 
-pub returns-then-unanswered_count-ge-MOST_CLIENT_UNANSWERED-clause-refused : goal.returns-then-unanswered_count-ge-MOST_CLIENT_UNANSWERED-clause-refused
-returns-then-unanswered_count-ge-MOST_CLIENT_UNANSWERED-clause-refused g c =
+pub returns-then-unanswered_count-ge-MOST_UNANSWERED_OF_A_CLIENT-clause-refused : goal.returns-then-unanswered_count-ge-MOST_UNANSWERED_OF_A_CLIENT-clause-refused
+returns-then-unanswered_count-ge-MOST_UNANSWERED_OF_A_CLIENT-clause-refused g c =
     subst (λ (v : ServerView g.row.A.Denot). IsFirstRefusal (admission_context (server_of g.A.Adapter.device v)) c.args.r.now ClientFull) c.self.view_is
     (refusing.client_full (server_of g.A.Adapter.device (server_view_of c.self.inside)) c.args.r.now (rw c.deref.ensures at c.in_default.ensures.ok) c.in-Some.row c.row.result c.in-Some.is
     (λ other its. (c.row.ensures other).1 its) ((c.row.ensures c.in-Some.row).0 c.in-Some.is) (sym (subst (λ (v : ServerView g.row.A.Denot). c.state-state.result ≡ state_of (probe_result_of v.probe_results c.in-Some.row.port.0)) (sym c.self.view_is) c.state-state.ensures.state) ∙ c.in-Ready.is)
     (λ leaves. absurd (true≢false (sym (c.exceeds_disk.ensures.1 (subst (λ (n : ℕ). (c.args.r.now.op ≢ Flush) × (n < c.args.r.now.first.0 + c.args.r.now.count)) (sym (subst (λ (v : ServerView g.row.A.Denot). c.sectors.result ≡ last_sectors_of (last_disk_of (probe_result_of v.probe_results c.in-Some.row.port.0) (remembered_at v.remembered c.in-Some.row.port.0))) (sym c.self.view_is) c.sectors.ensures)) leaves)) ∙ c.if-exceeds_disk.false)))
     (refusing.takes_trim _ c.lacks_trim.result (c.args.r.now.op ≡ Trim) (subst (λ (v : ServerView g.row.A.Denot). (c.args.r.now.op ≡ Trim) × (zeroes_after_trim_of (probe_result_of v.probe_results c.in-Some.row.port.0) ≡ false) → IsTrue c.lacks_trim.result) (sym c.self.view_is) c.lacks_trim.ensures.1) c.if-lacks_trim.false)
-    (let P : ℕ → Type 0 = λ n. 16 ≤ n in subst P c.unanswered_count.ensures c.if-unanswered_count-ge-MOST_CLIENT_UNANSWERED.true))
+    (let P : ℕ → Type 0 = λ n. MOST_UNANSWERED_OF_A_CLIENT ≤ n in subst P c.unanswered_count.ensures c.if-unanswered_count-ge-MOST_UNANSWERED_OF_A_CLIENT.true))
 
 pub returns-then-self-ge18446744073709551615-clause-refused : goal.returns-then-self-ge18446744073709551615-clause-refused
 returns-then-self-ge18446744073709551615-clause-refused g c =
@@ -66,7 +67,7 @@ returns-then-self-ge18446744073709551615-clause-refused g c =
     (λ other its. (c.row.ensures other).1 its) ((c.row.ensures c.in-Some.row).0 c.in-Some.is) (sym (subst (λ (v : ServerView g.row.A.Denot). c.state-state.result ≡ state_of (probe_result_of v.probe_results c.in-Some.row.port.0)) (sym c.self.view_is) c.state-state.ensures.state) ∙ c.in-Ready.is)
     (λ leaves. absurd (true≢false (sym (c.exceeds_disk.ensures.1 (subst (λ (n : ℕ). (c.args.r.now.op ≢ Flush) × (n < c.args.r.now.first.0 + c.args.r.now.count)) (sym (subst (λ (v : ServerView g.row.A.Denot). c.sectors.result ≡ last_sectors_of (last_disk_of (probe_result_of v.probe_results c.in-Some.row.port.0) (remembered_at v.remembered c.in-Some.row.port.0))) (sym c.self.view_is) c.sectors.ensures)) leaves)) ∙ c.if-exceeds_disk.false)))
     (refusing.takes_trim _ c.lacks_trim.result (c.args.r.now.op ≡ Trim) (subst (λ (v : ServerView g.row.A.Denot). (c.args.r.now.op ≡ Trim) × (zeroes_after_trim_of (probe_result_of v.probe_results c.in-Some.row.port.0) ≡ false) → IsTrue c.lacks_trim.result) (sym c.self.view_is) c.lacks_trim.ensures.1) c.if-lacks_trim.false)
-    (let P : ℕ → Type 0 = λ n. n < 16 in subst P c.unanswered_count.ensures c.if-unanswered_count-ge-MOST_CLIENT_UNANSWERED.false)
+    (let P : ℕ → Type 0 = λ n. n < MOST_UNANSWERED_OF_A_CLIENT in subst P c.unanswered_count.ensures c.if-unanswered_count-ge-MOST_UNANSWERED_OF_A_CLIENT.false)
     (let h = c.if-self-ge18446744073709551615.true in omega (arith, h)))
 
 pub returns-clause-admitted : goal.returns-clause-admitted
@@ -76,7 +77,7 @@ returns-clause-admitted g c =
           (λ other its. (c.row.ensures other).1 its) ((c.row.ensures c.in-Some.row).0 c.in-Some.is) (sym (subst (λ (v : ServerView g.row.A.Denot). c.state-state.result ≡ state_of (probe_result_of v.probe_results c.in-Some.row.port.0)) (sym c.self.view_is) c.state-state.ensures.state) ∙ c.in-Ready.is)
           (λ leaves. absurd (true≢false (sym (c.exceeds_disk.ensures.1 (subst (λ (n : ℕ). (c.args.r.now.op ≢ Flush) × (n < c.args.r.now.first.0 + c.args.r.now.count)) (sym (subst (λ (v : ServerView g.row.A.Denot). c.sectors.result ≡ last_sectors_of (last_disk_of (probe_result_of v.probe_results c.in-Some.row.port.0) (remembered_at v.remembered c.in-Some.row.port.0))) (sym c.self.view_is) c.sectors.ensures)) leaves)) ∙ c.if-exceeds_disk.false)))
           (refusing.takes_trim _ c.lacks_trim.result (c.args.r.now.op ≡ Trim) (subst (λ (v : ServerView g.row.A.Denot). (c.args.r.now.op ≡ Trim) × (zeroes_after_trim_of (probe_result_of v.probe_results c.in-Some.row.port.0) ≡ false) → IsTrue c.lacks_trim.result) (sym c.self.view_is) c.lacks_trim.ensures.1) c.if-lacks_trim.false)
-          (let P : ℕ → Type 0 = λ n. n < 16 in subst P c.unanswered_count.ensures c.if-unanswered_count-ge-MOST_CLIENT_UNANSWERED.false)
+          (let P : ℕ → Type 0 = λ n. n < MOST_UNANSWERED_OF_A_CLIENT in subst P c.unanswered_count.ensures c.if-unanswered_count-ge-MOST_UNANSWERED_OF_A_CLIENT.false)
           (let h = c.if-self-ge18446744073709551615.false in omega (arith, h)),
       (c.in-Some.row, (c.row.ensures c.in-Some.row).0 c.in-Some.is, refl),
     )

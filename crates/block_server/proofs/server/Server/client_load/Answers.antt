@@ -1,7 +1,7 @@
 use Rattle.std.proofs.Common.{ℕ, length, Ok, Err, sym, ap, ◌∙◌, subst, rules}
 use Rattle.std.proofs.lemmas.Result.{err_from_is_err_and}
 use Rattle.adapter.specs.Access.{Loads}
-use Rattle.adapter.specs.Rules.{IsUnowned, IsStable}
+use Rattle.adapter.specs.Rules.{IsInMemoryNotOwnedByDevice, IsStable}
 use Rattle.block_machine.specs.Events.{LoadAt}
 use Rattle.block_machine.specs.Refusals.{MayAccessFrame}
 use Rattle.dma_frames.specs.FrameTables.{owner_of, lent_to}
@@ -20,7 +20,7 @@ returns-in_err-address-clause-extends_history g c =
 
 pub load-requires : goal.load-requires
 load-requires g c =
-    subst (λ (v : ServerView g.row.A.Denot). IsStable (IsUnowned c.in_ok-address.address (length c.args.out.now)) (g.A.Adapter.device v.adapter)) (sym c.self.view_is) c.in_ok-address.ensures.accessible
+    subst (λ (v : ServerView g.row.A.Denot). IsStable (IsInMemoryNotOwnedByDevice c.in_ok-address.address (length c.args.out.now)) (g.A.Adapter.device v.adapter)) (sym c.self.view_is) c.in_ok-address.ensures.accessible
 
 -- what it leaves, and that it adds an event
 went : (g : Over) (c : After-slice_known-2-1 g) → InvariantBetweenCalls c.self.inside.stuck (server_of g.A.Adapter.device (record (server_view_of c.self.inside) { adapter = c.load.new.self }))

@@ -29,16 +29,16 @@ new_server g c = server_of g.A.Adapter.device (server_view_of (record {
   adapter = c.take_over-host.new.adapter;
   grants = c.in-Ok-from_rows.grants;
   shared = record { table = c.in-Ok-boxed.table; book = c.in-Ok-new.book };
-  ports = c.note_probe_result.new.ports;
+  ports = c.replace_probe_results_and_free_slots.new.ports;
   last = 0;
   stuck = false;
 }))
 
 -- what it has of its ports
-has_ports : (g : Over) (c : After-law_new_server_starts_history g) → NewPorts c.take_over-host.result c.wanted.result.now c.note_probe_result.new.ports
+has_ports : (g : Over) (c : After-law_new_server_starts_history g) → NewPorts c.take_over-host.result c.wanted.result.now c.replace_probe_results_and_free_slots.new.ports
 has_ports g c =
-    new_ports c.take_over-host.result c.take_over-host.ensures.has_four_ports c.wanted.result.now c.in-Ok-empty_quarantines.kept c.in-Ok-empty_quarantines.ensures c.unserved_ports-ports.result c.note_probe_result.new.ports
-    c.unserved_ports-ports.ensures.wanted c.unserved_ports-ports.ensures.kept c.unserved_ports-ports.ensures.found c.unserved_ports-ports.ensures.forgotten c.note_probe_result.ensures
+    new_ports c.take_over-host.result c.take_over-host.ensures.has_four_ports c.wanted.result.now c.in-Ok-empty_quarantines.kept c.in-Ok-empty_quarantines.ensures c.unserved_ports-ports.result c.replace_probe_results_and_free_slots.new.ports
+    c.unserved_ports-ports.ensures.wanted c.unserved_ports-ports.ensures.kept c.unserved_ports-ports.ensures.found c.unserved_ports-ports.ensures.forgotten c.replace_probe_results_and_free_slots.ensures
 
 its_rows : (g : Over) (c : After-law_new_server_starts_history g) → SameRows c.in-Ok.plan.grants c.in-Ok-from_rows.grants
 its_rows g c = subst (λ (rows : List GrantRow). SameRows rows c.in-Ok-from_rows.grants) c.grants.ensures.grants c.in-Ok-from_rows.ensures.holds_same_rows

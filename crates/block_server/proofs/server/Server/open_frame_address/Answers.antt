@@ -71,4 +71,4 @@ returns-clause-accessible g c =
     let s = server_of g.A.Adapter.device c.args.self.now in
     let holds = subst (λ (v : ServerView g.row.A.Denot). InvariantBetweenCalls c.self.inside.stuck (server_of g.A.Adapter.device v)) c.self.view_is c.self.invariant in
     let booked = holds_either c.self.inside.stuck holds (λ _ settled. c.law_in_call_gives_server_invariant.ensures.server_invariant s settled.in_call_invariant) (λ _ stalled. stalled.server_invariant) in
-    c.law_open_frames_are_accessible.ensures s c.args.client c.args.frame c.args.offset c.args.count booked (returns-clause-ok g c).0
+    c.law_device_never_owns_accessible_frames.ensures s c.args.client c.args.frame c.args.offset c.args.count booked (returns-clause-ok g c).0

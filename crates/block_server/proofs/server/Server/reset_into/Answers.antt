@@ -6,7 +6,7 @@ use Rattle.dma_frames.specs.FrameTables.{OwnersAndLoans}
 use Rattle.host_boot.specs.TakeOver.{TakesOver}
 use Rattle.host_boot.specs.declared.ProbeResult.{ProbeResult}
 use Rattle.identify.specs.declared.wanted.Wanted.{Wanted}
-use Rattle.server_history.specs.Histories.{ExtendsSettled, ExtendsHistory, ExtendsStuck}
+use Rattle.server_history.specs.Histories.{ExtendsToSettled, ExtendsHistory, ExtendsToStuck}
 use Rattle.server_history.specs.KeptLoans.{IsKeptIn, MayGiveBack, GivesBackLoans}
 use Rattle.server_history.specs.Resets.{IsReinitialized, IssuesOnEachReadyPort, ResetsServer, ResolvesEachPort}
 use Rattle.server_history.specs.ServerState.{InCallInvariant, ServerState}
@@ -40,8 +40,8 @@ got_stuck g c =
     let v = c.self.inside in
     becoming.gets_stuck (server_of device (server_view_of v)) (device v.adapter) (device c.reset.new.adapter) v.shared v.ports c.note_stuck_reset.new.ports (placing.four_ports v.ports (stuck_books g c).slots_are_of_four_ports) c.note_stuck_reset.ensures c.in-Err.ensures.stuck
 
-stuck_then : (g : Over) (c : After-note_stuck_reset g) → ExtendsStuck (server_of g.A.Adapter.device (server_view_of c.self.inside)) (stuck_server g c) Reset (WasReset None)
-stuck_then g c = c.law_stuck_calls_extend_history.ensures.resets (server_of g.A.Adapter.device (server_view_of c.self.inside)) (stuck_server g c) (stuck_books g c) (got_stuck g c)
+stuck_then : (g : Over) (c : After-note_stuck_reset g) → ExtendsToStuck (server_of g.A.Adapter.device (server_view_of c.self.inside)) (stuck_server g c) Reset (WasReset None)
+stuck_then g c = c.law_calls_that_end_stuck_extend_history.ensures.resets (server_of g.A.Adapter.device (server_view_of c.self.inside)) (stuck_server g c) (stuck_books g c) (got_stuck g c)
 
 pub invariant_of-self : goal.invariant_of-self
 invariant_of-self g c = (stuck_then g (goal.at.invariant_of-self g c).After-note_stuck_reset).stuck_invariant
@@ -79,7 +79,7 @@ abbrev shared_then : (g : Over) (c : After-resolve_ports-arg-3-1 g) → Shared
 shared_then g c = record { table = with_value c.self.inside.shared.table c.give_all_back.new.table; book = c.self.inside.shared.book }
 
 abbrev taken : (g : Over) (c : After-resolve_ports-arg-3-1 g) → ServerState
-taken g c = with_ports (server_of g.A.Adapter.device (server_view_of c.self.inside)) (g.A.Adapter.device c.take_over-host.new.adapter) (shared_then g c) c.note_probe_result.new.ports
+taken g c = with_ports (server_of g.A.Adapter.device (server_view_of c.self.inside)) (g.A.Adapter.device c.take_over-host.new.adapter) (shared_then g c) c.replace_probe_results_and_free_slots.new.ports
 
 takes : (g : Over) (c : After-resolve_ports-arg-3-1 g) → IsReinitialized (server_of g.A.Adapter.device (server_view_of c.self.inside)) (taken g c)
 takes g c =
@@ -89,8 +89,8 @@ takes g c =
     let back = c.give_all_back.ensures in
     let new = device c.take_over-host.new.adapter in
     let idle = device c.reset.new.adapter in
-    becoming.takes_again (server_of device (server_view_of v)) (device v.adapter) idle new v.shared (shared_then g c) v.ports c.note_probe_result.new.ports (placing.four_ports v.ports (its_books g c).slots_are_of_four_ports) host c.take_over-host.ensures.has_four_ports
-    (subst (λ (ports : List ServedPort). EachBecomes (IsAsHostProbed host) ports c.note_probe_result.new.ports) back.ports c.note_probe_result.ensures) c.in_default.ensures.reset
+    becoming.takes_again (server_of device (server_view_of v)) (device v.adapter) idle new v.shared (shared_then g c) v.ports c.replace_probe_results_and_free_slots.new.ports (placing.four_ports v.ports (its_books g c).slots_are_of_four_ports) host c.take_over-host.ensures.has_four_ports
+    (subst (λ (ports : List ServedPort). EachBecomes (IsAsHostProbed host) ports c.replace_probe_results_and_free_slots.new.ports) back.ports c.replace_probe_results_and_free_slots.ensures) c.in_default.ensures.reset
     (subst (λ (table : OwnersAndLoans). GivesBackLoans table c.give_all_back.new.table (IsKeptIn (by_port (λ p. p.kept) v.ports))) c.deref_mut.ensures.value back.takes_kept_loans_back)
     (subst (λ (wanted : List Wanted). TakesOver wanted host idle new) (c.wanted_disks.ensures ∙ ap (by_port (λ p. p.wanted)) back.ports) c.take_over-host.ensures.takes_over) refl
 
@@ -125,7 +125,7 @@ after g c = with_ports (server_of g.A.Adapter.device (server_view_of c.self.insi
 
 -- the server was reset, and that adds an event
 was_reset : (g : Over) (c : After-issue_due_on_ports g) → ResetsServer c.resolve_ports.new.replies.items (server_of g.A.Adapter.device (server_view_of c.self.inside)) (after g c)
-    × ExtendsSettled (server_of g.A.Adapter.device (server_view_of c.self.inside)) (after g c) Reset (WasReset (Some c.resolve_ports.new.replies.items))
+    × ExtendsToSettled (server_of g.A.Adapter.device (server_view_of c.self.inside)) (after g c) Reset (WasReset (Some c.resolve_ports.new.replies.items))
 was_reset g c =
     let i = (goal.at.returns-clause-resets g c).After-issue_due_on_ports-arg-3-1 in
     let a = at_settling g i in
@@ -133,7 +133,7 @@ was_reset g c =
     let I : List ProbeResult → Type 0 = λ found. IssuesOnEachReadyPort 0 found (settled g i) (after g c) in
     let resets : ResetsServer c.resolve_ports.new.replies.items s (after g c) =
     record { server_after_take_over = taken g a; is_reinitialized = takes g a; server_after_resolving = settled g i; resolves_each_port = settles g i; issues_on_each_ready_port = subst I c.resolve_ports.ensures.found (c.issue_due_on_ports.ensures.issues (settled g i) (keeps g i)) } in
-    (resets, c.law_resets_extend_history.ensures s (after g c) c.resolve_ports.new.replies.items (its_books g a) resets)
+    (resets, c.law_ended_resets_extend_history.ensures s (after g c) c.resolve_ports.new.replies.items (its_books g a) resets)
 
 pub invariant_of-self-2 : goal.invariant_of-self-2
 invariant_of-self-2 g c = (was_reset g c).1.settled_invariant

@@ -4,7 +4,7 @@ use Rattle.block_machine.specs.Events.{RevokeOf, WasRevoked}
 use Rattle.block_machine.specs.DueRequests.{due_of}
 use Rattle.block_machine.specs.declared.due.QueueMode.{QueueMode}
 use Rattle.request_queue.specs.BookEntries.{with_requests_under_grant_revoked, unanswered_of}
-use Rattle.server_history.specs.Histories.{ExtendsSettled, ExtendsHistory, ExtendsStuck, InvariantBetweenCalls}
+use Rattle.server_history.specs.Histories.{ExtendsToSettled, ExtendsHistory, ExtendsToStuck, InvariantBetweenCalls}
 use Rattle.server_history.specs.Revoking.{RevokesGrant}
 use Rattle.server_history.specs.IssuingAndAnswering.{IssuesDueOfPort}
 use Rattle.server_history.specs.ServerState.{InCallInvariant, SettledInvariant, ServerState}
@@ -14,7 +14,7 @@ use Rattle.port_driver.specs.declared.served_port.Shared.{Shared}
 use Rattle.block_server.proofs.Placing as placing
 use Rattle.server_history.specs.StuckServer.{StuckInvariant, ServerInvariant}
 use Rattle.port_driver.specs.LoanRoom.{BookIsSound}
-use Rattle.block_server.specs.Revoking.{RevokesAndIssues}
+use Rattle.block_server.specs.Revoking.{RevokesAndIssuesDueOfItsPort}
 use Rattle.block_server.specs.ServerFieldsView.{server_view_of}
 use Rattle.block_server.specs.ServerView.{ServerView, server_of}
 use Rattle.block_server.proofs.Revoking as revoking
@@ -57,11 +57,11 @@ revoked_off g c =
     c.self.inside.shared.table.value refl c.clear.new.self.items c.clear.ensures c.cancel_waiting_under_grant.new.self.book c.cancel_waiting_under_grant.new.self.table.value c.cancel_waiting_under_grant.new.replies.items c.cancel_waiting_under_grant.ensures
 
 -- it adds an event
-added_off : (g : Over) (c : Then-self g) → ExtendsStuck (server_of g.A.Adapter.device (server_view_of c.self.inside)) (server_of g.A.Adapter.device (after_off g c)) (RevokeOf c.args.client c.args.number) (WasRevoked (Some c.cancel_waiting_under_grant.new.replies.items))
+added_off : (g : Over) (c : Then-self g) → ExtendsToStuck (server_of g.A.Adapter.device (server_view_of c.self.inside)) (server_of g.A.Adapter.device (after_off g c)) (RevokeOf c.args.client c.args.number) (WasRevoked (Some c.cancel_waiting_under_grant.new.replies.items))
 added_off g c =
     let s = server_of g.A.Adapter.device (server_view_of c.self.inside) in
     let stalled : StuckInvariant s = holds_either c.self.inside.stuck c.self.invariant (λ on _. absurd (let z : false ≡ true = sym on ∙ c.if-self.true in cc)) (λ _ stalled. stalled) in
-    c.law_stuck_calls_extend_history.ensures.revocations s (server_of g.A.Adapter.device (after_off g c)) c.args.client c.args.number c.cancel_waiting_under_grant.new.replies.items stalled (revoked_off g c)
+    c.law_calls_that_end_stuck_extend_history.ensures.revocations s (server_of g.A.Adapter.device (after_off g c)) c.args.client c.args.number c.cancel_waiting_under_grant.new.replies.items stalled (revoked_off g c)
 
 pub invariant_of-self-then-self : goal.invariant_of-self-then-self
 invariant_of-self-then-self g c = subst (λ (b : Bool). InvariantBetweenCalls b (server_of g.A.Adapter.device (after_off g c))) (sym c.if-self.true) (added_off g c).stuck_invariant
@@ -69,7 +69,7 @@ invariant_of-self-then-self g c = subst (λ (b : Bool). InvariantBetweenCalls b 
 pub returns-then-self-clause-revokes : goal.returns-then-self-clause-revokes
 returns-then-self-clause-revokes g c =
     let device = g.A.Adapter.device in
-    let P : ServerView g.row.A.Denot → Type 0 = λ v. RevokesAndIssues device c.args.client c.args.number c.cancel_waiting_under_grant.new.replies.items v (after_off g c) in (
+    let P : ServerView g.row.A.Denot → Type 0 = λ v. RevokesAndIssuesDueOfItsPort device c.args.client c.args.number c.cancel_waiting_under_grant.new.replies.items v (after_off g c) in (
       subst P c.self.view_is (record {
         server_after_revocation = server_of device (after_off g c);
         revokes = revoked_off g c;
@@ -153,14 +153,14 @@ issued_on g c =
     (c.issue_where_ready.ensures.issues_all_due (mid_on g (before g c)) (lends_on g (before g c))))
 
 -- it adds an event
-added_on : (g : Over) (c : After-issue_where_ready g) → ExtendsSettled (server_of g.A.Adapter.device (server_view_of c.self.inside)) (server_of g.A.Adapter.device (after_on g c)) (RevokeOf c.args.client c.args.number) (WasRevoked (Some c.cancel_waiting_under_grant.new.replies.items))
+added_on : (g : Over) (c : After-issue_where_ready g) → ExtendsToSettled (server_of g.A.Adapter.device (server_view_of c.self.inside)) (server_of g.A.Adapter.device (after_on g c)) (RevokeOf c.args.client c.args.number) (WasRevoked (Some c.cancel_waiting_under_grant.new.replies.items))
 added_on g c = c.law_revocations_extend_history.ensures (server_of g.A.Adapter.device (server_view_of c.self.inside)) (mid_on g (before g c)) (server_of g.A.Adapter.device (after_on g c)) c.args.client c.args.number c.cancel_waiting_under_grant.new.replies.items (is_on g (before g c)) (revoked_on g (before g c)) (issued_on g c)
 
 pub invariant_of-self-2 : goal.invariant_of-self-2
 invariant_of-self-2 g c = subst (λ (b : Bool). InvariantBetweenCalls b (server_of g.A.Adapter.device (after_on g c))) (sym c.if-self.false) (added_on g c).settled_invariant
 
 -- and no access was made where nothing was due
-revokes_on : (g : Over) (c : After-issue_where_ready g) → RevokesAndIssues g.A.Adapter.device c.args.client c.args.number c.cancel_waiting_under_grant.new.replies.items (server_view_of c.self.inside) (after_on g c)
+revokes_on : (g : Over) (c : After-issue_where_ready g) → RevokesAndIssuesDueOfItsPort g.A.Adapter.device c.args.client c.args.number c.cancel_waiting_under_grant.new.replies.items (server_view_of c.self.inside) (after_on g c)
 revokes_on g c = record {
   server_after_revocation = mid_on g (before g c);
   revokes = revoked_on g (before g c);
@@ -174,7 +174,7 @@ revokes_on g c = record {
 
 pub returns-clause-revokes : goal.returns-clause-revokes
 returns-clause-revokes g c =
-    let P : ServerView g.row.A.Denot → Type 0 = λ v. RevokesAndIssues g.A.Adapter.device c.args.client c.args.number c.cancel_waiting_under_grant.new.replies.items v (after_on g c) in
+    let P : ServerView g.row.A.Denot → Type 0 = λ v. RevokesAndIssuesDueOfItsPort g.A.Adapter.device c.args.client c.args.number c.cancel_waiting_under_grant.new.replies.items v (after_on g c) in
     (subst P c.self.view_is (revokes_on g c), ap (λ (v : ServerView g.row.A.Denot). v.stuck) c.self.view_is)
 
 pub returns-clause-extends_history : goal.returns-clause-extends_history

@@ -6,7 +6,7 @@ use Rattle.block_server.specs.ServerView.{ServerView, server_of}
 use Rattle.port_driver.specs.declared.served_port.ServedPort.{ServedPort}
 use Rattle.server_history.specs.Histories.{InvariantBetweenCalls}
 use Rattle.server_history.specs.Turns.{ServicesEachPort, ServicesPort, ProbesUnready}
-use Rattle.block_server.specs.Calls.{ServicesOrResolvesByStuck}
+use Rattle.block_server.specs.Calls.{ServicesEachPortOrResolvesIfStuck}
 use Rattle.block_server.proofs.Placing as placing
 use Rattle.block_server.proofs.Turns.{TurnsSoFar, all_turns, its_part, none_yet, one_more}
 use Rattle.block_server.proofs.Standing.{by_on, now_on}
@@ -61,7 +61,7 @@ invariant_of-self g c = subst (λ (b : Bool). InvariantBetweenCalls b (server_of
 pub returns-clause-services : goal.returns-clause-services
 returns-clause-services g c =
     let device = g.A.Adapter.device in (
-      by_on (λ (b : Bool). ServicesOrResolvesByStuck b c.args.self.now.probe_results c.loop-number.replies.items (server_of device c.args.self.now) (server_of device (server_view_of c.loop-number.self-inside))) c.self.view_is c.if-self.false (served g c),
+      by_on (λ (b : Bool). ServicesEachPortOrResolvesIfStuck b c.args.self.now.probe_results c.loop-number.replies.items (server_of device c.args.self.now) (server_of device (server_view_of c.loop-number.self-inside))) c.self.view_is c.if-self.false (served g c),
       c.loop-number.invariant.on ∙ by_on (λ (b : Bool). false ≡ b) c.self.view_is c.if-self.false refl,
     )
 

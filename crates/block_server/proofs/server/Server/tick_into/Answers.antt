@@ -112,7 +112,7 @@ pub returns-then-self-clause-extends_history : goal.returns-then-self-clause-ext
 returns-then-self-clause-extends_history g c =
     let s = server_of g.A.Adapter.device c.args.self.now in
     subst (λ (replies : List Reply). ExtendsHistory s s Tick (Replied replies)) (sym c.clear.ensures)
-    (c.law_stuck_calls_extend_history.ensures.ticks s (now_off g.A.Adapter.device c.self.view_is c.if-self.true c.self.invariant)).extends_history
+    (c.law_calls_that_end_stuck_extend_history.ensures.ticks s (now_off g.A.Adapter.device c.self.view_is c.if-self.true c.self.invariant)).extends_history
 
 pub loop-number-init : goal.loop-number-init
 loop-number-init g c =

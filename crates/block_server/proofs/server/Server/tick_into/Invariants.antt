@@ -2,7 +2,7 @@ use Rattle.std.proofs.Common.{◌≡◌, ◌+◌, ◌*◌, ◌≤◌, false, len
 use Rattle.adapter.specs.AccessBounds.{MakesAtMost}
 use Rattle.port_driver.specs.Costs.{port_error_accesses}
 use Rattle.port_control.specs.declared.events.PortError.TheVariants.{TimedOut}
-use Rattle.ata_types.specs.declared.limits.TheConstants.{MOST_UNANSWERED}
+use Rattle.ata_types.specs.declared.limits.TheConstants.{MOST_UNANSWERED_OF_ALL_CLIENTS}
 use Rattle.request_queue.specs.BookEntries.{HasAnyOverdue}
 use Rattle.server_history.specs.Turns.{TakesTickTurn, a_tick_older}
 use Rattle.port_driver.specs.PortAndShared.{ChangesNothing}
@@ -15,7 +15,7 @@ abbrev pub invariant-loop-number : goal.invariant-loop-number
 invariant-loop-number g l = record {
   first : length l.fn.self.probe_results ≡ 4;
   turns : TurnsSoFar (TakesTickTurn (a_tick_older (server_of g.A.Adapter.device l.fn.self)).book) ChangesNothing l.fn.self.probe_results (a_tick_older (server_of g.A.Adapter.device l.fn.self)) l.self-inside.ports l.replies.items (server_of g.A.Adapter.device (server_view_of l.self-inside)) l.number;
-  room : length l.replies.items + length l.self-inside.shared.book ≤ MOST_UNANSWERED;
+  room : length l.replies.items + length l.self-inside.shared.book ≤ MOST_UNANSWERED_OF_ALL_CLIENTS;
   on : l.self-inside.stuck ≡ false;
   rests : (HasAnyOverdue (a_tick_older (server_of g.A.Adapter.device l.fn.self)).book → ⊥) → l.self-inside.adapter ≡ l.fn.self.adapter;
   cost : MakesAtMost (port_error_accesses TimedOut * l.number) (g.A.Adapter.access_count l.fn.self.adapter) (g.A.Adapter.access_count l.self-inside.adapter);

@@ -2,8 +2,7 @@ use Rattle.std.proofs.Common.{rules, ℕ, ◌≡◌, ◌+◌, ◌∙◌, inl, in
 use Rattle.device_model.specs.WriteCaches.{HasRoomForOldSectors}
 use Rattle.device_model.specs.Disks.{disk_over}
 use Rattle.device_model.specs.Trims.{sectors_left_to_write}
-use Rattle.device_model.specs.PortView.{operation_of_kind}
-use Rattle.device_model.specs.declared.port.CommandKind.{CommandKind}
+use Rattle.adapter.specs.declared.command.Operation.{Operation}
 use Rattle.device_model.proofs.Transfers.{fits_sector, replaced_is}
 use Rattle.device_model.proofs.bay.Bay.transfer_bytes.Goals as goal
 
@@ -33,10 +32,10 @@ returns-in-Write g c =
       cache_mode_is_kept = search rules;
       cache_has_room = λ n room.
           let P : ℕ → Type 0 = λ k. HasRoomForOldSectors c.args.self.now.cache k in
-          let one : sectors_left_to_write (operation_of_kind c.args.next.command_kind) 1 ≡ 1 =
-          let Q : CommandKind → ℕ = λ k. sectors_left_to_write (operation_of_kind k) 1 in
+          let one : sectors_left_to_write c.args.next.operation 1 ≡ 1 =
+          let Q : Operation → ℕ = λ k. sectors_left_to_write k 1 in
           elim c.in-Write.is [ inl plain ↦ ap Q plain | inr queued ↦ ap Q queued ] in
-          let more : sectors_left_to_write (operation_of_kind c.args.next.command_kind) 1 + n ≡ n + 1 = omega (arith, one) in
+          let more : sectors_left_to_write c.args.next.operation 1 + n ≡ n + 1 = omega (arith, one) in
           c.put_sector.ensures.room_is_left n (subst P more room);
       rest_is_kept = search rules;
     }

@@ -1,5 +1,5 @@
 use Rattle.std.proofs.Common.{ℕ, ◌+◌, ◌-◌, List, drop, sym, subst, take, arith}
-use Rattle.device_model.specs.PieceTransfers.{TransfersPiece, piece_of}
+use Rattle.device_model.specs.PieceTransfers.{TransfersPieceOrFails, piece_of}
 use Rattle.device_model.specs.declared.hardware.Hardware.{Hardware}
 use Rattle.device_model.proofs.Exchanging.{exchanged, piece_is, piece_stays, piece_was, with_piece}
 use Rattle.device_model.proofs.bay.Bay.transfer_piece.Goals as goal
@@ -12,7 +12,7 @@ returns-clause-exchanges g c =
     let d = c.deref_mut.result.now in
     let b = c.transfer_within.new.piece in
     let there : Hardware = with_piece h next.address k d b in
-    let E : List ℕ → List ℕ → Type 0 = λ before after. TransfersPiece g.S.SectorStore.size g.S.SectorStore.told
+    let E : List ℕ → List ℕ → Type 0 = λ before after. TransfersPieceOrFails g.S.SectorStore.size g.S.SectorStore.told
     g.S.SectorStore.failures c.args.self.now
     c.transfer_within.new.self next before after c.transfer_within.result in
     let was = piece_was h next k d c.deref_mut.ensures.value (omega arith) c.requires.inside in

@@ -7,7 +7,7 @@ use Rattle.device_model.specs.FetchedBytes.{bytes_of}
 use Rattle.device_model.specs.Finishing.{MayFinish}
 use Rattle.device_model.specs.Slots.{HasIssuedUntakenOnWorkingPort, WorksOnIn}
 use Rattle.device_model.specs.Trims.{sectors_left_to_change}
-use Rattle.device_model.specs.PortView.{blank_port, taken_of}
+use Rattle.device_model.specs.PortView.{reset_port_without_disk, taken_of}
 use Rattle.device_model.specs.WholeAdapter.{AllMedia, device_of}
 use Rattle.device_model.specs.declared.cache.Cache.{Cache}
 use Rattle.device_model.specs.declared.hardware.Hardware.{Hardware}
@@ -18,7 +18,7 @@ use Rattle.device_model.proofs.hardware.Hardware.begin.Goals as goal
 
 pub begin_decoded-requires-clause-may : goal.begin_decoded-requires-clause-may
 begin_decoded-requires-clause-may c =
-    let P : ℕ → Type 0 = λ q. HasIssuedUntakenOnWorkingPort (slice_index_or c.args.self.now.ports q blank_port) c.args.slot in
+    let P : ℕ → Type 0 = λ q. HasIssuedUntakenOnWorkingPort (slice_index_or c.args.self.now.ports q reset_port_without_disk) c.args.slot in
     subst P c.from-place.ensures (c.has_issued_untaken_on_working_port.ensures.may c.if-has_issued_untaken_on_working_port.true)
 
 pub returns-in_err-remaining-clause-is_unbegun : goal.returns-in_err-remaining-clause-is_unbegun
@@ -27,7 +27,7 @@ returns-in_err-remaining-clause-is_unbegun c = λ _.
       λ o left clears ready.
           let w = ready_held c.args.self.now o c.from-place.result c.args.port c.args.slot left clears c.from-place.ensures ready
           (c.has_issued_untaken_on_working_port.ensures.complete c.if-has_issued_untaken_on_working_port.false) in
-          let P : ℕ → Type 0 = λ q. WorksOnIn (slice_index_or c.args.self.now.ports q blank_port) c.args.slot w.0 in
+          let P : ℕ → Type 0 = λ q. WorksOnIn (slice_index_or c.args.self.now.ports q reset_port_without_disk) c.args.slot w.0 in
           let rest = ready_is_held c.args.self.now c.from-place.result c.args.port c.args.slot w.0 c.from-place.ensures w.1
           (c.has_issued_untaken_on_working_port.ensures.complete c.if-has_issued_untaken_on_working_port.false) o left clears ready in
           none_and _ _ (c.remaining_at.ensures.only w.0 left clears (subst P c.from-place.ensures w.1) rest) c.in_err-remaining.was,
@@ -43,7 +43,7 @@ returns-then-not-reserve_all-clause-is_unbegun c = λ _.
     let rest = c.in_ok-remaining.remaining in
     let found = c.in_ok-remaining.ensures.found in
     let never = c.has_issued_untaken_on_working_port.ensures.complete c.if-has_issued_untaken_on_working_port.false in
-    let P : ℕ → Type 0 = λ q. WorksOnIn (slice_index_or h.ports q blank_port) c.args.slot found.0 in
+    let P : ℕ → Type 0 = λ q. WorksOnIn (slice_index_or h.ports q reset_port_without_disk) c.args.slot found.0 in
     let held = subst P (sym c.from-place.ensures) found.1 in
     let one = some_and _ _ rest (c.remaining_at.ensures.only found.0 n m found.1 (ready_is_held h c.from-place.result c.args.port c.args.slot found.0 c.from-place.ensures held never o n m may)) c.in_ok-remaining.was in
     let w = ready_held h o c.from-place.result c.args.port c.args.slot n m c.from-place.ensures may never in
@@ -56,7 +56,7 @@ returns-then-not-reserve_all-clause-is_unbegun c = λ _.
     let h = c.args.self.now in
     let rest = c.in_ok-remaining.remaining in
     let found = c.in_ok-remaining.ensures.found in
-    let P : ℕ → Type 0 = λ q. WorksOnIn (slice_index_or h.ports q blank_port) c.args.slot found.0 in
+    let P : ℕ → Type 0 = λ q. WorksOnIn (slice_index_or h.ports q reset_port_without_disk) c.args.slot found.0 in
     let held = subst P (sym c.from-place.ensures) found.1 in
     let entries = c.reservations_of.ensures.entries in
     inr (record {
@@ -81,7 +81,7 @@ pub returns-clause-ahead : goal.returns-clause-ahead
 returns-clause-ahead c = λ o t taken.
     let h = c.args.self.now in
     let found = c.in_ok-remaining.ensures.found in
-    let P : ℕ → Type 0 = λ q. WorksOnIn (slice_index_or h.ports q blank_port) c.args.slot found.0 in
+    let P : ℕ → Type 0 = λ q. WorksOnIn (slice_index_or h.ports q reset_port_without_disk) c.args.slot found.0 in
     let same : taken_of found.0 ≡ t = some_one (sym (found.1.works (o.media c.args.port)).taken ∙ taken) in
     ahead_of c.reserve_all.new.cache (bytes_of h.memory.items) c.in_ok-remaining.remaining.moves c.reservations_of.result.old_sectors found.0 t same
     (c.reservations_of.ensures.old_sectors ∙ c.in_ok-remaining.ensures.changes found.0 found.1) (c.reserve_all.ensures.old_room c.if-not-reserve_all.false)
@@ -91,7 +91,7 @@ returns-clause-begun c =
     let h = c.args.self.now in
     let rest = c.in_ok-remaining.remaining in
     let found = c.in_ok-remaining.ensures.found in
-    let P : ℕ → Type 0 = λ q. WorksOnIn (slice_index_or h.ports q blank_port) c.args.slot found.0 in
+    let P : ℕ → Type 0 = λ q. WorksOnIn (slice_index_or h.ports q reset_port_without_disk) c.args.slot found.0 in
     let held = subst P (sym c.from-place.ensures) found.1 in
     let new : Hardware = record h { tape = c.reserve_all.new.tape } in
     let room : vec_len c.reserve_all.new.tape + c.reservations_of.result.entries ≤ vec_capacity c.reserve_all.new.tape = c.reserve_all.ensures.room c.if-not-reserve_all.false in

@@ -1,11 +1,11 @@
 use Rattle.std.proofs.Common.{rules, Bool, Option, None, false, ◌≡◌, ◌<◌, ◌∙◌, ◌||◌, length, refl, sym, ap, subst}
 use Rattle.std.specs.Prelude.{is_some}
 use Rattle.std.proofs.lemmas.Bool.{or_parts}
+use Rattle.adapter.specs.Commands.{sends_page}
 use Rattle.device_model.proofs.Absurd.{some_one, true-false}
-use Rattle.device_model.specs.Finishing.{FindsPageCommandAndWhetherItCanEnd, sends_page}
+use Rattle.device_model.specs.Finishing.{FindsPageCommandAndWhetherItCanEnd}
 use Rattle.device_model.specs.WholeAdapter.{device_of}
 use Rattle.device_model.specs.declared.port.TakenCommand.{TakenCommand}
-use Rattle.device_model.specs.PortView.{operation_of_kind}
 use Rattle.device_model.proofs.Ready.{Ends, page_barred, page_held, page_unheld, page_unmeant, page_unsaid, page_unused}
 use Rattle.device_model.proofs.SlotLemmas.{at_port, none_filled}
 use Rattle.device_model.proofs.hardware.Hardware.has_page.Goals as goal
@@ -46,7 +46,7 @@ returns-then-not-sends_page c = λ o.
       page_unheld c.args.self.now c.args.port c.args.slot _ refl
           (λ r held kind ends.
           let same : r ≡ c.in_ok-command.command.now = some_one (sym held.is_taken ∙ c.in_ok-command.ensures.found.is_taken) in
-          true-false (ap (λ (x : TakenCommand). sends_page (operation_of_kind x.command_kind)) (sym same) ∙ kind) (sym c.sends_page.ensures ∙ c.if-not-sends_page.true))
+          true-false (ap (λ (x : TakenCommand). sends_page x.operation) (sym same) ∙ kind) (sym c.sends_page.ensures ∙ c.if-not-sends_page.true))
           never o,
     )
 
@@ -57,11 +57,11 @@ unused_parts {r} {issued} {held} is none =
     (parts.0, none_filled held parts.1)
 
 -- neither issued nor taken
-pub returns-then-not-is_used : goal.returns-then-not-is_used
-returns-then-not-is_used c = λ o.
+pub returns-then-not-is_issued_or_taken : goal.returns-then-not-is_issued_or_taken
+returns-then-not-is_issued_or_taken c = λ o.
     let h = c.args.self.now in
     let some : c.args.port < length h.ports = search rules in
-    let unused = unused_parts c.is_used.ensures c.if-not-is_used.true in
+    let unused = unused_parts c.is_issued_or_taken.ensures c.if-not-is_issued_or_taken.true in
     let unissued = rw (at_port h.ports c.args.port c.index-self-port.result some) at unused.0 in
     let untaken = rw (at_port h.ports c.args.port c.index-self-port.result some) at unused.1 in
     page_unused h c.args.port c.args.slot unissued untaken o

@@ -26,8 +26,8 @@ returns-in-Some-clause-first c = λ o slot below.
     subst P c.from-place.ensures (c.loop-slot.invariant o slot below)
 
 -- nothing is issued or taken from here on
-pub returns-then-is_unused_from-clause-none : goal.returns-then-is_unused_from-clause-none
-returns-then-is_unused_from-clause-none c = λ _ o slot small.
+pub returns-then-none_issued_or_taken_from-clause-none : goal.returns-then-none_issued_or_taken_from-clause-none
+returns-then-none_issued_or_taken_from-clause-none c = λ _ o slot small.
     let h = c.args.self.now in
     let P : ℕ → Type 0 = λ q. FindsPageCommandAndWhetherItCanEnd (device_of h o) q slot None in
     let some : c.from-place.result < length h.ports = search rules in
@@ -35,7 +35,7 @@ returns-then-is_unused_from-clause-none c = λ _ o slot small.
     (elim (cases_lt slot c.loop-slot.slot) [
       | inl below ↦ c.loop-slot.invariant o slot below
       | inr behind ↦
-          let unused = c.is_unused_from.ensures.0 c.if-is_unused_from.true slot behind in
+          let unused = c.none_issued_or_taken_from.ensures.0 c.if-none_issued_or_taken_from.true slot behind in
           let unissued = rw (at_port h.ports c.from-place.result c.index-self-place.result some) at unused.0 in
           let untaken = rw (at_port h.ports c.from-place.result c.index-self-place.result some) at unused.1 in
           page_unused h c.from-place.result slot unissued untaken o

@@ -1,4 +1,4 @@
-use Rattle.std.proofs.Common.{rules, ℕ, ◌+◌, List, [], ◌∷◌, ◌++◌, ◌∙◌, ◌≡◌, ◌<◌, Some, sym, ap, subst, length}
+use Rattle.std.proofs.Common.{rules, ℕ, ◌+◌, List, [], ◌∷◌, ◌++◌, ◌∙◌, ◌≡◌, ◌<◌, Some, sym, ap, subst, length, refl}
 use Rattle.std.specs.Prelude.{slice_index_or, slice_set}
 use Rattle.std.proofs.lemmas.Option.{IfSome_then}
 use Rattle.adapter.specs.Commands.{is_ranged}
@@ -7,11 +7,10 @@ use Rattle.adapter.specs.declared.tape.Entry.TheVariants as entry
 use Rattle.device_model.specs.PieceTransfers.{piece_of}
 use Rattle.device_model.specs.FetchedBytes.{bytes_of}
 use Rattle.device_model.specs.Slots.{IsNextMove}
-use Rattle.device_model.specs.PortView.{blank_port, taken_in, operation_of_kind}
+use Rattle.device_model.specs.PortView.{reset_port_without_disk, taken_in}
 use Rattle.device_model.specs.declared.hardware.Hardware.{Hardware}
 use Rattle.device_model.specs.declared.port.TakenCommand.{TakenCommand}
-use Rattle.device_model.specs.declared.port.CommandKind.{CommandKind}
-use Rattle.device_model.specs.declared.port.CommandKind.TheVariants.{Trim}
+use Rattle.adapter.specs.declared.command.Operation.TheVariants.{Trim}
 use Rattle.device_model.specs.declared.steps.NextMove.{NextMove}
 use Rattle.device_model.proofs.Absurd.{true-false}
 use Rattle.device_model.proofs.Exchanging.{next_after, port_moves_over}
@@ -28,22 +27,22 @@ returns-clause-moved c = λ old o t is next.
     let again : c.piece_in-2.result.now ≡ bytes = c.piece_in-2.ensures
     ∙ ap (λ (l : List ℕ). bytes_at (bytes_of l) c.args.next.address 512) c.deref-2.ensures.value in
     let small : c.from.result < length h.ports = search rules in
-    let held : taken_in (slice_index_or h.ports c.args.port blank_port).taken c.args.slot ≡ Some t =
-    subst (λ (x : Hardware). taken_in (slice_index_or x.ports c.args.port blank_port).taken c.args.slot ≡ Some t)
+    let held : taken_in (slice_index_or h.ports c.args.port reset_port_without_disk).taken c.args.slot ≡ Some t =
+    subst (λ (x : Hardware). taken_in (slice_index_or x.ports c.args.port reset_port_without_disk).taken c.args.slot ≡ Some t)
     (sym is.rest_is_kept) next.works_on.is_taken in
     let here = rw (← c.from.ensures) at held in
     let noted : c.push_reserved.new.self.items
-    ≡ h.tape.items ++ entry.Move (moved_by c.args.port c.args.slot c.operation.result c.args.next.sector
+    ≡ h.tape.items ++ entry.Move (moved_by c.args.port c.args.slot c.args.next.operation c.args.next.sector
     c.args.next.address c.direction.result bytes) ∷ [] =
     c.push_reserved.ensures.items
-    ∙ ap (λ (l : List ℕ). h.tape.items ++ entry.Move (moved_by c.args.port c.args.slot c.operation.result
+    ∙ ap (λ (l : List ℕ). h.tape.items ++ entry.Move (moved_by c.args.port c.args.slot c.args.next.operation
     c.args.next.sector c.args.next.address c.direction.result l) ∷ [])
     (c.of.ensures ∙ first) in
     let moved = (rw (at_port h.ports c.from.result c.index-self-from.result small) at
     (c.advance.ensures.moved (o.media c.from.result) t)) here in
     port_moves_over old h o c.from.result c.args.port c.args.slot c.args.next _ t c.push_reserved.new.self
-    c.operation.result c.direction.result is
-    c.from.ensures small next (rw again at moved) c.operation.ensures c.direction.ensures noted
+    c.args.next.operation c.direction.result is
+    c.from.ensures small next (rw again at moved) refl c.direction.ensures noted
 
 pub returns-clause-after : goal.returns-clause-after
 returns-clause-after c =
@@ -61,8 +60,8 @@ returns-clause-after c =
     IfSome_then c.after.result c.after.ensures
     (λ n one.
     let ranged = is.pieces_follow.is_ranged_if_any one.0 in
-    let no_trim : c.args.next.command_kind ≡ Trim → ⊥ = λ (e : c.args.next.command_kind ≡ Trim).
-    true-false ranged (ap (λ (k : CommandKind). is_ranged (operation_of_kind k)) (sym is.kind_is ∙ e)) in
+    let no_trim : c.args.next.operation ≡ Trim → ⊥ = λ (e : c.args.next.operation ≡ Trim).
+    true-false ranged (ap is_ranged (sym is.operation_is ∙ e)) in
     let next = next_after h c.from.result c.args.port c.args.slot c.args.next t _ c.push_reserved.new.self h.starved is one.0 c.from.ensures small
     (rw (at_port h.ports c.from.result c.index-self-from.result small) at c.advance.ensures.rest)
     ((rw (at_port h.ports c.from.result c.index-self-from.result small) at (c.advance.ensures.held t)) here no_trim) in

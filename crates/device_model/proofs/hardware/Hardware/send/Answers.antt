@@ -3,7 +3,7 @@ use Rattle.std.proofs.lemmas.Grind.{get_or_default_zero}
 use Rattle.std.specs.Vec.{with_items}
 use Rattle.std.proofs.lemmas.List.{with_items_is}
 use Rattle.device_model.proofs.Absurd.{true-false}
-use Rattle.device_model.specs.PortView.{blank_port}
+use Rattle.device_model.specs.PortView.{reset_port_without_disk}
 use Rattle.device_model.specs.WholeAdapter.{device_of}
 use Rattle.device_model.specs.declared.port.PortModel.{PortModel}
 use Rattle.device_model.proofs.Bytes.{memory_put}
@@ -14,12 +14,12 @@ use Rattle.device_model.proofs.hardware.Hardware.send.Goals as goal
 pub returns-then-area-len-clause-sent : goal.returns-then-area-len-clause-sent
 returns-then-area-len-clause-sent c = λ o.
     let h = c.args.self.now in
-    let fb : ℕ = (slice_index_or h.ports c.args.port blank_port).addresses.fb in
+    let fb : ℕ = (slice_index_or h.ports c.args.port reset_port_without_disk).addresses.fb in
     let size : length c.put.new.memory ≡ h.memory.len = c.put.auto.memory ∙ c.deref_mut.ensures.len in
     let there : c.args.port < length h.ports = search rules in
     let same : (slice_index_or h.ports c.args.port c.index-self-port.result).addresses.fb ≡ fb =
     ap (λ (x : PortModel). x.addresses.fb) (at_port h.ports c.args.port c.index-self-port.result there) in
-    let receives : (slice_index_or h.ports c.args.port blank_port).fre ≡ true =
+    let receives : (slice_index_or h.ports c.args.port reset_port_without_disk).fre ≡ true =
     rw (at_port h.ports c.args.port c.index-self-port-2.result there) at c.if-self-port.true in
     let inside : fb + 256 ≤ length h.memory.items = search (same, rules) in
     let fits : (fb + c.args.place) + length c.args.fis.now ≤ length h.memory.items = search (same, rules) in

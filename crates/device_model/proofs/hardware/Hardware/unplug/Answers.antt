@@ -12,7 +12,7 @@ returns-clause-did c = λ _ o.
     let there = rw (at_port h.ports p c.index-self-place.result small) at c.if-not-self-place.false in (
       rw c.from-place.ensures at there,
       unplugged h o p c.args.port _ c.record.new.tape c.from-place.ensures small
-          (rw (at_port h.ports p c.index-self-place-2.result small) at (c.unplug.ensures (o.media p))) (c.record.ensures.added c.if-not-record.false),
+          (rw (at_port h.ports p c.index-self-place-2.result small) at (c.note_disk_out.ensures (o.media p))) (c.record.ensures.added c.if-not-record.false),
     )
 
 pub returns-then-not-self-place-clause-step_is_skipped : goal.returns-then-not-self-place-clause-step_is_skipped

@@ -3,7 +3,7 @@ use Rattle.adapter.specs.declared.access.DeviceStep.TheVariants as asked
 use Rattle.adapter.specs.Steps.{disk_cleared}
 use Rattle.device_model.specs.WriteCaches.{CallFails, HasRoomForOldSectors}
 use Rattle.device_model.specs.Disks.{bay_of, disk_over, bay_failures, lasting_of}
-use Rattle.device_model.specs.StepEffects.{Completes, HasCleared, CommandFails, IsSectorFault, LacksMemory, cleared_count_on_disk}
+use Rattle.device_model.specs.StepEffects.{Completes, HasCleared, CommandOfStepFails, SectorIsPastDiskOrStoreFails, LacksMemory, cleared_count_on_disk}
 use Rattle.device_model.specs.ModelState.{device_at, media_of, all_media_at}
 use Rattle.device_model.specs.Trims.{HasClear, next_uncleared, next_run_length}
 use Rattle.device_model.specs.PortView.{taken_of}
@@ -269,7 +269,7 @@ fewer g c =
 
 -- with this error
 cause : (g : Over) (c : goal.After-fail-failed g) →
-    IsSectorFault c.in-Some-index_mut.bay.cache.is_on true (c.in-Some.run'.first + c.clear-count.result) (g.S.SectorStore.size c.in-Some-index_mut.bay.disk.store) c.if-count-on_disk.error
+    SectorIsPastDiskOrStoreFails c.in-Some-index_mut.bay.cache.is_on true (c.in-Some.run'.first + c.clear-count.result) (g.S.SectorStore.size c.in-Some-index_mut.bay.disk.store) c.if-count-on_disk.error
     (g.S.SectorStore.failures c.in-Some-index_mut.bay.disk.store) (g.S.SectorStore.failures c.clear-count.new.self.disk.store) × (c.if-count-on_disk.error < 256)
 cause g c =
     let a = c.in-Some-index_mut.bay in
@@ -312,7 +312,7 @@ failed g c =
     (c.clear.ensures.room_is_left 1 (c.reserve-room.ensures.room c.if-not-room.false))
 
 has_failed : (g : Over) (c : goal.After-fail-failed g) →
-    CommandFails g.S.SectorStore.size g.S.SectorStore.told g.S.SectorStore.failures (asked.Clear c.args.port c.args.slot c.args.most) c.args.self.now c.fail-failed.new.self
+    CommandOfStepFails g.S.SectorStore.size g.S.SectorStore.told g.S.SectorStore.failures (asked.Clear c.args.port c.args.slot c.args.most) c.args.self.now c.fail-failed.new.self
 has_failed g c =
     let found = c.in-Some.ensures.found in
     let f = failed g c in

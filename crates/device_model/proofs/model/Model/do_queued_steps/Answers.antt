@@ -3,7 +3,7 @@ use Rattle.std.specs.Global.{Vec}
 use Rattle.std.specs.List.{remove}
 use Rattle.adapter.specs.declared.access.DeviceStep.{DeviceStep}
 use Rattle.device_model.specs.StepEffects.{AnswersStep}
-use Rattle.device_model.specs.Queue.{AnswersEachStep, due_steps, later_steps}
+use Rattle.device_model.specs.Queue.{AnswersEachStep, steps_due_by_access, later_steps}
 use Rattle.adapter.specs.declared.counting.AccessCounter.{AccessCounter}
 use Rattle.device_model.specs.declared.model.QueuedStep.{QueuedStep}
 use Rattle.device_model.proofs.Doing.{answers_queued, did_or_left_keeps}
@@ -102,7 +102,7 @@ returns g c =
     let at = subst P none c.loop-queued.invariant.at in
     let same = ap (λ (a : AccessCounter). a.saturating_count) c.loop-queued.invariant.same in
     let Q : AccessCounter → Type 0 = λ a.
-    AnswersEachStep g.S.SectorStore.size g.S.SectorStore.told g.S.SectorStore.failures (due_steps a.saturating_count items) (record c.args.self.now { accesses = a; queue = m.queue }) m in
+    AnswersEachStep g.S.SectorStore.size g.S.SectorStore.told g.S.SectorStore.failures (steps_due_by_access a.saturating_count items) (record c.args.self.now { accesses = a; queue = m.queue }) m in
     record {
       access_is_counted = same ∙ c.add.ensures.shown;
       made_is = ap (λ (a : AccessCounter). a.count.made) c.loop-queued.invariant.same ∙ c.add.ensures.made;

@@ -12,7 +12,7 @@ use Rattle.device_model.specs.ModelState.{device_at, all_media_at}
 use Rattle.device_model.specs.SentFises.{SendsEnd}
 use Rattle.device_model.specs.Slots.{WorksOnIn}
 use Rattle.device_model.specs.Trims.{HasClear, sectors_left_to_change, uncleared}
-use Rattle.device_model.specs.PortView.{blank_port, taken_of}
+use Rattle.device_model.specs.PortView.{reset_port_without_disk, taken_of}
 use Rattle.device_model.specs.WholeAdapter.{HasDisks, AllMedia, device_of}
 use Rattle.device_model.specs.declared.bay.Bay.{Bay}
 use Rattle.device_model.specs.declared.hardware.Hardware.{Hardware}
@@ -200,7 +200,7 @@ loop-run-init g c =
 
 -- as many sectors as are left to clear
 as_many : (h : Hardware) (o : AllMedia) (port slot left clears most : ℕ) (going : IsInProgress (device_of h o) port slot left clears) →
-    ((t : TakenCommand) → WorksOnIn (slice_index_or h.ports port blank_port) slot t → most ≡ length (uncleared (taken_of t))) → most ≡ length (uncleared going.fetched_command)
+    ((t : TakenCommand) → WorksOnIn (slice_index_or h.ports port reset_port_without_disk) slot t → most ≡ length (uncleared (taken_of t))) → most ≡ length (uncleared going.fetched_command)
 as_many h o port slot left clears most going counted =
     let w = holds h o port slot going.fetched_command going.works in
     counted w.0 w.1 ∙ ap (λ (t : FetchedCommand). length (uncleared t)) (sym w.2)

@@ -1,5 +1,5 @@
 use Rattle.std.proofs.Common.{◌≡◌, ◌+◌, ◌-◌, true, false, IfSome}
-use Rattle.adapter.specs.AskedSteps.{SlotGoesOn}
+use Rattle.adapter.specs.AskedSteps.{DoesAtLeastOneSlotStep}
 use Rattle.adapter.specs.declared.access.DeviceStep.TheVariants as asked
 use Rattle.device_model.specs.Disks.{numbered_disk}
 use Rattle.device_model.specs.StepEffects.{MayAskStore, NoCallFailed}
@@ -15,7 +15,7 @@ use Rattle.device_model.proofs.model.Model.finish.Given as goal
 
 abbrev pub invariant-loop-piece : goal.invariant-loop-piece
 invariant-loop-piece g l = record {
-  did : l.did ≡ true → SlotGoesOn (SendsEnd l.slot.0) l.port.0 l.slot.0
+  did : l.did ≡ true → DoesAtLeastOneSlotStep (SendsEnd l.slot.0) l.port.0 l.slot.0
       (device_at g.S.SectorStore.size g.S.SectorStore.told l.fn.self) (device_at g.S.SectorStore.size g.S.SectorStore.told l.self);
   refused : l.did ≡ false →
       device_at g.S.SectorStore.size g.S.SectorStore.told l.self ≡ device_at g.S.SectorStore.size g.S.SectorStore.told l.fn.self;
@@ -33,7 +33,7 @@ invariant-loop-piece g l = record {
 
 abbrev pub invariant-loop-run : goal.invariant-loop-run
 invariant-loop-run g l = record {
-  did : l.did ≡ true → SlotGoesOn (SendsEnd l.slot.0) l.port.0 l.slot.0
+  did : l.did ≡ true → DoesAtLeastOneSlotStep (SendsEnd l.slot.0) l.port.0 l.slot.0
       (device_at g.S.SectorStore.size g.S.SectorStore.told l.fn.self) (device_at g.S.SectorStore.size g.S.SectorStore.told l.self);
   refused : l.did ≡ false →
       device_at g.S.SectorStore.size g.S.SectorStore.told l.self ≡ device_at g.S.SectorStore.size g.S.SectorStore.told l.fn.self;

@@ -14,14 +14,14 @@ use Rattle.sector_store.specs.declared.store.Failures.{Failures}
 use Rattle.adapter.specs.declared.access.DeviceStep.TheVariants as asked
 use Rattle.device_model.specs.Disks.{bay_of, port_has_cache, disk_in_bay, bay_failures, disk_failures, has_cache, lasting_of}
 use Rattle.device_model.specs.WriteCaches.{CallFails, HasRoomForOldSectors}
-use Rattle.device_model.specs.StepEffects.{Completes, CommandFails, LacksMemory}
-use Rattle.device_model.specs.PieceTransfers.{TransfersPiece, piece_of}
+use Rattle.device_model.specs.StepEffects.{Completes, CommandOfStepFails, LacksMemory}
+use Rattle.device_model.specs.PieceTransfers.{TransfersPieceOrFails, piece_of}
 use Rattle.device_model.specs.Finishing.{HasMove}
 use Rattle.device_model.specs.ModelState.{device_at, media_of, all_media_at}
 use Rattle.device_model.specs.Slots.{IsNextMove}
 use Rattle.device_model.specs.Trims.{sectors_left_to_write}
-use Rattle.device_model.specs.PortView.{Media, operation_of_kind, taken_of}
-use Rattle.device_model.specs.declared.port.CommandKind.{CommandKind}
+use Rattle.device_model.specs.PortView.{Media, taken_of}
+use Rattle.adapter.specs.declared.command.Operation.{Operation}
 use Rattle.device_model.specs.WholeAdapter.{AllMedia, device_of, all_media_after_move}
 use Rattle.device_model.specs.declared.bay.Bay.{Bay}
 use Rattle.device_model.specs.declared.hardware.Hardware.{Hardware}
@@ -94,10 +94,10 @@ was g c =
 
 -- it was exchanged with the bay as it was, but that its cache has grown
 exchanged : (g : Over) (c : goal.After-note_move g) →
-    TransfersPiece g.S.SectorStore.size g.S.SectorStore.told g.S.SectorStore.failures (record c.in-Some.bay { cache = c.reserve.new.self.cache }) c.transfer_piece.new.self c.in-Some-next_move.next
+    TransfersPieceOrFails g.S.SectorStore.size g.S.SectorStore.told g.S.SectorStore.failures (record c.in-Some.bay { cache = c.reserve.new.self.cache }) c.transfer_piece.new.self c.in-Some-next_move.next
     (piece_of c.reserve-room.new.self c.in-Some-next_move.next) (piece_of c.transfer_piece.new.hardware c.in-Some-next_move.next) c.transfer_piece.result
 exchanged g c =
-    let P : Bay g.row.S.Denot → Type 0 = λ x. TransfersPiece g.S.SectorStore.size g.S.SectorStore.told g.S.SectorStore.failures x c.transfer_piece.new.self c.in-Some-next_move.next
+    let P : Bay g.row.S.Denot → Type 0 = λ x. TransfersPieceOrFails g.S.SectorStore.size g.S.SectorStore.told g.S.SectorStore.failures x c.transfer_piece.new.self c.in-Some-next_move.next
     (piece_of c.reserve-room.new.self c.in-Some-next_move.next) (piece_of c.transfer_piece.new.hardware c.in-Some-next_move.next) c.transfer_piece.result in
     subst P c.reserve.ensures.rest c.transfer_piece.ensures.exchanges
 
@@ -139,16 +139,16 @@ moved g c =
     let behind : all_media_at g.S.SectorStore.size g.S.SectorStore.told (moved_model g c) ≡ all_media_after_move o c.args.port.0 (taken_of r) bytes =
     outside_moved m (moved_model g c) c.args.port.0 a c.transfer_piece.new.self (was g c) (items g c)
     (exchanged g c).rest_is_kept g.S.SectorStore.size g.S.SectorStore.told
-    c.in-Some-next_move.next r bytes (lasts g c) is.kind_is is.sector_is ((exchanged g c).disk_is did) in
+    c.in-Some-next_move.next r bytes (lasts g c) is.operation_is is.sector_is ((exchanged g c).disk_is did) in
     let R : Device → Type 0 = λ d. Can (Move c.args.port.0 c.args.slot.0 (taken_of r) bytes) d in
     record {
       fetched_command = taken_of r;
       bytes = bytes;
       can = subst R (c.reserve-room.ensures.device_is_kept o)
           (may_move h o c.args.port.0 c.args.slot.0 c.in-Some-next_move.next r bytes is (exchanged g c).bytes_are_sector
-          (subst (λ (x : Media). is_ranged (operation_of_kind c.in-Some-next_move.next.command_kind) ≡ true →
+          (subst (λ (x : Media). is_ranged (c.in-Some-next_move.next.operation) ≡ true →
           c.in-Some-next_move.next.sector < x.disk.sector_count) at ((exchanged g c).done_sector_is_on_disk did))
-          (subst (λ (x : Media). is_ranged (operation_of_kind c.in-Some-next_move.next.command_kind) ≡ true → reads_memory (operation_of_kind c.in-Some-next_move.next.command_kind) ≡ false →
+          (subst (λ (x : Media). is_ranged (c.in-Some-next_move.next.operation) ≡ true → reads_memory (c.in-Some-next_move.next.operation) ≡ false →
           IfSome x.disk.sectors (λ f. bytes ≡ f c.in-Some-next_move.next.sector)) at ((exchanged g c).read_gives_told did))
           (exchanged g c).write_keeps_bytes);
       effect = ap (λ (x : AllMedia). device_of c.note_move.new.self x) behind
@@ -194,12 +194,12 @@ returns-clause-answers g c =
         disk_index_is = store_whichs m (moved_model g c) c.args.port.0 a b (was g c) (items g c)
             (exchanged g c).rest_is_kept c.args.port.0;
         other_bays_are_kept = seated_others m (moved_model g c) c.args.port.0 a b (was g c) (items g c);
-        gains_own_pages = gains_moved g.S.SectorStore.size m _ a found.0.command_kind
+        gains_own_pages = gains_moved g.S.SectorStore.size m _ a found.0.operation
             (move_of c.args.port.0 c.args.slot.0 (taken_of found.0) bytes) (was g c)
             (ap (λ (d : Device). d.tape) noted ∙ ap (λ (d : Device). d.tape ++ entry ∷ [])
             (c.reserve-room.ensures.device_is_kept o)) refl
-            (λ identify. (exchanged g c).identify_page_is_sent c.if-not-transfer_piece.false (found.1.kind_is ∙ identify))
-            (λ log. (exchanged g c).log_page_is_sent c.if-not-transfer_piece.false (found.1.kind_is ∙ log));
+            (λ identify. (exchanged g c).identify_page_is_sent c.if-not-transfer_piece.false (found.1.operation_is ∙ identify))
+            (λ log. (exchanged g c).log_page_is_sent c.if-not-transfer_piece.false (found.1.operation_is ∙ log));
         disks_are_kept = λ none w.
             seated_same m (moved_model g c) c.args.port.0 a b (was g c) (items g c) (option_map (λ (x : Bay g.row.S.Denot). disk_in_bay x w))
             (ap (λ (x : Bay g.row.S.Denot). Some (disk_in_bay x w))
@@ -260,20 +260,20 @@ past g c =
 
 -- it names one
 past_ranged : (g : Over) (c : goal.After-fail-failed g) → (next_sector (taken_of (grow c.args.port.0 c.args.slot.0 c.reserve-room.ensures.rest c.in-Some-next_move.ensures.found).0) ≡ c.in-Some-next_move.next.sector)
-    × (is_ranged (operation_of_kind (grow c.args.port.0 c.args.slot.0 c.reserve-room.ensures.rest c.in-Some-next_move.ensures.found).0.command_kind) ≡ true) × (g.S.SectorStore.size c.in-Some.bay.disk.store ≤ c.in-Some-next_move.next.sector)
-past_ranged g c = by (is_ranged (operation_of_kind c.in-Some-next_move.next.command_kind)) refl
+    × (is_ranged ((grow c.args.port.0 c.args.slot.0 c.reserve-room.ensures.rest c.in-Some-next_move.ensures.found).0.operation) ≡ true) × (g.S.SectorStore.size c.in-Some.bay.disk.store ≤ c.in-Some-next_move.next.sector)
+past_ranged g c = by (is_ranged (c.in-Some-next_move.next.operation)) refl
   where
     found : (t : TakenCommand) × IsNextMove c.reserve-room.new.self c.args.port.0 c.args.slot.0 c.in-Some-next_move.next t
     found = (grow c.args.port.0 c.args.slot.0 c.reserve-room.ensures.rest c.in-Some-next_move.ensures.found)
 
-    never : (is_ranged (operation_of_kind c.in-Some-next_move.next.command_kind) ≡ true → c.in-Some-next_move.next.sector < c.sectors.result) → ⊥
+    never : (is_ranged (c.in-Some-next_move.next.operation) ≡ true → c.in-Some-next_move.next.sector < c.sectors.result) → ⊥
     never on = true-false (c.is_within_disk_if_ranged.ensures.1 on) c.if-not-is_within_disk_if_ranged.true
 
-    by : (b : Bool) → is_ranged (operation_of_kind c.in-Some-next_move.next.command_kind) ≡ b → (next_sector (taken_of found.0) ≡ c.in-Some-next_move.next.sector)
-        × (is_ranged (operation_of_kind found.0.command_kind) ≡ true) × (g.S.SectorStore.size c.in-Some.bay.disk.store ≤ c.in-Some-next_move.next.sector)
+    by : (b : Bool) → is_ranged (c.in-Some-next_move.next.operation) ≡ b → (next_sector (taken_of found.0) ≡ c.in-Some-next_move.next.sector)
+        × (is_ranged found.0.operation ≡ true) × (g.S.SectorStore.size c.in-Some.bay.disk.store ≤ c.in-Some-next_move.next.sector)
     by true e = (
       sym found.1.sector_is,
-      ap (λ (k : CommandKind). is_ranged (operation_of_kind k)) (sym found.1.kind_is) ∙ e,
+      ap is_ranged (sym found.1.operation_is) ∙ e,
       elim (cases_lt c.in-Some-next_move.next.sector c.sectors.result) [
         | inl below ↦ absurd (never (λ _. below))
         | inr past ↦ let size = c.sectors.ensures in omega (arith, past, size)
@@ -282,7 +282,7 @@ past_ranged g c = by (is_ranged (operation_of_kind c.in-Some-next_move.next.comm
     by false e = absurd (never (λ ranged. true-false ranged e))
 
 past_failed : (g : Over) (c : goal.After-fail-failed g) →
-    CommandFails g.S.SectorStore.size g.S.SectorStore.told g.S.SectorStore.failures (asked.Move c.args.port c.args.slot) c.args.self.now c.fail-failed.new.self
+    CommandOfStepFails g.S.SectorStore.size g.S.SectorStore.told g.S.SectorStore.failures (asked.Move c.args.port c.args.slot) c.args.self.now c.fail-failed.new.self
 past_failed g c =
     let m = c.args.self.now in
     let a = c.in-Some.bay in
@@ -327,10 +327,10 @@ was_store g c =
     c.index_mut.ensures.value c.in-Some.is
 
 exchanged_so : (g : Over) (c : goal.After-fail-failed-then-not-transfer_piece g) →
-    TransfersPiece g.S.SectorStore.size g.S.SectorStore.told g.S.SectorStore.failures (record c.in-Some.bay { cache = c.reserve.new.self.cache }) c.transfer_piece.new.self c.in-Some-next_move.next
+    TransfersPieceOrFails g.S.SectorStore.size g.S.SectorStore.told g.S.SectorStore.failures (record c.in-Some.bay { cache = c.reserve.new.self.cache }) c.transfer_piece.new.self c.in-Some-next_move.next
     (piece_of c.reserve-room.new.self c.in-Some-next_move.next) (piece_of c.transfer_piece.new.hardware c.in-Some-next_move.next) c.transfer_piece.result
 exchanged_so g c =
-    let P : Bay g.row.S.Denot → Type 0 = λ x. TransfersPiece g.S.SectorStore.size g.S.SectorStore.told g.S.SectorStore.failures x c.transfer_piece.new.self c.in-Some-next_move.next
+    let P : Bay g.row.S.Denot → Type 0 = λ x. TransfersPieceOrFails g.S.SectorStore.size g.S.SectorStore.told g.S.SectorStore.failures x c.transfer_piece.new.self c.in-Some-next_move.next
     (piece_of c.reserve-room.new.self c.in-Some-next_move.next) (piece_of c.transfer_piece.new.hardware c.in-Some-next_move.next) c.transfer_piece.result in
     subst P c.reserve.ensures.rest c.transfer_piece.ensures.exchanges
 
@@ -389,7 +389,7 @@ store_same g c =
     ∙ c.reserve-room.ensures.device_is_kept (all_media_at g.S.SectorStore.size g.S.SectorStore.told m))
 
 store_failed : (g : Over) (c : goal.After-fail-failed-then-not-transfer_piece g) →
-    CommandFails g.S.SectorStore.size g.S.SectorStore.told g.S.SectorStore.failures (asked.Move c.args.port c.args.slot) c.args.self.now c.fail-failed-then-not-transfer_piece.new.self
+    CommandOfStepFails g.S.SectorStore.size g.S.SectorStore.told g.S.SectorStore.failures (asked.Move c.args.port c.args.slot) c.args.self.now c.fail-failed-then-not-transfer_piece.new.self
 store_failed g c =
     let m = c.args.self.now in
     let a = c.in-Some.bay in
@@ -400,22 +400,22 @@ store_failed g c =
     let listed = c.sectors.ensures in
     let on : c.reserve.new.self.cache.is_on ≡ port_has_cache m c.args.port.0 = c.reserve.ensures.old_sectors_are_kept.cache_mode_is_kept ∙ sym (ap has_cache (was_store g c)) in
     let Q : Bool → ℕ → Type 0 = λ writes sector. CallFails (port_has_cache m c.args.port.0) writes sector (g.S.SectorStore.failures a.disk.store) (g.S.SectorStore.failures b.disk.store) in
-    let O : Bool → Type 0 = λ x. CallFails x (reads_memory (operation_of_kind c.in-Some-next_move.next.command_kind)) c.in-Some-next_move.next.sector (g.S.SectorStore.failures a.disk.store) (g.S.SectorStore.failures b.disk.store) in
+    let O : Bool → Type 0 = λ x. CallFails x (reads_memory (c.in-Some-next_move.next.operation)) c.in-Some-next_move.next.sector (g.S.SectorStore.failures a.disk.store) (g.S.SectorStore.failures b.disk.store) in
     let failed = subst O on ((exchanged_so g c).failure_is_noted c.if-not-transfer_piece.true (omega (arith, here, listed))) in
-    let writes = ap (λ (k : CommandKind). reads_memory (operation_of_kind k)) next.1.kind_is in
+    let writes = ap reads_memory next.1.operation_is in
     let size : ((device_at g.S.SectorStore.size g.S.SectorStore.told m).port c.args.port.0).disk.sector_count ≡ g.S.SectorStore.size a.disk.store =
     ap (λ x. (media_of g.S.SectorStore.size g.S.SectorStore.told x).disk.sector_count) (was_store g c) in
     let sector : c.in-Some-next_move.next.sector ≡ next_sector (taken_of next.0) = next.1.sector_is in
     let before : disk_failures g.S.SectorStore.failures m c.args.port.0 ≡ g.S.SectorStore.failures a.disk.store = ap (bay_failures g.S.SectorStore.failures) (was_store g c) in
     let now : disk_failures g.S.SectorStore.failures (store_model g c) c.args.port.0 ≡ g.S.SectorStore.failures b.disk.store =
     ap (bay_failures g.S.SectorStore.failures) (seated_here m (store_model g c) c.args.port.0 a b (was_store g c) (store_items g c)) in
-    let R : Option Failures → Option Failures → Type 0 = λ x y. CallFails (port_has_cache m c.args.port.0) (reads_memory (operation_of_kind next.0.command_kind)) (next_sector (taken_of next.0)) x y in
-    let called = subst (λ w. Q w (next_sector (taken_of next.0))) writes (subst (Q (reads_memory (operation_of_kind c.in-Some-next_move.next.command_kind))) next.1.sector_is failed) in
+    let R : Option Failures → Option Failures → Type 0 = λ x y. CallFails (port_has_cache m c.args.port.0) (reads_memory next.0.operation) (next_sector (taken_of next.0)) x y in
+    let called = subst (λ w. Q w (next_sector (taken_of next.0))) writes (subst (Q (reads_memory (c.in-Some-next_move.next.operation))) next.1.sector_is failed) in
     fails_to_move g.S.SectorStore.size g.S.SectorStore.told g.S.SectorStore.failures c.args.port c.args.slot 0x40 (taken_of next.0) m
     (store_model g c) c.fail-failed-then-not-transfer_piece.new.self (store g c) (store_same g c)
     (store_says m (store_model g c) c.args.port.0 a b (was_store g c) (store_items g c)
     (exchanged_so g c).rest_is_kept c.args.port.0) (store_fits g c)
-    (ap (λ (k : CommandKind). is_ranged (operation_of_kind k)) (sym next.1.kind_is) ∙ ranged)
+    (ap is_ranged (sym next.1.operation_is) ∙ ranged)
     (inr (
       omega (arith, here, listed, size, sector),
       refl,
@@ -431,7 +431,7 @@ returns-then-not-transfer_piece-clause-answers g c =
     let a = c.in-Some.bay in
     let b = c.transfer_piece.new.self in
     let next = (grow c.args.port.0 c.args.slot.0 c.reserve-room.ensures.rest c.in-Some-next_move.ensures.found) in
-    let ranged = ap (λ (k : CommandKind). is_ranged (operation_of_kind k)) (sym next.1.kind_is)
+    let ranged = ap is_ranged (sym next.1.operation_is)
     ∙ (exchanged_so g c).only_ranged_fails c.if-not-transfer_piece.true in (
       (c.requires.small, taken_of next.0, store_fits g c),
       did_fail g.S.SectorStore.size g.S.SectorStore.told g.S.SectorStore.failures c.args.port c.args.slot 0x40 (taken_of next.0) m
@@ -461,12 +461,12 @@ returns-clause-readies g c = λ _.
           let found = (grow c.args.port.0 c.args.slot.0 c.reserve-room.ensures.rest c.in-Some-next_move.ensures.found) in
           let o : AllMedia = all_media_at g.S.SectorStore.size g.S.SectorStore.told m in
           let one : t ≡ taken_of found.0 = some_one (sym taken ∙ (fits g c).works.taken) in
-          let kind : sectors_left_to_write t.meaning.operation 1 ≡ sectors_left_to_write (operation_of_kind c.in-Some-next_move.next.command_kind) 1 =
-          ap (λ (x : FetchedCommand). sectors_left_to_write x.meaning.operation 1) one ∙ ap (λ (k : CommandKind). sectors_left_to_write (operation_of_kind k) 1) (sym found.1.kind_is) in
+          let kind : sectors_left_to_write t.meaning.operation 1 ≡ sectors_left_to_write (c.in-Some-next_move.next.operation) 1 =
+          ap (λ (x : FetchedCommand). sectors_left_to_write x.meaning.operation 1) one ∙ ap (λ (k : Operation). sectors_left_to_write k 1) (sym found.1.operation_is) in
           let P : ℕ → Type 0 = λ k. HasRoomForOldSectors a.cache (k + n) in
           room_there (moved_model g c) c.args.port.0 n c.transfer_piece.new.self (seated_here m (moved_model g c) c.args.port.0 a c.transfer_piece.new.self (was g c) (items g c))
           ((exchanged g c).cache_has_room n
-          (c.reserve.ensures.room_is_kept (sectors_left_to_write (operation_of_kind c.in-Some-next_move.next.command_kind) 1 + n)
+          (c.reserve.ensures.room_is_kept (sectors_left_to_write (c.in-Some-next_move.next.operation) 1 + n)
           (subst P kind (room_here m c.args.port.0 (sectors_left_to_write t.meaning.operation 1 + n) a (was g c) room))));
       next_move_is = c.note_move.ensures.after;
     }
@@ -500,12 +500,12 @@ returns-then-not-reserve-clause-answers g c =
     let fits : HasMove (device_at g.S.SectorStore.size g.S.SectorStore.told m) c.args.port.0 c.args.slot.0 (taken_of r) =
     next_has_move c.reserve-room.new.self o _ c.args.port.0 c.args.slot.0 c.in-Some-next_move.next r (has_disks g.S.SectorStore.size g.S.SectorStore.told m c.args.port.0 a was)
     (c.reserve-room.ensures.device_is_kept o) found.1 in
-    let changes : sectors_left_to_write (operation_of_kind r.command_kind) 1 ≡ c.sectors_to_write.result = ap (λ (k : CommandKind). sectors_left_to_write (operation_of_kind k) 1) (sym found.1.kind_is) ∙ sym c.sectors_to_write.ensures in
+    let changes : sectors_left_to_write r.operation 1 ≡ c.sectors_to_write.result = ap (λ (k : Operation). sectors_left_to_write k 1) (sym found.1.operation_is) ∙ sym c.sectors_to_write.ensures in
     let lacks : LacksMemory (asked.Move c.args.port c.args.slot) (device_at g.S.SectorStore.size g.S.SectorStore.told m) m.hardware m.bays.items = (
       taken_of r,
       fits,
       λ _ old. c.reserve.ensures.lacked c.if-not-reserve.true
-          (subst (HasRoomForOldSectors a.cache) changes (room_here m c.args.port.0 (sectors_left_to_write (operation_of_kind r.command_kind) 1) a was old)),
+          (subst (HasRoomForOldSectors a.cache) changes (room_here m c.args.port.0 (sectors_left_to_write r.operation 1) a was old)),
     ) in
     grown_left g.S.SectorStore.size g.S.SectorStore.told g.S.SectorStore.failures m _ c.args.port.0 a c.reserve.new.self.cache was
     (ap (λ k. slice_set m.bays.items k (Some c.reserve.new.self)) c.from-place.ensures ∙ ap (λ (x : Bay g.row.S.Denot). slice_set m.bays.items c.args.port.0 (Some x)) c.reserve.ensures.rest)
@@ -522,7 +522,7 @@ returns-then-not-reserve-clause-page g c = λ t taken sends _ _ _ _.
     let P : Device → Type 0 = λ d. (d.port c.args.port.0).taken c.args.slot.0 ≡ Some (taken_of found.0) in
     let here = subst P (c.reserve-room.ensures.device_is_kept o) (found.1.works_on.works (o.media c.args.port.0)).taken in
     let one : t ≡ taken_of found.0 = some_one (sym taken ∙ here) in
-    let none : sectors_left_to_write (operation_of_kind found.0.command_kind) 1 ≡ 0 =
+    let none : sectors_left_to_write found.0.operation 1 ≡ 0 =
     ap (λ (x : FetchedCommand). sectors_left_to_write x.meaning.operation 1) (sym one) ∙ page_unwritten t.meaning.operation 1 sends in
-    let changes : sectors_left_to_write (operation_of_kind found.0.command_kind) 1 ≡ c.sectors_to_write.result = ap (λ (k : CommandKind). sectors_left_to_write (operation_of_kind k) 1) (sym found.1.kind_is) ∙ sym c.sectors_to_write.ensures in
+    let changes : sectors_left_to_write found.0.operation 1 ≡ c.sectors_to_write.result = ap (λ (k : Operation). sectors_left_to_write k 1) (sym found.1.operation_is) ∙ sym c.sectors_to_write.ensures in
     c.reserve.ensures.lacked c.if-not-reserve.true (subst (HasRoomForOldSectors a.cache) (sym none ∙ changes) (no_room a.cache))

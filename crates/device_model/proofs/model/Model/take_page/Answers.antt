@@ -1,7 +1,7 @@
 use Rattle.std.proofs.Common.{ℕ, List, true, false, ◌≡◌, ◌≤◌, ◌+◌, ◌∙◌, ap, inl, refl, subst}
 use Rattle.std.specs.Global.{Vec}
 use Rattle.std.specs.Vec.{vec_len, vec_capacity}
-use Rattle.adapter.specs.AskedSteps.{DoesFetch, SlotGoesOn}
+use Rattle.adapter.specs.AskedSteps.{DoesFetch, DoesAtLeastOneSlotStep}
 use Rattle.adapter.specs.Commands.{Meaning}
 use Rattle.adapter.specs.Device.{Device}
 use Rattle.adapter.specs.Steps.{Can}
@@ -32,7 +32,7 @@ returns g c =
     let same : did ≡ false → new ≡ old = λ (e : did ≡ false). ap (λ (h : Hardware). device_of h o) (c.fetch-taken.ensures.refused e) in
     let never : did ≡ false → (m : Meaning) (places : List ℕ) → Can (Fetch port slot m places) old → ⊥ =
     λ (e : did ≡ false). c.fetch-taken.ensures.complete e o in
-    let went : did ≡ true → SlotGoesOn (SendsEnd slot) port slot old new = λ (e : did ≡ true). goes_one (SendsEnd slot) port slot old new (inl (fetched e)) in
+    let went : did ≡ true → DoesAtLeastOneSlotStep (SendsEnd slot) port slot old new = λ (e : did ≡ true). goes_one (SendsEnd slot) port slot old new (inl (fetched e)) in
     let apart = fetched_apart port slot did old new fetched same in
     record {
       by_own_steps = λ held loose. (own_gone BringsPage (λ o places is. is) held port slot loose did old new went same (found_only old port slot c.requires.there)).0;

@@ -1,7 +1,7 @@
 use Rattle.std.proofs.Common.{◌∷◌, [], slice_index_or, rules, ◌≡◌, ◌∙◌, refl, sym, ap, arith}
 use Rattle.std.specs.Prelude.{is_some}
 use Rattle.device_model.specs.Disks.{disks_given_for}
-use Rattle.device_model.specs.PortView.{blank_port}
+use Rattle.device_model.specs.PortView.{reset_port_without_disk}
 use Rattle.device_model.specs.ToldDisks.{all_disks_have_known_sectors}
 use Rattle.device_model.proofs.NewModel.{IsIdleModel, IsResetModel, blank_idle, ports_are, all_zero, disks_are, new_port, past_given, zeros_small}
 use Rattle.device_model.proofs.model.Model.with_disks.Goals as goal
@@ -16,7 +16,7 @@ returns g c =
         cap = search rules;
         pi = search rules;
         first_given_disks_are_in = λ port.
-            new_port g.S.SectorStore.size g.S.SectorStore.told (disks_given_for c.args.disks port) (slice_index_or (c.in_ok-port0.port0 ∷ c.in_ok-port1.port1 ∷ c.in_ok-port2.port2 ∷ c.in_ok-port3.port3 ∷ []) port blank_port) _
+            new_port g.S.SectorStore.size g.S.SectorStore.told (disks_given_for c.args.disks port) (slice_index_or (c.in_ok-port0.port0 ∷ c.in_ok-port1.port1 ∷ c.in_ok-port2.port2 ∷ c.in_ok-port3.port3 ∷ []) port reset_port_without_disk) _
             (ports_are (λ k p. p.present ≡ is_some (disks_given_for c.args.disks k)) c.in_ok-port0.port0 c.in_ok-port1.port1 c.in_ok-port2.port2 c.in_ok-port3.port3 (c.in_ok-port0.ensures.present ∙ c.is_some.ensures)
             (c.in_ok-port1.ensures.present ∙ c.is_some-2.ensures) (c.in_ok-port2.ensures.present ∙ c.is_some-3.ensures)
             (c.in_ok-port3.ensures.present ∙ c.is_some-4.ensures) port (λ past. sym (ap is_some (past_given c.args.disks port past))))

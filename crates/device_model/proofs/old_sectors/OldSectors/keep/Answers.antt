@@ -1,5 +1,5 @@
 use Rattle.std.proofs.Common.{subst, sym}
-use Rattle.device_model.specs.OldSectors.{AreRising, AddsOldSector}
+use Rattle.device_model.specs.OldSectors.{AreRising, SetsOldBytesOfSector}
 use Rattle.device_model.proofs.OldSectors.{gap_keeps, still_rising}
 use Rattle.device_model.proofs.old_sectors.OldSectors.keep.Goals as goal
 
@@ -7,7 +7,7 @@ pub returns-clause-keeps : goal.returns-clause-keeps
 returns-clause-keeps c =
     let olds = c.args.self.now.sectors.items in
     let items = rw (c.insert.ensures.succeeds c.requires.room) at c.insert.ensures.items in
-    subst (λ now. AddsOldSector olds now c.args.sector c.args.bytes.now) (sym items) (gap_keeps olds c.args.sector c.args.place c.requires.gap c.args.bytes.now)
+    subst (λ now. SetsOldBytesOfSector olds now c.args.sector c.args.bytes.now) (sym items) (gap_keeps olds c.args.sector c.args.place c.requires.gap c.args.bytes.now)
 
 pub invariant_of-self : goal.invariant_of-self
 invariant_of-self c =

@@ -4,13 +4,12 @@ use Rattle.adapter.specs.Commands.{is_queued}
 use Rattle.adapter.specs.Device.{DurableState, DevicePort}
 use Rattle.adapter.specs.Device.Halt.{NotHalted}
 use Rattle.adapter.specs.Memory.{changed}
-use Rattle.adapter.specs.Steps.{lasting_after, port_after_done, port_with_lasting_after_operation}
+use Rattle.adapter.specs.Steps.{lasting_after, port_after_done_except_lasting, port_with_lasting_after_operation}
 use Rattle.adapter.specs.declared.command.Operation.{Operation}
 use Rattle.adapter.specs.declared.command.Operation.TheVariants as operation
 use Rattle.device_model.specs.WordBits.{word_bits}
-use Rattle.device_model.specs.PortView.{Media, cause_of, taken_in, lasting_sectors_after_end, operation_of_kind, port_of, taken_commands_by_slot}
+use Rattle.device_model.specs.PortView.{Media, cause_of, taken_in, lasting_sectors_after_end, port_of, taken_commands_by_slot}
 use Rattle.device_model.specs.declared.port.PortModel.{PortModel}
-use Rattle.device_model.specs.declared.port.CommandKind.{CommandKind}
 use Rattle.device_model.proofs.SlotLemmas.{slots_changed}
 use Rattle.device_model.proofs.port.PortModel.end.Goals as goal
 
@@ -30,14 +29,14 @@ ended_lasting operation.Trim m was here since e = λ i. record { sectors = m.las
 pub returns-then-is_queued : goal.returns-then-is_queued
 returns-then-is_queued c = λ m.
     let p : PortModel = c.args.self.now in
-    let k : CommandKind = c.args.command_kind in
+    let k : Operation = c.args.operation in
     let slot : ℕ = c.args.slot in
-    let state : DevicePort = port_with_lasting_after_operation (port_after_done (port_of p m) slot (cause_of k) (operation_of_kind k)) (operation_of_kind k) c.args.here in
-    let lasting = ended_lasting (operation_of_kind k) m p.lasting_tape_length c.args.here c.lasting_at-self.result (c.lasting_at-self.ensures (record { sectors = m.lasting; tape_length = p.lasting_tape_length }) m.disk refl) in
-    let queued : true ≡ is_queued (operation_of_kind k) = sym c.if-is_queued.true ∙ c.is_queued.ensures in
+    let state : DevicePort = port_with_lasting_after_operation (port_after_done_except_lasting (port_of p m) slot (cause_of k) k) k c.args.here in
+    let lasting = ended_lasting k m p.lasting_tape_length c.args.here c.lasting_tape_length_after-self.result (c.lasting_tape_length_after-self.ensures (record { sectors = m.lasting; tape_length = p.lasting_tape_length }) m.disk refl) in
+    let queued : true ≡ is_queued k = sym c.if-is_queued.true ∙ c.is_queued.ensures in
     let taken = ap taken_commands_by_slot c.remove.ensures ∙ slots_changed (taken_in p.taken) slot None in
     let is : word_bits c.with_bit_as-self.result ≡ changed (word_bits p.is) (cause_of k) true =
-    c.with_bit_as-self.ensures ∙ ap (λ (place : ℕ). changed (word_bits p.is) place true) c.cause.ensures in
+    c.with_bit_as-self.ensures ∙ ap (λ (place : ℕ). changed (word_bits p.is) place true) c.end_cause.ensures in
     let tfd : bit_and c.task_file.result 0xff7f ≡ bit_and (port_of p m).tfd 0xff7f = ap (λ (n : ℕ). bit_and n 0xff7f) c.task_file.ensures in
     let sact : word_bits c.with_bit_as-self-then-is_queued.result ≡ changed (word_bits p.sact) slot false =
     c.with_bit_as-self-then-is_queued.ensures ∙ ap (λ (place : ℕ). changed (word_bits p.sact) place false) c.from.ensures in
@@ -48,14 +47,14 @@ returns-then-is_queued c = λ m.
 pub returns-else-is_queued : goal.returns-else-is_queued
 returns-else-is_queued c = λ m.
     let p : PortModel = c.args.self.now in
-    let k : CommandKind = c.args.command_kind in
+    let k : Operation = c.args.operation in
     let slot : ℕ = c.args.slot in
-    let state : DevicePort = port_with_lasting_after_operation (port_after_done (port_of p m) slot (cause_of k) (operation_of_kind k)) (operation_of_kind k) c.args.here in
-    let lasting = ended_lasting (operation_of_kind k) m p.lasting_tape_length c.args.here c.lasting_at-self.result (c.lasting_at-self.ensures (record { sectors = m.lasting; tape_length = p.lasting_tape_length }) m.disk refl) in
-    let plain : false ≡ is_queued (operation_of_kind k) = sym c.if-is_queued.false ∙ c.is_queued.ensures in
+    let state : DevicePort = port_with_lasting_after_operation (port_after_done_except_lasting (port_of p m) slot (cause_of k) k) k c.args.here in
+    let lasting = ended_lasting k m p.lasting_tape_length c.args.here c.lasting_tape_length_after-self.result (c.lasting_tape_length_after-self.ensures (record { sectors = m.lasting; tape_length = p.lasting_tape_length }) m.disk refl) in
+    let plain : false ≡ is_queued k = sym c.if-is_queued.false ∙ c.is_queued.ensures in
     let taken = ap taken_commands_by_slot c.remove.ensures ∙ slots_changed (taken_in p.taken) slot None in
     let is : word_bits c.with_bit_as-self.result ≡ changed (word_bits p.is) (cause_of k) true =
-    c.with_bit_as-self.ensures ∙ ap (λ (place : ℕ). changed (word_bits p.is) place true) c.cause.ensures in
+    c.with_bit_as-self.ensures ∙ ap (λ (place : ℕ). changed (word_bits p.is) place true) c.end_cause.ensures in
     let tfd : bit_and c.task_file.result 0xff7f ≡ bit_and (port_of p m).tfd 0xff7f = ap (λ (n : ℕ). bit_and n 0xff7f) c.task_file.ensures in
     let ci : word_bits c.with_bit_as-self-else-is_queued.result ≡ changed (word_bits p.ci) slot false =
     c.with_bit_as-self-else-is_queued.ensures ∙ ap (λ (place : ℕ). changed (word_bits p.ci) place false) c.from-else-is_queued.ensures in

@@ -1,7 +1,7 @@
 use Rattle.std.proofs.Common.{Bool, true, false, ◌≡◌, ◌∙◌, ◌&&◌, sym, ap}
 use Rattle.adapter.specs.Commands.{is_queued}
 use Rattle.device_model.proofs.Absurd.{true-false}
-use Rattle.device_model.specs.PortView.{taken_in, operation_of_kind, port_of, taken_of}
+use Rattle.device_model.specs.PortView.{taken_in, port_of, taken_of}
 use Rattle.device_model.proofs.SlotLemmas.{none_slot, slot_taken}
 use Rattle.device_model.proofs.Transfers.{alone_none}
 use Rattle.device_model.proofs.port.PortModel.is_unmixed.Goals as goal
@@ -9,17 +9,17 @@ use Rattle.device_model.proofs.port.PortModel.is_unmixed.Goals as goal
 pub returns-then-is_queued-clause-only : goal.returns-then-is_queued-clause-only
 returns-then-is_queued-clause-only c = λ no m alone.
     let taken = taken_in c.args.self.now.taken in
-    let queued : true ≡ is_queued (operation_of_kind c.args.command_kind) = sym c.if-is_queued.true ∙ c.is_queued.ensures in
+    let queued : true ≡ is_queued c.args.operation = sym c.if-is_queued.true ∙ c.is_queued.ensures in
     true-false
     (c.are_queued.ensures.1
-    (λ slot t held. ap (λ (b : Bool). b && is_queued (operation_of_kind t.command_kind)) queued ∙ alone slot (taken_of t) (slot_taken taken t slot held)))
+    (λ slot t held. ap (λ (b : Bool). b && is_queued t.operation) queued ∙ alone slot (taken_of t) (slot_taken taken t slot held)))
     no
 
 pub returns-else-is_queued-clause-only : goal.returns-else-is_queued-clause-only
 returns-else-is_queued-clause-only c = λ no m alone.
     let taken = taken_in c.args.self.now.taken in
-    let plain : is_queued (operation_of_kind c.args.command_kind) ≡ false = sym c.is_queued.ensures ∙ c.if-is_queued.false in
+    let plain : is_queued c.args.operation ≡ false = sym c.is_queued.ensures ∙ c.if-is_queued.false in
     true-false
     (c.is_empty.ensures.1
-    (λ slot. none_slot (taken slot) (alone_none (port_of c.args.self.now m) (operation_of_kind c.args.command_kind) plain alone slot)))
+    (λ slot. none_slot (taken slot) (alone_none (port_of c.args.self.now m) c.args.operation plain alone slot)))
     no

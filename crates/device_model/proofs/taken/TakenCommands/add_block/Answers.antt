@@ -25,7 +25,7 @@ invariant_of-self c =
     let new : TakenCommand = record now { moved = now.moved + 1; block = Some c.of.result } in (
       simp length-set c.self.invariant.0,
       room_brings is c.self.inside.block c.args.bytes.now c.self.invariant.1 new refl refl
-          (ap (λ (t : TakenCommand). t.command_kind) (in_it is trim.0 trim.1) ∙ trim.2) (λ i. Some (snapshot_of_bytes (c.of.ensures i))),
+          (ap (λ (t : TakenCommand). t.operation) (in_it is trim.0 trim.1) ∙ trim.2) (λ i. Some (snapshot_of_bytes (c.of.ensures i))),
     )
 
 pub returns : goal.returns

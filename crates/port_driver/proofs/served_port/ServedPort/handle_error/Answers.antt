@@ -3,7 +3,7 @@ use Rattle.std.specs.List.Sorted.{IsPermutation}
 use Rattle.std.proofs.lemmas.List.{length-append, set-set}
 use Rattle.port_driver.specs.PortAndShared.{TakesTurn, with_served_port}
 use Rattle.port_driver.specs.Recovery.{HandlesPortErrorOf, IsInError}
-use Rattle.port_driver.specs.LoanRoom.{HaveLoanRoom, book_and_loans}
+use Rattle.port_driver.specs.LoanRoom.{HaveRoomForIssuedLoans, book_and_loans}
 use Rattle.port_driver.specs.LentSlots.{HasPortToIssue, with_port_slots}
 use Rattle.block_machine.specs.declared.due.QueueMode.{QueueMode}
 use Rattle.host_boot.specs.declared.ProbeResult.{ProbeResult}
@@ -66,14 +66,14 @@ found_so g c disk = record c.complete_and_recover-failed.new.self {
   probe_result = c.resume_or_reboot-found.result.0;
   remembered = disk;
   mode = c.resume_or_reboot-found.result.1;
-  slots = c.note_probe_result.new.self.slots;
+  slots = c.replace_probe_result_and_free_slots.new.self.slots;
 }
 
 -- its disk is the one that it was ready with
-is_anew : (g : Over) (c : After-sort_replies_from-arg-1 g) → c.note_probe_result.new.self ≡ found_so g c (Some c.in-Ready.was)
+is_anew : (g : Over) (c : After-sort_replies_from-arg-1 g) → c.replace_probe_result_and_free_slots.new.self ≡ found_so g c (Some c.in-Ready.was)
 is_anew g c =
     let then = c.complete_and_recover-failed.new.self in
-    c.note_probe_result.ensures.only_these_change
+    c.replace_probe_result_and_free_slots.ensures.only_these_change
     ∙ ap (λ (f : ProbeResult). found_so g c (last_disk_of f then.remembered)) (ap (λ (p : ServedPort). p.probe_result) c.complete_and_recover-failed.ensures.only_slots_change ∙ c.in-Ready.is)
 
 -- what the server kept of the port is kept still
@@ -90,8 +90,8 @@ pub resume_or_reboot-found-requires-clause-bootable : goal.resume_or_reboot-foun
 resume_or_reboot-found-requires-clause-bootable g c =
     restoring.bootable (recovered g (goal.at.resume_or_reboot-found-requires-clause-bootable g c).After-complete_and_recover-failed c.requires.sees.0 c.requires.sees.1)
 
-pub note_probe_result-requires : goal.note_probe_result-requires
-note_probe_result-requires g c =
+pub replace_probe_result_and_free_slots-requires : goal.replace_probe_result_and_free_slots-requires
+replace_probe_result_and_free_slots-requires g c =
     let few = few_usable (g.A.Adapter.device c.resume_or_reboot-found.new.adapter).cap c.resume_or_reboot-found.result.0 in
     subst (λ (mode : QueueMode). mode.usable_slots ≤ 32) (sym c.resume_or_reboot-found.ensures.mode) few
 
@@ -105,7 +105,7 @@ pub resolve-requires-clause-loans_have_room : goal.resolve-requires-clause-loans
 resolve-requires-clause-loans_have_room g c =
     let a = (goal.at.resolve-requires-clause-loans_have_room g c).After-complete_and_recover-failed in
     let x = recovered g a c.requires.sees.0 c.requires.sees.1 in
-    subst (HaveLoanRoom (requests_of c.args.port x.b)) (sym (ap (λ (p : ServedPort). p.kept) c.note_probe_result.ensures.only_these_change ∙ same_kept g a c.requires.sees.0 c.requires.sees.1)) (restoring.have_places x c.args.port.0 refl [])
+    subst (HaveRoomForIssuedLoans (requests_of c.args.port x.b)) (sym (ap (λ (p : ServedPort). p.kept) c.replace_probe_result_and_free_slots.ensures.only_these_change ∙ same_kept g a c.requires.sees.0 c.requires.sees.1)) (restoring.have_places x c.args.port.0 refl [])
 
 pub sort_replies_from-requires : goal.sort_replies_from-requires
 sort_replies_from-requires g c =
@@ -134,20 +134,20 @@ restored g c s h =
       is_found = subst W wanted_is (c.resume_or_reboot-found.ensures.found c.args.port (restoring.token_of x));
       mode = c.resume_or_reboot-found.result.1;
       mode_is = c.resume_or_reboot-found.ensures.mode;
-      fresh = c.note_probe_result.new.self.slots;
-      usable = c.note_probe_result.ensures.has_no_used_slot.usable_count_is_of_mode;
-      as_many = c.note_probe_result.ensures.has_no_used_slot.has_32_slots;
-      free = c.note_probe_result.ensures.has_no_used_slot.all_slots_are_free;
+      fresh = c.replace_probe_result_and_free_slots.new.self.slots;
+      usable = c.replace_probe_result_and_free_slots.ensures.has_no_used_slot.usable_count_is_of_mode;
+      as_many = c.replace_probe_result_and_free_slots.ensures.has_no_used_slot.has_32_slots;
+      free = c.replace_probe_result_and_free_slots.ensures.has_no_used_slot.all_slots_are_free;
       revalidation = c.revalidation_of.result;
       expects = c.revalidation_of.ensures;
       now = now;
       later = met.0;
-      meets = subst K (ap (λ (p : ServedPort). p.kept) c.note_probe_result.ensures.only_these_change ∙ same_kept g (at_mending g c) s h) met.2;
+      meets = subst K (ap (λ (p : ServedPort). p.kept) c.replace_probe_result_and_free_slots.ensures.only_these_change ∙ same_kept g (at_mending g c) s h) met.2;
     }
 
 -- and it has what issuing asks
 lends_anew : (g : Over) (c : After-sort_replies_from-arg-1 g) (s : ServerState) (h : Has g (at_mending g c) s)
-    → HasPortToIssue (restoring.then (recovered g (at_mending g c) s h) (restored g c s h)) (g.A.Adapter.device c.resume_or_reboot-found.new.adapter) c.resolve.new.self.book c.note_probe_result.new.self.slots c.args.port c.note_probe_result.new.self.mode c.note_probe_result.new.self.probe_result
+    → HasPortToIssue (restoring.then (recovered g (at_mending g c) s h) (restored g c s h)) (g.A.Adapter.device c.resume_or_reboot-found.new.adapter) c.resolve.new.self.book c.replace_probe_result_and_free_slots.new.self.slots c.args.port c.replace_probe_result_and_free_slots.new.self.mode c.replace_probe_result_and_free_slots.new.self.probe_result
 lends_anew g c s h =
     let x = recovered g (at_mending g c) s h in
     let y = restored g c s h in
@@ -216,7 +216,7 @@ module _ (g : Over) (c : After-issue_where_ready g) (s : ServerState) (h : IsInE
       ∙ ap (λ (p : ServedPort). P p.kept p.slots p) c.issue_where_ready.ensures.only_slots_change
       ∙ ap (P c.resolve.new.kept c.issue_where_ready.new.self.slots) (is_anew g (at_order g c))
       ∙ ap (λ (list : List PortSlots). record (restoring.then x y) { device = three; slots = list; book = c.issue_where_ready.new.book })
-      (sym (set-set s.slots c.args.port.0 c.note_probe_result.new.self.slots c.issue_where_ready.new.self.slots))
+      (sym (set-set s.slots c.args.port.0 c.replace_probe_result_and_free_slots.new.self.slots c.issue_where_ready.new.self.slots))
 
   handled : TakesTurn (HandlesPortErrorOf c.args.port c.args.port_error) c.args.replies.now.items c.sort_replies_from.new.replies.items s
       (with_served_port s (g.A.Adapter.device c.issue_where_ready.new.adapter) shared c.args.port c.issue_where_ready.new.self)

@@ -6,7 +6,7 @@ use Rattle.host_boot.specs.declared.ProbeResult.TheVariants.{Unready}
 use Rattle.identify.specs.declared.wanted.Wanted.{Wanted}
 use Rattle.adapter.specs.Rules.{HasPort, IsOn}
 use Rattle.refinement.specs.Fragments.{AnySlotStates, IsSimulated, SomeMachineAgreesWith}
-use Rattle.port_control.specs.PortEvents.{IsEventAccess}
+use Rattle.port_control.specs.PortEvents.{IsPxisSstsOrOwnIsAccess}
 use Rattle.server_history.specs.Probing.{FindsReasonToBoot, ProbesAnew}
 use Rattle.server_history.specs.ServerState.{ServerState, SettledInvariant, last_disk_of}
 use Rattle.server_history.specs.Turns.{ProbesUnready}
@@ -29,8 +29,8 @@ module _ (g : Over) (c : After-needs_probe g) (s : ServerState) (shared : Shared
   looks : (shows : Bool) → FindsReasonToBoot c.args.state c.args.port shows (g.A.Adapter.device c.args.adapter.now) seen → FindsReasonToBoot c.args.state c.args.port shows s.device seen
   looks shows looked = subst (λ (d : Device). FindsReasonToBoot c.args.state c.args.port shows d seen) (sym h.has_port_and_shared.device_is) looked
 
-  followed : IsSimulated (IsEventAccess c.args.port) AnySlotStates s.device seen
-  followed = subst (λ (d : Device). IsSimulated (IsEventAccess c.args.port) AnySlotStates d seen) (sym h.has_port_and_shared.device_is) c.needs_probe.ensures.followed
+  followed : IsSimulated (IsPxisSstsOrOwnIsAccess c.args.port) AnySlotStates s.device seen
+  followed = subst (λ (d : Device). IsSimulated (IsPxisSstsOrOwnIsAccess c.args.port) AnySlotStates d seen) (sym h.has_port_and_shared.device_is) c.needs_probe.ensures.followed
 
   -- where it shows that it may have a disk, it may be stopped
   looked : FindsReasonToBoot c.args.state c.args.port true (g.A.Adapter.device c.args.adapter.now) seen → IsOn seen × HasPort seen c.args.port.0 × SomeMachineAgreesWith AnySlotStates seen
@@ -72,15 +72,15 @@ returns-clause-probes g c = λ s shared h.
     let new = g.A.Adapter.device c.probe_anew-found.new.adapter in
     let found = c.probe_anew-found.result.0 in
     let mode = c.probe_anew-found.result.1 in
-    let slots = c.note_probe_result.new.self.slots in
+    let slots = c.replace_probe_result_and_free_slots.new.self.slots in
     let old = c.args.self.now in
-    let anew_is : c.note_probe_result.new.self ≡ record old { probe_result = found; mode = mode; slots = slots } =
-    c.note_probe_result.ensures.only_these_change ∙ ap (λ (f : ProbeResult). record old { probe_result = found; remembered = last_disk_of f old.remembered; mode = mode; slots = slots }) c.requires.unready in
+    let anew_is : c.replace_probe_result_and_free_slots.new.self ≡ record old { probe_result = found; mode = mode; slots = slots } =
+    c.replace_probe_result_and_free_slots.ensures.only_these_change ∙ ap (λ (f : ProbeResult). record old { probe_result = found; remembered = last_disk_of f old.remembered; mode = mode; slots = slots }) c.requires.unready in
     let F : Wanted → Type 0 = λ wanted. ProbesAnew wanted c.args.port found mode (seen g a s shared h) new in
-    let back : with_served_port s new shared c.args.port c.note_probe_result.new.self ≡ anew.found_anew s new found mode slots c.args.port.0 =
+    let back : with_served_port s new shared c.args.port c.replace_probe_result_and_free_slots.new.self ≡ anew.found_anew s new found mode slots c.args.port.0 =
     ap (with_served_port s new shared c.args.port) anew_is ∙ placing.with_found s c.args.port c.args.self.now h.has_port_and_shared.port_is new shared found mode slots
     ∙ (λ i. record (anew.found_anew s new found mode slots c.args.port.0) { table = sym h.has_port_and_shared.table_is i; book = sym h.has_port_and_shared.book_is i }) in
     subst (λ (x : ServerState). ProbesUnready c.args.port s x × SettledInvariant x) (sym back)
     (anew.booted_settles c.law_an_unready_port_is_probed.ensures.probe_is_a_turn s c.args.port c.args.state (unready g a s shared h) h.settled_invariant (seen g a s shared h)
     (looks g a s shared h true c.if-not-needs_probe.ensures.is_looked_at) (followed g a s shared h) new found mode slots
-    (subst F (sym h.has_port_and_shared.port_is.wanted_is) c.probe_anew-found.ensures.finds) c.note_probe_result.ensures.has_no_used_slot c.args.port.0 refl)
+    (subst F (sym h.has_port_and_shared.port_is.wanted_is) c.probe_anew-found.ensures.finds) c.replace_probe_result_and_free_slots.ensures.has_no_used_slot c.args.port.0 refl)

@@ -8,7 +8,7 @@ use Rattle.server_history.specs.IssuingAndAnswering.{IsMaskOf}
 use Rattle.server_history.specs.ServerState.{InCallInvariant, SettledInvariant, ServerState, slots_at, state_of}
 use Rattle.server_history.specs.Turns.{ServicesPort}
 use Rattle.slots.specs.SlotUses.{PortSlots}
-use Rattle.port_control.specs.PortEvents.{IsEventAccess, TakesEvent}
+use Rattle.port_control.specs.PortEvents.{IsPxisSstsOrOwnIsAccess, TakesEvent}
 use Rattle.port_control.specs.declared.events.PortError.{PortError}
 use Rattle.port_control.specs.declared.events.PortError.TheVariants.{TimedOut}
 use Rattle.port_control.specs.declared.events.PortEvent.TheVariants.{NoEvent}
@@ -40,8 +40,8 @@ module _ (g : Over) (c : After-take_event-look g) (s : ServerState) (h : Has g c
   looks : TakesEvent c.args.port c.take_event-look.result s.device seen
   looks = subst (λ (d : Device). TakesEvent c.args.port c.take_event-look.result d seen) (sym h.has_port_and_shared.device_is) c.take_event-look.ensures.looks
 
-  followed : IsSimulated (IsEventAccess c.args.port) AnySlotStates s.device seen
-  followed = subst (λ (d : Device). IsSimulated (IsEventAccess c.args.port) AnySlotStates d seen) (sym h.has_port_and_shared.device_is) c.take_event-look.ensures.followed
+  followed : IsSimulated (IsPxisSstsOrOwnIsAccess c.args.port) AnySlotStates s.device seen
+  followed = subst (λ (d : Device). IsSimulated (IsPxisSstsOrOwnIsAccess c.args.port) AnySlotStates d seen) (sym h.has_port_and_shared.device_is) c.take_event-look.ensures.followed
 
   looked_settled : SettledInvariant looked
   looked_settled = record {

@@ -3,7 +3,7 @@ use Rattle.std.proofs.lemmas.Bool.{false≢true}
 use Rattle.ata_types.specs.declared.Port.{Port}
 use Rattle.adapter.specs.Device.{Device}
 use Rattle.refinement.specs.Fragments.{AnySlotStates, IsSimulated}
-use Rattle.port_control.specs.PortEvents.{IsEventAccess}
+use Rattle.port_control.specs.PortEvents.{IsPxisSstsOrOwnIsAccess}
 use Rattle.identify.specs.declared.DiskInfo.{DiskInfo}
 use Rattle.host_boot.specs.declared.ProbeResult.{ProbeResult}
 use Rattle.host_boot.specs.declared.ProbeResult.TheVariants.{Ready, Unready, Unserved}
@@ -41,7 +41,7 @@ in_error g c s h = record {
         in_call_invariant = h.settled_invariant.in_call_invariant;
         ready = ap state_of (h.has_port_and_shared.port_is.probe_result_is ∙ c.in-Ready.is);
         error_is_found = sym h.has_port_and_shared.device_is;
-        is_simulated = subst (IsSimulated (IsEventAccess c.args.port) AnySlotStates s.device) h.has_port_and_shared.device_is (c.law_looks_preserve_invariant.ensures.empty_look_is_simulated c.args.port s.device);
+        is_simulated = subst (IsSimulated (IsPxisSstsOrOwnIsAccess c.args.port) AnySlotStates s.device) h.has_port_and_shared.device_is (c.law_looks_preserve_invariant.ensures.empty_look_is_simulated c.args.port s.device);
       };
 }
 

@@ -5,7 +5,7 @@ use Rattle.std.proofs.lemmas.List.Elements.{Contains-get_or}
 use Rattle.ata_types.specs.declared.request.RequestId.{RequestId}
 use Rattle.request_queue.specs.BookEntries.{BookEntry, is_of_port}
 use Rattle.request_queue.specs.Dispositions.{disposition_of}
-use Rattle.port_driver.specs.LoanRoom.{HaveLoanRoom, book_and_loans}
+use Rattle.port_driver.specs.LoanRoom.{HaveRoomForIssuedLoans, book_and_loans}
 use Rattle.port_driver.proofs.Settling as settling
 use Rattle.port_driver.proofs.served_port.Shared.resolve.Goals as goal
 
@@ -27,7 +27,7 @@ resolve_one-requires-clause-here c =
       n.0,
       f.here n.0 (subst (λ (list : List BookEntry). Contains list n.0) (sym n.1) (Contains-get_or (n.0 ∷ drop (c.loop-place.place + 1) all) 0 n.0 (omega arith))),
       sym (ap (λ (ids : List RequestId). get_or ids c.loop-place.place (record { 0 = 0 })) (c.deref.ensures.0 ∙ c.ids_of-ids.ensures) ∙ n.2 (record { 0 = 0 })),
-      settling.next_place n.0 (drop (c.loop-place.place + 1) all) c.loop-place.kept (subst (λ (list : List BookEntry). HaveLoanRoom list c.loop-place.kept) n.1 c.loop-place.invariant.1),
+      settling.next_place n.0 (drop (c.loop-place.place + 1) all) c.loop-place.kept (subst (λ (list : List BookEntry). HaveRoomForIssuedLoans list c.loop-place.kept) n.1 c.loop-place.invariant.1),
     )
 
 pub loop-place-preserved : goal.loop-place-preserved
@@ -47,7 +47,7 @@ loop-place-preserved c =
     let m = c.resolve_one.ensures.resolves n.0 here its_id in (
       settling.goes_on disposition all start c.args.replies.now.items n.0 left now new c.loop-place.replies.items c.resolve_one.new.replies.items m.0 f m.1 m.2
           (λ e there ne. c.resolve_one.ensures.others e there (λ same. ne (same ∙ sym its_id))) c.resolve_one.ensures.may,
-      c.resolve_one.ensures.places n.0 left here its_id (subst (λ (list : List BookEntry). HaveLoanRoom list c.loop-place.kept) n.1 c.loop-place.invariant.1),
+      c.resolve_one.ensures.places n.0 left here its_id (subst (λ (list : List BookEntry). HaveRoomForIssuedLoans list c.loop-place.kept) n.1 c.loop-place.invariant.1),
     )
 
 pub returns-clause-resolves : goal.returns-clause-resolves

@@ -5,12 +5,12 @@ use Rattle.ata_types.specs.declared.request.Reply.{Reply}
 use Rattle.ata_types.specs.declared.request.RequestId.{RequestId}
 use Rattle.dma_frames.specs.Loan.{Lending}
 use Rattle.dma_frames.specs.FrameTables.{OwnersAndLoans, SetsLoanOnly}
-use Rattle.request_queue.specs.BookEntries.{BookEntry, IsWellFormedEntry, update_if_id, requeued_request, without_entry}
+use Rattle.request_queue.specs.BookEntries.{BookEntry, IsWellFormedEntry, update_if_id, waiting_again_request, without_entry}
 use Rattle.request_queue.specs.Dispositions.{IsResolved, disposition_of, keeps_loan, reply_to}
 use Rattle.request_queue.specs.declared.PendingRequest.{PendingRequest}
 use Rattle.request_queue.specs.declared.disposition.Disposition.{Disposition}
 use Rattle.port_driver.specs.declared.served_port.Shared.{Shared}
-use Rattle.port_driver.specs.LoanRoom.{HaveLoanRoom, BookIsSound, MayAnswerAll, book_and_loans}
+use Rattle.port_driver.specs.LoanRoom.{HaveRoomForIssuedLoans, BookIsSound, MayAnswerAll, book_and_loans}
 use Rattle.port_driver.proofs.Settling.{again, ends_back, ends_kept, kept_issued, left_each, may_go_again, places_kept, places_left, shorter, sound_back}
 use Rattle.port_driver.proofs.served_port.Shared.resolve_one.Goals as goal
 use Rattle.port_driver.proofs.served_port.Shared.resolve_one.Goals.{then-keeps_loan, else-keeps_loan}
@@ -79,7 +79,7 @@ returns-after-keeps_loan-clause-resolves c = λ request here its.
 
 pub returns-in-Requeue-clause-others : goal.returns-in-Requeue-clause-others
 returns-in-Requeue-clause-others c = λ e here ne.
-    subst (λ (book : List BookEntry). Contains book e) (sym c.requeue.ensures) (c.law_operations_change_one_request.ensures.others_are_unchanged c.args.self.now.book c.args.id requeued_request e here ne)
+    subst (λ (book : List BookEntry). Contains book e) (sym c.requeue.ensures) (c.law_operations_change_one_request.ensures.others_are_unchanged c.args.self.now.book c.args.id waiting_again_request e here ne)
 
 pub returns-in-Requeue-clause-may : goal.returns-in-Requeue-clause-may
 returns-in-Requeue-clause-may c =
@@ -92,7 +92,7 @@ returns-in-Requeue-clause-may c =
         book_is_well_formed = c.law_book_stays_well_formed.ensures.requeued c.args.self.now.book c.args.id may.book_is_sound.book_is_well_formed (r.0, r.1, ap (λ (e : PendingRequest). e.id) r.2 ∙ r.3, its.0, its.1);
         entries_are_well_formed = c.law_well_formed_entries_stay.ensures.requeued c.args.self.now.table.value c.args.self.now.book c.args.id may.book_is_sound.entries_are_well_formed;
       };
-      replies_have_room = let as_many = length-map c.args.self.now.book (update_if_id c.args.id requeued_request) in omega (arith, as_many, may.replies_have_room);
+      replies_have_room = let as_many = length-map c.args.self.now.book (update_if_id c.args.id waiting_again_request) in omega (arith, as_many, may.replies_have_room);
     })
 
 pub returns-after-keeps_loan-clause-others : goal.returns-after-keeps_loan-clause-others
@@ -110,9 +110,9 @@ returns-after-keeps_loan-clause-places c = λ request rest here its places.
     let entry : request.request ≡ c.request-entry.result = ap (λ (h : BookEntry). h.request) (sym same) ∙ r.2 in
     let keeps = ap (keeps_loan c.in-Complete.outcome) entry ∙ sym c.keeps_loan.ensures in
     elim c.if-keeps_loan.branch [
-      | then-keeps_loan w ↦ subst (HaveLoanRoom rest) (sym (w.kept-is ∙ w.keep.ensures))
+      | then-keeps_loan w ↦ subst (HaveRoomForIssuedLoans rest) (sym (w.kept-is ∙ w.keep.ensures))
           (places_kept request rest c.args.kept.now w.answer-loan.result.1 (kept_issued c.in-Complete.outcome request.request (keeps ∙ w.if-keeps_loan.true)) places)
-      | else-keeps_loan w ↦ subst (HaveLoanRoom rest) (sym w.kept-is) (places_left request rest c.args.kept.now places)
+      | else-keeps_loan w ↦ subst (HaveRoomForIssuedLoans rest) (sym w.kept-is) (places_left request rest c.args.kept.now places)
     ]
 
 pub returns-after-keeps_loan-clause-may : goal.returns-after-keeps_loan-clause-may

@@ -1,6 +1,7 @@
 use Rattle.std.specs.Vec.{vec_len}
 use Rattle.std.proofs.lemmas.List.{length-map}
 use Rattle.std.proofs.Common.{ℕ, ◌+◌, get_or, set, ◌≡◌, length, arith, ◌<◌, ◌++◌, ◌∷◌, [], List, sym, subst}
+use Rattle.ata_types.specs.declared.limits.TheConstants.{MOST_UNANSWERED_OF_A_CLIENT}
 use Rattle.block_machine.specs.declared.due.Unanswered.{Unanswered}
 use Rattle.request_queue.specs.Conflicts.{AreConflictLists}
 use Rattle.request_queue.specs.ClientCounts.{AreClientCounts}
@@ -17,7 +18,7 @@ pub push-requires-clause-room : goal.push-requires-clause-room
 push-requires-clause-room c =
     let s = c.self.invariant.0 in
     fits c.self.inside.store (λ k d lt. (s.clients_are_valid k d lt).0) s.clients_are_within_limit c.args.request.client.0 (λ k d lt. (s.clients_are_valid k d lt).1) c.requires.client_is_valid.0 c.requires.client_is_valid.1
-    (subst (λ (es : List BookEntry). entry_count_of_client es c.args.request.client.0 < 16) (sym c.self.view_is) c.requires.client_has_room)
+    (subst (λ (es : List BookEntry). entry_count_of_client es c.args.request.client.0 < MOST_UNANSWERED_OF_A_CLIENT) (sym c.self.view_is) c.requires.client_has_room)
 
 pub invariant_of-self : goal.invariant_of-self
 invariant_of-self c =
@@ -26,7 +27,7 @@ invariant_of-self c =
           (longer_in_order c.self.inside.store (record { request = c.args.request; frames = c.args.frames.now }) c.self.invariant.0
           (subst (λ (es : List BookEntry). All (λ x. x.request.id.0 < c.args.request.id.0) es) (sym c.self.view_is) c.requires.id_is_newest)
           c.requires.is_newly_accepted c.requires.client_is_valid.0 c.requires.client_is_valid.1
-          (subst (λ (es : List BookEntry). entry_count_of_client es c.args.request.client.0 < 16) (sym c.self.view_is) c.requires.client_has_room)),
+          (subst (λ (es : List BookEntry). entry_count_of_client es c.args.request.client.0 < MOST_UNANSWERED_OF_A_CLIENT) (sym c.self.view_is) c.requires.client_has_room)),
       subst (λ (es : List BookEntry). AreConflictLists (unanswered_of es) c.add-blocker.new.self) (sym c.push.ensures.request_is_appended)
           (subst (λ (book : List Unanswered). AreConflictLists book c.add-blocker.new.self) (sym (asks_more c.self.inside.store new))
           (subst (λ (r : Unanswered). AreConflictLists (unanswered_of c.self.inside.store ++ r ∷ []) c.add-blocker.new.self) c.as_unanswered.ensures c.add-blocker.ensures.lists)),
@@ -46,7 +47,7 @@ pub add-blocker-requires-clause-room : goal.add-blocker-requires-clause-room
 add-blocker-requires-clause-room c =
     let s = c.self.invariant.0 in
     fits c.self.inside.store (λ k d lt. (s.clients_are_valid k d lt).0) s.clients_are_within_limit c.args.request.client.0 (λ k d lt. (s.clients_are_valid k d lt).1) c.requires.client_is_valid.0 c.requires.client_is_valid.1
-    (subst (λ (es : List BookEntry). entry_count_of_client es c.args.request.client.0 < 16) (sym c.self.view_is) c.requires.client_has_room)
+    (subst (λ (es : List BookEntry). entry_count_of_client es c.args.request.client.0 < MOST_UNANSWERED_OF_A_CLIENT) (sym c.self.view_is) c.requires.client_has_room)
 
 pub add-blocker-requires-clause-newest : goal.add-blocker-requires-clause-newest
 add-blocker-requires-clause-newest c =
@@ -57,7 +58,7 @@ pub push_reserved-requires : goal.push_reserved-requires
 push_reserved-requires c =
     let s = c.self.invariant.0 in
     let few = fits c.self.inside.store (λ k d lt. (s.clients_are_valid k d lt).0) s.clients_are_within_limit c.args.request.client.0 (λ k d lt. (s.clients_are_valid k d lt).1) c.requires.client_is_valid.0 c.requires.client_is_valid.1
-    (subst (λ (es : List BookEntry). entry_count_of_client es c.args.request.client.0 < 16) (sym c.self.view_is) c.requires.client_has_room) in
+    (subst (λ (es : List BookEntry). entry_count_of_client es c.args.request.client.0 < MOST_UNANSWERED_OF_A_CLIENT) (sym c.self.view_is) c.requires.client_has_room) in
     let n = c.self.invariant.2.lengths_are_same in
     let long = length-map c.self.inside.store (λ (e : BookEntry). as_unanswered e.request) in
     let room = c.self.invariant.3 in

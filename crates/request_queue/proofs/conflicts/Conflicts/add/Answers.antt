@@ -15,6 +15,6 @@ returns-clause-lists c =
     let view = c.self-2.view_is in
     let all = when_listed book c.list_unlisted.new.self c.list_unlisted.ensures.lists c.list_unlisted.ensures.listed in
     let new = c.list_last.new in
-    flag_down (book ++ r ∷ []) new.sectors new.flushes.items c.self-2.inside.unlisted (ap (λ (l : ConflictLists). l.has_unlisted_request) view ∙ c.list_unlisted.ensures.listed)
+    flag_down (book ++ r ∷ []) new.sectors new.flushes.items c.self-2.inside.unlisted (ap (λ (l : ConflictLists). l.lone_request_is_unlisted) view ∙ c.list_unlisted.ensures.listed)
     (c.list_last.ensures.sectors book (subst (λ (l : ConflictLists). AreIndexed book l.sectors) (sym view) all.0) c.requires.newest)
     (c.list_last.ensures.flushes ∙ (ap (λ (fs : List Flush). fs ++ flushes_among (r ∷ [])) (ap (λ (l : ConflictLists). l.flushes) view ∙ all.1) ∙ sym (longer_flushes book (r ∷ []))))

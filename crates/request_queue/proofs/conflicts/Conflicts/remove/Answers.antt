@@ -20,7 +20,7 @@ returns c =
     let r = c.request-request.result in
     let view = c.self.view_is in
     let unlisted = c.if-self.false in
-    let all = when_listed (unanswered_of es) c.args.self.now c.requires.lists (sym (ap (λ (l : ConflictLists). l.has_unlisted_request) view) ∙ unlisted) in
+    let all = when_listed (unanswered_of es) c.args.self.now c.requires.lists (sym (ap (λ (l : ConflictLists). l.lone_request_is_unlisted) view) ∙ unlisted) in
     flag_down (remove (unanswered_of es) place) c.remove_sectors.new.sectors c.remove_flush.new.flushes.items c.self.inside.unlisted unlisted c.remove_sectors.ensures
     (fewer_flushes es r.id c.self.inside.flushes.items c.remove_flush.new.flushes.items (ap (λ (l : ConflictLists). l.flushes) view ∙ all.1) c.remove_flush.ensures.flush_is_removed
     ∙ ap flushes_among (ap unanswered_of (sym (dropped es place r c.requires.place c.requires.book_is_well_formed c.request-request.ensures)) ∙ asks_less es place))

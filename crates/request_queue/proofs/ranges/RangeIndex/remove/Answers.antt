@@ -4,13 +4,13 @@ use Rattle.std.proofs.lemmas.Option.{slice_get-get_or}
 use Rattle.request_queue.specs.declared.ranges.RequestRange.{RequestRange}
 use Rattle.request_queue.specs.declared.ranges.IndexEntry.{IndexEntry}
 use Rattle.request_queue.specs.BookRanges.{StandsBefore, item_first}
-use Rattle.request_queue.specs.RangeIndex.{IsIndex, items_of}
+use Rattle.request_queue.specs.RangeIndex.{IsSortedWithGreatestEndSoFar, items_of}
 use Rattle.request_queue.proofs.Sorting.{as_many}
 use Rattle.request_queue.proofs.Editing.{its_place, removed_below, removed_follow, removed_view, removed_index}
 use Rattle.request_queue.proofs.ranges.RangeIndex.remove.Goals as goal
 
 -- the place that the search gives is the item's
-placed : (slice es : List IndexEntry) (x : RequestRange) (place first : ℕ) → slice ≡ es → IsIndex es → Contains (items_of es) x → first ≡ item_first x
+placed : (slice es : List IndexEntry) (x : RequestRange) (place first : ℕ) → slice ≡ es → IsSortedWithGreatestEndSoFar es → Contains (items_of es) x → first ≡ item_first x
     → ((k : ℕ) (d : RequestRange) → k < place → StandsBefore (get_or (items_of slice) k d) first x.id.0)
     → ((k : ℕ) (d : RequestRange) → place ≤ k → k < length slice → StandsBefore (get_or (items_of slice) k d) first x.id.0 → ⊥)
     → (place < length (items_of es)) × (get_or (items_of es) place x ≡ x)

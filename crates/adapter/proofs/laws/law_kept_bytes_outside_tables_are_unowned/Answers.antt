@@ -1,6 +1,0 @@
-use Rattle.adapter.proofs.Free.{apart_free_stays}
-use Rattle.adapter.specs.Guarded.{PassesTest}
-use Rattle.adapter.proofs.laws.law_kept_bytes_outside_tables_are_unowned.Goals as goal
-
-pub returns : goal.returns
-returns c = λ tables kept. apart_free_stays (PassesTest tables) (PassesTest kept)

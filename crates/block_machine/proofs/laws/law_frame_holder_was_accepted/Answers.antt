@@ -1,5 +1,0 @@
-use Rattle.block_machine.proofs.Accepts.{living_accepted}
-use Rattle.block_machine.proofs.laws.law_frame_holder_was_accepted.Goals as goal
-
-pub returns : goal.returns
-returns c start history e starts legal living = living_accepted start history starts legal e living

@@ -1,5 +1,0 @@
-use Rattle.block_machine.proofs.Runs.{traced}
-use Rattle.block_machine.proofs.laws.law_frames_keep_bytes_but_read_sectors.Goals as goal
-
-pub returns : goal.returns
-returns c start history e starts legal living = (traced start history starts legal).held e living

@@ -1,5 +1,0 @@
-use Rattle.block_machine.proofs.Lending.{lent_own}
-use Rattle.block_machine.proofs.laws.law_lent_frame_is_its_own.Goals as goal
-
-pub returns : goal.returns
-returns c m f e r l h = lent_own m f e r l h

@@ -1,5 +1,0 @@
-use Rattle.machine_runs.proofs.NoneDue.{lone_is_issued}
-use Rattle.machine_runs.proofs.laws.law_a_lone_request_is_issued.Goals as goal
-
-pub returns : goal.returns
-returns g c = lone_is_issued

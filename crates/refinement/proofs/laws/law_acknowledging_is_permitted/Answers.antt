@@ -1,5 +1,0 @@
-use Rattle.refinement.proofs.device.AllowedWrites.{acknowledging_may}
-use Rattle.refinement.proofs.laws.law_acknowledging_is_permitted.Goals as goal
-
-pub returns : goal.returns
-returns c = acknowledging_may

@@ -1,5 +1,0 @@
-use Rattle.refinement.proofs.driver.OwnSteps.{answer_knows}
-use Rattle.refinement.proofs.laws.law_answering_agrees.Goals as goal
-
-pub returns : goal.returns
-returns c = answer_knows

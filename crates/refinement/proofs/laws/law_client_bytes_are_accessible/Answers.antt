@@ -1,5 +1,0 @@
-use Rattle.refinement.proofs.driver.PermittedAccesses.{clients_are_free}
-use Rattle.refinement.proofs.laws.law_client_bytes_are_accessible.Goals as goal
-
-pub returns : goal.returns
-returns c = clients_are_free c.law_prerequisites.ensures

@@ -1,5 +1,0 @@
-use Rattle.refinement.proofs.driver.AddedSteps.{device_adds}
-use Rattle.refinement.proofs.laws.law_device_steps_are_parts.Goals as goal
-
-pub returns : goal.returns
-returns c = device_adds

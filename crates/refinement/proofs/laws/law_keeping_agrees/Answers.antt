@@ -1,5 +1,0 @@
-use Rattle.refinement.proofs.driver.OwnSteps.{keeping_knows}
-use Rattle.refinement.proofs.laws.law_keeping_agrees.Goals as goal
-
-pub returns : goal.returns
-returns c = keeping_knows

@@ -1,5 +1,0 @@
-use Rattle.refinement.proofs.driver.OwnSteps.{release_knows}
-use Rattle.refinement.proofs.laws.law_releasing_agrees.Goals as goal
-
-pub returns : goal.returns
-returns c = release_knows

@@ -1,5 +1,0 @@
-use Rattle.server_history.proofs.plain_calls.RefusalsAndBytes.{open_free}
-use Rattle.server_history.proofs.laws.law_open_frames_are_accessible.Goals as goal
-
-pub returns : goal.returns
-returns c s client frame offset count b opens = open_free c.law_history_prerequisites.ensures s client frame offset count b.owned_frames_are_clients b.machine b.reached b.machine_relation opens
