@@ -200,7 +200,7 @@ first_command = record {
   command = command;
   taken_has_these_places = λ t is. some-none is refl;
   reads_apart_from_writes = let P : CommandLayout → Type 0 = λ s. (at : ℕ) → is_read_only s at ≡ true → is_not_device_writable s at ≡ true in subst P (sym stands_is) stands_apart;
-  other_slots_are_free = λ k ne. record { ci_is_clear = changed_other (λ _. false) 0 true k ne; is_not_taken = refl };
+  other_slots_have_no_command = λ k ne. record { is_not_issued = changed_other (λ _. false) 0 true k ne; is_not_taken = refl };
   other_ports_are_idle = λ q ne. let P : DevicePort → Type 0 = λ p. IsIdlePort p in subst P (sym (changed_other (λ _. empty_port) 0 reading_port q ne)) quiet;
 }
   where

@@ -6,7 +6,7 @@ use Rattle.adapter.specs.Device.{DevicePort, Device}
 use Rattle.adapter.specs.Idle.{IsIdle, IsIdlePort}
 use Rattle.adapter.specs.Rules.{InUse, InDataBlocks, IsInMemoryNotOwnedByDevice, IsStable}
 use Rattle.adapter.specs.Guarded.{PassesTest, MissesRange, MissesPieces, IsGuardedSlot, IsGuardedPort, IsGuarded}
-use Rattle.adapter.specs.OneCommand.{CommandLayout, is_in_span, is_in_pieces, is_read_only, is_device_writable, is_not_device_writable, IsFreeSlot, layout_of, HasOneCommand, NoneHasCommand, IsOutsideCommand}
+use Rattle.adapter.specs.OneCommand.{CommandLayout, is_in_span, is_in_pieces, is_read_only, is_device_writable, is_not_device_writable, SlotHasNoCommand, layout_of, HasOneCommand, NoneHasCommand, IsOutsideCommand}
 use Rattle.adapter.proofs.Absurd.{true-false, some-none}
 use Rattle.adapter.proofs.Free.{apart_free_stays}
 
@@ -64,11 +64,11 @@ written_not s at w u = true-false u (ap not w)
 
 -- ---- ports with no command
 
-free_unused : {A : Type 0} (p : DevicePort) (slot : ℕ) → IsFreeSlot p slot → InUse p slot → A
-free_unused p slot f (inl set) = true-false set f.ci_is_clear
+free_unused : {A : Type 0} (p : DevicePort) (slot : ℕ) → SlotHasNoCommand p slot → InUse p slot → A
+free_unused p slot f (inl set) = true-false set f.is_not_issued
 free_unused p slot f (inr (t, is)) = some-none is f.is_not_taken
 
-port_unused : (Tables Kept : ℕ → Type 0) (memory : ℕ → ℕ) (p : DevicePort) → ((slot : ℕ) → IsFreeSlot p slot) →
+port_unused : (Tables Kept : ℕ → Type 0) (memory : ℕ → ℕ) (p : DevicePort) → ((slot : ℕ) → SlotHasNoCommand p slot) →
     (p.fre ≡ true → MissesRange Kept p.bases.fb (p.bases.fb + 256)) → IsGuardedPort Tables Kept memory p
 port_unused Tables Kept memory p free area = record {
   slots_are_guarded = λ slot used. free_unused p slot (free slot) used;
@@ -78,7 +78,7 @@ port_unused Tables Kept memory p free area = record {
 
 port_idle : (Tables Kept : ℕ → Type 0) (memory : ℕ → ℕ) (p : DevicePort) → IsIdlePort p → IsGuardedPort Tables Kept memory p
 port_idle Tables Kept memory p i =
-    port_unused Tables Kept memory p (λ slot. record { ci_is_clear = i.ci_is_clear slot; is_not_taken = i.none_is_taken slot }) (λ fre. true-false fre i.fre_is_clear)
+    port_unused Tables Kept memory p (λ slot. record { is_not_issued = i.ci_is_clear slot; is_not_taken = i.none_is_taken slot }) (λ fre. true-false fre i.fre_is_clear)
 
 pub unused_guarded : (kept : ℕ → Bool) (d : Device) → NoneHasCommand d →
     ((port : ℕ) → (d.port port).fre ≡ true → MissesRange (PassesTest kept) (d.port port).bases.fb ((d.port port).bases.fb + 256)) →
@@ -101,7 +101,7 @@ idle_free at n d i inside =
       inside = inside;
       kept = λ a low high. refl;
       no_table = λ a low high table. true-false table refl;
-      no_header = λ q slot a used low high from to. free_unused (d.port q) slot (record { ci_is_clear = (i.ports_are_idle q).ci_is_clear slot; is_not_taken = (i.ports_are_idle q).none_is_taken slot }) used;
+      no_header = λ q slot a used low high from to. free_unused (d.port q) slot (record { is_not_issued = (i.ports_are_idle q).ci_is_clear slot; is_not_taken = (i.ports_are_idle q).none_is_taken slot }) used;
     })
 
 -- ---- one command
@@ -138,14 +138,14 @@ module _ (d : Device) (port slot : ℕ) (c : HasOneCommand d port slot) where
           | inl e ↦
               let P : ℕ → Type 0 = λ n. IsGuardedSlot Tables Kept d.memory (d.port port).bases.clb n in
               subst P (sym e) command_guarded
-          | inr ne ↦ free_unused (d.port port) k (c.other_slots_are_free k ne) used
+          | inr ne ↦ free_unused (d.port port) k (c.other_slots_have_no_command k ne) used
         ];
     taken_pieces_are_not_kept = λ k t is.
         elim (cases_eq k slot) [
           | inl e ↦
               let P : List ℕ → Type 0 = λ places. MissesPieces Kept places in
               subst P (sym (c.taken_has_these_places t (ap (d.port port).taken (sym e) ∙ is))) places_avoid
-          | inr ne ↦ some-none is (c.other_slots_are_free k ne).is_not_taken
+          | inr ne ↦ some-none is (c.other_slots_have_no_command k ne).is_not_taken
         ];
     received_fis_is_not_kept = λ fre at low high kept. written_not s at (writes_area s at low high) kept;
   }
@@ -194,9 +194,9 @@ module _ (d : Device) (port slot : ℕ) (c : HasOneCommand d port slot) where
                         true-false (in_header a (omega (arith, clb, it, from)) (omega (arith, clb, it, to))) (e.elsewhere a low high)
                     | inr ne ↦
                         let P : ℕ → Type 0 = λ n. InUse (d.port n) k in
-                        free_unused (d.port port) k (c.other_slots_are_free k ne) (subst P same used)
+                        free_unused (d.port port) k (c.other_slots_have_no_command k ne) (subst P same used)
                   ]
               | inr ne ↦
-                  free_unused (d.port q) k (record { ci_is_clear = (c.other_ports_are_idle q ne).ci_is_clear k; is_not_taken = (c.other_ports_are_idle q ne).none_is_taken k }) used
+                  free_unused (d.port q) k (record { is_not_issued = (c.other_ports_are_idle q ne).ci_is_clear k; is_not_taken = (c.other_ports_are_idle q ne).none_is_taken k }) used
             ];
       })

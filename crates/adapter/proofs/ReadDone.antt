@@ -4,7 +4,7 @@ use Rattle.std.proofs.lemmas.Bool.{cases_eq}
 use Rattle.adapter.specs.AskedSteps.{DoesExactlySlotSteps, EndsAndPosts, PostsNone}
 use Rattle.adapter.specs.Memory.{patched, bytes_at, changed}
 use Rattle.adapter.specs.Device.{Disk, IsValidSector, FetchedCommand, Halt, DevicePort, Device}
-use Rattle.adapter.specs.OneCommand.{IsFreeSlot}
+use Rattle.adapter.specs.OneCommand.{SlotHasNoCommand}
 use Rattle.adapter.specs.ReadDone.{read_of, IsReadThatCanComplete, read_move_entries, IsReadDone}
 use Rattle.adapter.specs.Steps.{device_after, Steps, WorksOn, IsWorking, admits, newly_fetched, MayMove, MayBeDone, port_after_fetch, port_after_move, port_after_done_except_lasting, done_entry, move_of}
 use Rattle.adapter.specs.Steps.DeviceTransition.{Fetch, Move, Done}
@@ -151,14 +151,14 @@ module _ (old : Device) (port slot first count : ℕ) (places : List ℕ) (told 
       } in
       let ended : EndsAndPosts PostsNone port slot d end =
       record { after_end = end; done = record { cause_bit = 0; fetched_command = command count; can = can; effect = refl }; posts = refl } in
-      let P : DevicePort → Type 0 = λ p. IsFreeSlot p slot in (
+      let P : DevicePort → Type 0 = λ p. SlotHasNoCommand p slot in (
         end,
         record {
           steps = Steps-trans m.steps (Steps-one (Done port slot 0 (command count)) d end can refl);
           slot_goes_on = (suc count, (d, m.goes, inr (inr (inl ended))));
           dhrs_is_shown = ap (λ (p : DevicePort). p.is) here ∙ ap (λ (f : ℕ → Bool). changed f 0 true) m.is;
-          slot_is_free = subst P (sym here)
-              (record { ci_is_clear = changed_same (d.port port).ci slot false; is_not_taken = changed_same (d.port port).taken slot None });
+          slot_has_no_command = subst P (sym here)
+              (record { is_not_issued = changed_same (d.port port).ci slot false; is_not_taken = changed_same (d.port port).taken slot None });
           tape_tells_read = ap (λ (entries : List Entry). entries ++ done_entry port slot Read ∷ []) m.tape ∙ append_assoc old.tape (read_move_entries port slot first places told count) _;
           sectors_are_in_memory = m.bytes;
         },

@@ -3,7 +3,7 @@ use Rattle.ata_types.specs.declared.memory.TheConstants.{PRD_BYTES, TABLE_HEAD_B
 use Rattle.std.proofs.Common.{ℕ, zero, suc, ◌≡◌, ◌<◌, ◌≤◌, ◌+◌, ◌*◌, ◌^◌, List, [], ◌∷◌, length, slice_index, refl, sym, ◌∙◌, ap, arith, subst, Bool, true, false, if◌then◌else◌, nat_eq}
 use Rattle.byteorder.specs.Endian.{little_from}
 use Rattle.adapter.specs.Memory.{bytes_at}
-use Rattle.adapter.specs.Commands.{Meaning, command_of, is_ranged, reads_memory, piece_count}
+use Rattle.adapter.specs.Commands.{Meaning, command_of, is_ranged, reads_memory, transfer_sector_count}
 use Rattle.adapter.specs.Encoding.{EncodesCommand, EncodesHeader, EncodesPrd}
 use Rattle.adapter.specs.Decoding.{DecodesTo, HasPrds, pieces, piece_addresses}
 use Rattle.adapter.specs.declared.command.Operation.{Operation}
@@ -131,7 +131,7 @@ lba_first Flush slot first count h = true-false h refl
 lba_first Trim slot first count h = true-false h refl
 lba_first ReadLog slot first count h = true-false h refl
 
-pieces_ranged : (o : Operation) (count : ℕ) → is_ranged o ≡ true → piece_count o count ≡ count
+pieces_ranged : (o : Operation) (count : ℕ) → is_ranged o ≡ true → transfer_sector_count o count ≡ count
 pieces_ranged Read count h = refl
 pieces_ranged Write count h = refl
 pieces_ranged ReadQueued count h = refl

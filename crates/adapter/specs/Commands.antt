@@ -1,5 +1,5 @@
 -- The commands that this driver knows (ACS-3; the queued ones also Serial ATA), and the FIS of each.
-use Rattle.std.specs.Prelude.{ℕ, Bool, true, false, ◌≡◌, ◌*◌, ◌^◌, ◌<◌, ◌≤◌, ◌%◌}
+use Rattle.std.specs.Prelude.{ℕ, Bool, true, false, ◌≡◌, ◌*◌, ◌^◌, ◌<◌, ◌≤◌, ◌%◌, if◌then◌else◌}
 use Rattle.ata_types.specs.declared.command_codes.TheConstants.{DATA_SET_MANAGEMENT, FLUSH_CACHE_EXT, IDENTIFY_DEVICE, READ_DMA_EXT, READ_FPDMA_QUEUED, READ_LOG_EXT, WRITE_DMA_EXT, WRITE_FPDMA_QUEUED}
 use Rattle.adapter.specs.declared.command.Operation.{Operation}
 use Rattle.adapter.specs.declared.command.Operation.TheVariants.{Identify, Read, Write, ReadQueued, WriteQueued, Flush, Trim, ReadLog}
@@ -52,18 +52,15 @@ sends_page _ = false
 
 -- where the bytes of a move go
 abbrev pub direction_of : Operation → Direction
-direction_of Write = FromMemory
-direction_of WriteQueued = FromMemory
-direction_of Trim = FromMemory
-direction_of _ = ToMemory
+direction_of operation = if reads_memory operation then FromMemory else ToMemory
 
 -- how many pieces of 512 bytes the command moves
-abbrev pub piece_count : Operation → ℕ → ℕ
-piece_count Flush count = 0
-piece_count Identify count = 1
-piece_count Trim count = 1
-piece_count ReadLog count = 1
-piece_count _ count = count
+abbrev pub transfer_sector_count : Operation → ℕ → ℕ
+transfer_sector_count Flush count = 0
+transfer_sector_count Identify count = 1
+transfer_sector_count Trim count = 1
+transfer_sector_count ReadLog count = 1
+transfer_sector_count _ count = count
 
 -- What header, FIS and entries of a slot mean: an operation, and its sectors if it names some.
 pub record Meaning : Type 0 where

@@ -3,7 +3,7 @@ use Rattle.std.specs.Prelude.{ℕ, zero, suc, ◌≡◌, ◌+◌, ◌*◌, ◌/�
 use Rattle.ata_types.specs.declared.limits.TheConstants.{MOST_REQUEST_FRAMES}
 use Rattle.ata_types.specs.declared.memory.TheConstants.{HEADER_BYTES, TABLE_HEAD_BYTES}
 use Rattle.adapter.specs.Memory.{bytes_at}
-use Rattle.adapter.specs.Commands.{Meaning, IsValidMeaning, command_of, reads_memory, piece_count}
+use Rattle.adapter.specs.Commands.{Meaning, IsValidMeaning, command_of, reads_memory, transfer_sector_count}
 use Rattle.adapter.specs.Encoding.{EncodesCommand, EncodesHeader, EncodesPrd}
 use Rattle.adapter.specs.declared.command.Prd.{Prd}
 
@@ -40,4 +40,4 @@ pub record DecodesTo (memory : ℕ → ℕ) (list slot : ℕ) (m : Meaning) (pla
   pub prd_count_is_allowed : length prds ≤ MOST_REQUEST_FRAMES
   pub prds_are_whole_pieces : All IsWholePieces prds
   pub places_are : places ≡ pieces prds
-  pub place_count_is : length places ≡ piece_count m.operation m.count
+  pub place_count_is : length places ≡ transfer_sector_count m.operation m.count

@@ -40,8 +40,8 @@ abbrev pub is_not_device_writable : CommandLayout → ℕ → Bool
 is_not_device_writable s at = not (is_device_writable s at)
 
 -- a slot with no command, neither issued nor taken
-pub record IsFreeSlot (p : DevicePort) (slot : ℕ) : Type 0 where
-  pub ci_is_clear : p.ci slot ≡ false
+pub record SlotHasNoCommand (p : DevicePort) (slot : ℕ) : Type 0 where
+  pub is_not_issued : p.ci slot ≡ false
   pub is_not_taken : p.taken slot ≡ None
 
 -- the slot's bytes say a command
@@ -69,7 +69,7 @@ pub record HasOneCommand (d : Device) (port slot : ℕ) : Type 0 where
   pub taken_has_these_places : (t : FetchedCommand) → (d.port port).taken slot ≡ Some t → t.places ≡ command.places
   pub reads_apart_from_writes : (at : ℕ) → is_read_only (layout_of d port slot command) at ≡ true
       → is_not_device_writable (layout_of d port slot command) at ≡ true
-  pub other_slots_are_free : (k : ℕ) → k ≢ slot → IsFreeSlot (d.port port) k
+  pub other_slots_have_no_command : (k : ℕ) → k ≢ slot → SlotHasNoCommand (d.port port) k
   pub other_ports_are_idle : (q : ℕ) → q ≢ port → IsIdlePort (d.port q)
 
 -- these bytes are inside the memory, and none of them is the command's
@@ -79,4 +79,4 @@ pub record IsOutsideCommand (s : CommandLayout) (at n : ℕ) (d : Device) : Type
 
 -- no slot of any port has a command
 abbrev pub NoneHasCommand : Device → Type 0
-NoneHasCommand d = (port slot : ℕ) → IsFreeSlot (d.port port) slot
+NoneHasCommand d = (port slot : ℕ) → SlotHasNoCommand (d.port port) slot

@@ -4,7 +4,7 @@ use Rattle.adapter.specs.AskedSteps.{DoesAtLeastOneSlotStep, PostsNone}
 use Rattle.adapter.specs.Memory.{bytes_at, changed}
 use Rattle.adapter.specs.Commands.{Meaning}
 use Rattle.adapter.specs.Device.{HasValidSectors, Device}
-use Rattle.adapter.specs.OneCommand.{IsFreeSlot}
+use Rattle.adapter.specs.OneCommand.{SlotHasNoCommand}
 use Rattle.adapter.specs.Steps.{Can, Steps, done_entry, snapshot_of_bytes}
 use Rattle.adapter.specs.Steps.DeviceTransition.{Fetch}
 use Rattle.adapter.specs.declared.command.Operation.TheVariants.{Read}
@@ -50,7 +50,7 @@ pub record IsReadDone (old new : Device) (port slot first count : ℕ) (places :
   pub steps : Steps old new
   pub slot_goes_on : DoesAtLeastOneSlotStep PostsNone port slot old new
   pub dhrs_is_shown : (new.port port).is ≡ changed (old.port port).is 0 true
-  pub slot_is_free : IsFreeSlot (new.port port) slot
+  pub slot_has_no_command : SlotHasNoCommand (new.port port) slot
   pub tape_tells_read : new.tape ≡ old.tape ++ (read_move_entries port slot first places told count
       ++ done_entry port slot Read ∷ [])
   pub sectors_are_in_memory : (k : ℕ) → k < count → bytes_at new.memory (slice_index places k) 512 ≡ told (first + k)

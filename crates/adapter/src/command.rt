@@ -1,6 +1,6 @@
 // Commands, and the words that header, FIS and PRDs have for them.
 ghost use Rattle.std.specs.Prelude.{◌≡◌, ◌↔◌, IsTrue};
-ghost use Rattle.adapter.specs.Commands.{direction_of, is_queued, is_ranged, piece_count, reads_memory, sends_page};
+ghost use Rattle.adapter.specs.Commands.{direction_of, is_queued, is_ranged, transfer_sector_count, reads_memory, sends_page};
 
 /// What a command asks of the disk: the commands of ACS-3 and Serial ATA that this driver knows.
 #[derive(Clone, Copy, Debug, PartialEq, Eq)]
@@ -24,7 +24,8 @@ pub enum Operation {
 }
 
 impl Operation {
-    /// Whether it is one of several in flight.
+    /// Whether it is queued (READ or WRITE FPDMA QUEUED, Serial ATA): several may be in flight, but a plain one is
+    /// alone.
     #[inline]
     pub fn is_queued(self) -> bool
         ensures { result ≡ is_queued self }
@@ -70,10 +71,11 @@ impl Operation {
         matches!(self, Operation::Trim)
     }
 
-    /// How many pieces of 512 bytes it moves, for so many sectors.
+    /// How many pieces of 512 bytes it moves, for so many sectors, 1 to 65,536: these matter only if it is ranged. (0
+    /// stands for 65,536 in a FIS, but not here.)
     #[inline]
-    pub fn pieces(self, count: u32) -> u32
-        ensures { result ≡ piece_count self count }
+    pub fn transfer_sector_count(self, count: u32) -> u32
+        ensures { result ≡ transfer_sector_count self count }
     {
         match self {
             Operation::Flush => 0,
@@ -82,7 +84,7 @@ impl Operation {
         }
     }
 
-    /// Where the bytes of its moves go.
+    /// Where the bytes of its moves go: `ToMemory` also for a flush, which moves none.
     #[inline]
     pub fn direction(self) -> Direction
         ensures { result ≡ direction_of self }

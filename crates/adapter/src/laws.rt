@@ -56,13 +56,13 @@ pub fn law_steps_never_switch_adapter_on()
 {}
 
 /// The bytes of a slot say one command at most, with one list of places.
-pub fn law_decoding_is_unique()
+pub fn law_slot_decodes_to_at_most_one_command()
     ensures { (memory : ℕ → ℕ) (list slot : ℕ) (m n : Meaning) (xs ys : List ℕ) → DecodesTo memory list slot m xs
         → DecodesTo memory list slot n ys → (m ≡ n) × (xs ≡ ys) }
 {}
 
 /// Bytes that no command in use may write stay as they are, and the commands in use go on to stand on them.
-pub fn law_kept_bytes_stay()
+pub fn law_kept_bytes_stay_over_device_steps()
     ensures { (tables kept : ℕ → Bool) (old new : Device) → IsGuarded (PassesTest tables) (PassesTest kept) old
         → Steps old new → IsGuarded (PassesTest tables) (PassesTest kept) new
         × ((at : ℕ) → PassesTest kept at → new.memory at ≡ old.memory at) }
@@ -95,7 +95,7 @@ pub fn law_accesses_compose()
 
 /// While no reset is pending, a reading of a port's register leaves the adapter as steps of the device do, and the port
 /// shows the value and has it noted. A write is steps of the device, and then the port alone has what was written.
-pub fn law_port_register_accesses()
+pub fn law_port_access_is_steps_then_port_effect()
     ensures register_read { (port : Port) (r : PortReg) (v : ℕ) (old new : Device) → Reads (Px port r) v old new
         → old.hr ≡ false
         → PortRegisterRead port.0 r v old new }
@@ -113,8 +113,8 @@ pub fn law_kept_controls_compose()
 
 /// The port's interrupt is pending where PxIS shows a cause that PxIE enables; and so it is after each step of the
 /// device that raises such a cause: an end of a command, a fault, a fatal error, a disk that comes or goes (AHCI 1.3.1,
-/// 3.1.3 and 3.3.5). What steps raise is one of the causes that are named.
-pub fn law_an_enabled_cause_is_pending()
+/// 3.1.3 and 3.3.5). What steps raise is one of the causes that are named, and the mask has the bits of exactly these.
+pub fn law_set_cause_enabled_in_pxie_sets_ips()
     ensures named { (place : ℕ) → is_named_cause place ≡ true → bit named_causes_mask place ≡ true }
     ensures no_other_is_named { (place : ℕ) → place < 32 → bit named_causes_mask place ≡ is_named_cause place }
     ensures steps_raise_named_causes_alone { (step : DeviceTransition) (port place : ℕ) (d : Device) → Can step d
@@ -130,7 +130,7 @@ pub fn law_an_enabled_cause_is_pending()
 
 /// What is pending stays so, whatever the device and the driver do, until the port's bit of IS is written or the
 /// adapter is reset: until then each reading of IS shows the bit. Once it is written, only what PxIS shows is pending.
-pub fn law_a_pending_interrupt_stays()
+pub fn law_ips_stays_set_until_written_or_hba_reset()
     ensures steps { (port : ℕ) (old new : Device) → Steps old new → old.hr ≡ false
         → is_ips_set (old.port port) ≡ true → is_ips_set (new.port port) ≡ true }
     ensures accesses { (port : ℕ) (accesses : List Access) (old new : Device) → DoesAll accesses old new
@@ -145,7 +145,7 @@ pub fn law_a_pending_interrupt_stays()
 /// Where PxIE enables each named cause, what the tape tells of leaves the port's interrupt pending: a command that
 /// ended or failed, a fatal error, a disk that went or came. So it is at the end of any accesses that write neither
 /// PxIE nor the port's bit of IS, and reset nothing (AHCI 1.3.1, 5.5.3).
-pub fn law_what_the_tape_tells_is_pending()
+pub fn law_interrupting_tape_events_leave_ips_set()
     ensures { (port : ℕ) (e : Entry) (accesses : List Access) (gained : List Entry)
         (old new : Device) → interrupting_port e ≡ Some port → DoesAll accesses old new → All (KeepsIsBit port) accesses
         → All (LeavesIe port) accesses → old.hr ≡ false → EnablesNamedCauses (old.port port)
@@ -156,7 +156,7 @@ pub fn law_what_the_tape_tells_is_pending()
 /// There is an interrupt that comes and goes, so that the laws above speak of something: a flush may end on a port
 /// that tells of all causes; then its bit of IS stays while PxIS shows the cause, though it is written, and also once
 /// PxIS was cleared; then a write of the bit clears it.
-pub fn law_an_interrupt_comes_and_goes()
+pub fn law_flush_ips_example_clears_pxis_then_is()
     ensures none_is_pending { is_ips_set (flushing.port 0) ≡ false }
     ensures causes_are_enabled { (flushing.hr ≡ false) × EnablesNamedCauses (flushing.port 0) }
     ensures flush_may_end { Can (DeviceTransition.Done 0 0 0 flush_taken) flushing }
@@ -186,7 +186,7 @@ pub fn law_an_idle_adapter_is_guarded()
 
 /// An adapter with one command is guarded: what the device only reads for it are the tables, and what it doesn't write
 /// is kept. So the driver may load and store all other bytes of the memory, whatever the device does first.
-pub fn law_an_adapter_with_a_command_is_guarded()
+pub fn law_an_adapter_with_one_command_is_guarded()
     ensures guarded { (port slot : ℕ) (d : Device) (c : HasOneCommand d port slot)
         → IsGuarded (PassesTest (is_read_only (layout_of d port slot c.command)))
         (PassesTest (is_not_device_writable (layout_of d port slot c.command))) d }
@@ -196,7 +196,7 @@ pub fn law_an_adapter_with_a_command_is_guarded()
 
 /// A read that may be fetched can be done, on a disk that tells its sectors: some steps of its slot's command lead to
 /// where each sector stands in its piece, and the slot is free.
-pub fn law_a_read_can_be_done()
+pub fn law_fetchable_read_can_complete()
     ensures { (port slot first count : ℕ) (places : List ℕ) (told : ℕ → List ℕ) (old : Device)
         → IsReadThatCanComplete old port slot first count places told → (new : Device)
         × IsReadDone old new port slot first count places told }
@@ -205,7 +205,7 @@ pub fn law_a_read_can_be_done()
 /// There is an adapter with a command, so that the laws above speak of something: eight sectors from 100 on are to be
 /// read into frame 100. It is switched on; its memory and disks are sane; the bytes of the slot say the read; frame 101
 /// is free, whatever the device does; and the read can be done.
-pub fn law_a_first_read_exists()
+pub fn law_an_adapter_with_one_read_exists()
     ensures on { IsOn first_read_device }
     ensures holds_bytes { HoldsBytesAndTellsDisks first_read_device }
     ensures command { HasOneCommand first_read_device 0 0 }

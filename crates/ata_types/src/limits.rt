@@ -18,7 +18,7 @@ pub const MOST_REQUEST_SECTORS: u32 = 1024;
 /// Frames of the longest read or write, eight sectors to each.
 pub const MOST_REQUEST_FRAMES: usize = 128;
 
-/// Unanswered requests of one client.
+/// Unanswered requests of one client, on all ports together. Those that are answered and kept don't count.
 pub const MOST_UNANSWERED_OF_A_CLIENT: usize = 16;
 
 /// Unanswered requests of all clients together: so many of each of eight.

@@ -14,19 +14,20 @@ use Rattle.ata_types.specs.SectorGrants.{AllowsOp}
 use Rattle.block_machine.specs.Rules.{IsNamed, IsAllowedCount, frame_count_for}
 use Rattle.block_machine.specs.State.{Block, Accepted, Pending, Machine}
 use Rattle.block_machine.specs.Steps.{Step, Accept, Touch, IsEnabled, MayAccept, IsInBookOrKept, after_step}
-use Rattle.block_machine.specs.Expected.{after, IsLegal, IsInitial, IsAccept}
+use Rattle.block_machine.specs.Events.{AllEnabled}
+use Rattle.block_machine.specs.Expected.{after, IsInitial, IsAccept}
 use Rattle.block_machine.specs.Confinement.{IsGranted, IsConfined, WasAccepted, MovesBytes}
 use Rattle.block_machine.proofs.Members.{contains_none, contains_here, contains_there, contains_cases}
 use Rattle.block_machine.proofs.Trace.{Before, Comes, lives_before, next_grows, runs_lives}
 use Rattle.block_machine.proofs.Runs.{traced, nobody}
 
 -- each request that lives was accepted
-pub living_accepted : (start : Machine) (h : List Step) → IsInitial start → IsLegal start h → (e : Pending) → IsInBookOrKept (after start h) e → WasAccepted start h e.request
-living_accepted start [] s legal e l = absurd (nobody start s e l)
-living_accepted start (step ∷ past) s legal e l = ⊎_elim
-    (λ (r : Before (after start past) e). inr (subst (λ (j : Accepted). WasAccepted start past j) (sym r.2) (living_accepted start past s legal.0 r.0 r.1)))
+pub living_accepted : (start : Machine) (h : List Step) → IsInitial start → AllEnabled start h → (e : Pending) → IsInBookOrKept (after start h) e → WasAccepted start h e.request
+living_accepted start [] s enabled e l = absurd (nobody start s e l)
+living_accepted start (step ∷ past) s enabled e l = ⊎_elim
+    (λ (r : Before (after start past) e). inr (subst (λ (j : Accepted). WasAccepted start past j) (sym r.2) (living_accepted start past s enabled.0 r.0 r.1)))
     (λ (c : Comes (after start past) step e.request). inl c)
-    (lives_before (after start past) step legal.1 e l)
+    (lives_before (after start past) step enabled.1 e l)
 
 -- it was new to some machine
 pub was_new : (start : Machine) (h : List Step) (r : Accepted) → WasAccepted start h r → (m : Machine) × MayAccept m r
@@ -128,15 +129,15 @@ pub has_frame : (m : Machine) (r : Accepted) → MayAccept m r → MovesBytes r.
 has_frame m r new moves i lt = framed r.asked.op r.asked.count (length r.asked.frames.items) i (frames_fit m r new) moves lt
 
 -- each touch is confined
-pub law_touch_is_confined : (start : Machine) (h : List Step) (e : Pending) (i : ℕ) (block : Block) → IsInitial start → IsLegal start h → IsEnabled (after start h) (Touch e i block) → IsConfined start h e.request i
-law_touch_is_confined start h e i block s legal may =
+pub law_touch_is_confined : (start : Machine) (h : List Step) (e : Pending) (i : ℕ) (block : Block) → IsInitial start → AllEnabled start h → IsEnabled (after start h) (Touch e i block) → IsConfined start h e.request i
+law_touch_is_confined start h e i block s enabled may =
     let l = runs_lives (after start h) e may.0 in
-    let accepted = living_accepted start h s legal e l in
+    let accepted = living_accepted start h s enabled e l in
     let new = was_new start h e.request accepted in
     let place : MovesBytes e.request.asked.op → i / 8 < length e.request.asked.frames.items = λ b. has_frame new.0 e.request new.1 b i may.1 in
     record {
       was_accepted = accepted;
       number_is_in_range = may.1;
       has_frame = place;
-      frame_is_lent = λ b. (traced start h s legal).sound.lent e l (i / 8) (place b);
+      frame_is_lent = λ b. (traced start h s enabled).sound.lent e l (i / 8) (place b);
     }

@@ -11,7 +11,8 @@ use Rattle.block_machine.specs.Histories.{IsReachable}
 use Rattle.block_machine.specs.State.{Accepted, Pending, Machine}
 use Rattle.block_machine.specs.Rules.{DifferInName, is_same_grant_name}
 use Rattle.block_machine.specs.Steps.{Step, Accept, Revoke, after_step, unanswered_count}
-use Rattle.block_machine.specs.Expected.{after, IsLegal, IsInitial}
+use Rattle.block_machine.specs.Events.{AllEnabled}
+use Rattle.block_machine.specs.Expected.{after, IsInitial}
 use Rattle.block_machine.specs.Confinement.{IsGranted, WasAccepted}
 use Rattle.block_machine.proofs.Members.{filter_in, contains_here, contains_there}
 use Rattle.block_machine.proofs.Counting.{count_cons}
@@ -118,8 +119,8 @@ total_most es (suc n) few =
     omega (arith, rest, own)
 
 -- 16 of each of 8 clients
-pub all_few : (start : Machine) (h : List Step) → IsInitial start → IsLegal start h → ((c : ClientId) → unanswered_count (after start h).book c ≤ MOST_UNANSWERED_OF_A_CLIENT) → length (after start h).book ≤ MOST_UNANSWERED_OF_ALL_CLIENTS
-all_few start h s legal few =
-    let all = total_all (after start h).book 8 (λ e i. accepted_client start h e.request s (living_accepted start h s legal e (inl i))) in
+pub all_few : (start : Machine) (h : List Step) → IsInitial start → AllEnabled start h → ((c : ClientId) → unanswered_count (after start h).book c ≤ MOST_UNANSWERED_OF_A_CLIENT) → length (after start h).book ≤ MOST_UNANSWERED_OF_ALL_CLIENTS
+all_few start h s enabled few =
+    let all = total_all (after start h).book 8 (λ e i. accepted_client start h e.request s (living_accepted start h s enabled e (inl i))) in
     let most = total_most (after start h).book 8 few in
     omega (arith, all, most)

@@ -239,9 +239,9 @@ module _ (mode : QueueMode) (book : List Unanswered) (e : Unanswered) (order : O
         (cases_lt e.id.0 x.id.0);
   }
 
-pub law_issue_keeps_others_due : (mode : QueueMode) (book : List Unanswered) (e other : Unanswered) → IsInOrder book → IsDue mode book e → Contains book other
+pub law_issue_leaves_others_due_as_before : (mode : QueueMode) (book : List Unanswered) (e other : Unanswered) → IsInOrder book → IsDue mode book e → Contains book other
     → other.id ≢ e.id → other.port ≡ e.port → IsDue mode book other ↔ IsDue mode (with_issued e.id book) other
-law_issue_keeps_others_due mode book e other order due here differ port = (
+law_issue_leaves_others_due_as_before mode book e other order due here differ port = (
   still_due mode book e (ordered_from book order) due other ne port,
   was_due mode book e (ordered_from book order) due other here ne port,
 )

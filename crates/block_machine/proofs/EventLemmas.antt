@@ -9,14 +9,14 @@ use Rattle.ata_types.specs.declared.request.Op.TheVariants.{Read}
 use Rattle.ata_types.specs.declared.request.Outcome.TheVariants.{Ok, DeviceError, Aborted, Unplugged, PortDead, Revoked}
 use Rattle.block_machine.specs.State.{Block, Memory, Pending, Machine, nth_frame, is_reader}
 use Rattle.block_machine.specs.Steps.{Step, Accept, Touch, WaitAgain, Answer, Release, Store, IsEnabled, after_step, is_kept_at_answer, unlend, is_lent_to, put_bytes, memory_after_touch, AllTouched}
-use Rattle.block_machine.specs.Expected.{after, IsLegal, IsInitial, AllStepsFaithful, HoldsExpected}
+use Rattle.block_machine.specs.Expected.{after, IsInitial, AllStepsFaithful, HoldsExpected}
 use Rattle.block_machine.specs.Ports.{Ports, Evidence}
 use Rattle.block_machine.specs.Events.{AbstractState, AbstractCall, Submit, StoreAt, LoadAt, Service, Tick, Reset, RevokeOf, State, StepDevice, CallRecord, AllEnabled, IsByDevice, IsByServer, AreStepsOfCall, AnswersAndWaitsLawful, abstract_after_all, IsRun, steps_of, EveryReadHoldsExpected}
 use Rattle.block_machine.proofs.Order.{In}
 use Rattle.block_machine.proofs.Sound.{Sound}
 use Rattle.block_machine.proofs.Trace.{runs_lives}
 use Rattle.block_machine.proofs.Reading.{put_other}
-use Rattle.block_machine.proofs.Runs.{traced, law_touched_read_holds_expected}
+use Rattle.block_machine.proofs.Runs.{traced, law_fully_touched_read_holds_expected}
 
 -- Steps one after the other.
 
@@ -24,10 +24,10 @@ pub after-append : (start : Machine) (late early : List Step) → after start (l
 after-append start [] early = refl
 after-append start (step ∷ late) early = ap (λ (m : Machine). after_step m step) (after-append start late early)
 
-pub legal_more : (start : Machine) (late early : List Step) → IsLegal start early → AllEnabled (after start early) late → IsLegal start (late ++ early)
-legal_more start [] early l a = l
-legal_more start (step ∷ late) early l a =
-    (legal_more start late early l a.0, subst (λ (m : Machine). IsEnabled m step) (sym (after-append start late early)) a.1)
+pub enabled_histories_join : (start : Machine) (late early : List Step) → AllEnabled start early → AllEnabled (after start early) late → AllEnabled start (late ++ early)
+enabled_histories_join start [] early l a = l
+enabled_histories_join start (step ∷ late) early l a =
+    (enabled_histories_join start late early l a.0, subst (λ (m : Machine). IsEnabled m step) (sym (after-append start late early)) a.1)
 
 -- the machine of a run is the one that its steps leave
 pub moment_is : {D : Type 0} (first : AbstractState) (run : List (CallRecord D)) → (abstract_after_all first run).machine ≡ after first.machine (steps_of run)
@@ -38,9 +38,9 @@ pub run_starts : {D : Type 0} (first : AbstractState) (run : List (CallRecord D)
 run_starts first [] r = r.0
 run_starts first (event ∷ past) r = run_starts first past r.0
 
-pub run_legal : {D : Type 0} (first : AbstractState) (run : List (CallRecord D)) → IsRun first run → IsLegal first.machine (steps_of run)
-run_legal first [] r = tt
-run_legal first (event ∷ past) r = legal_more first.machine event.steps (steps_of past) (run_legal first past r.0)
+pub run_steps_are_enabled : {D : Type 0} (first : AbstractState) (run : List (CallRecord D)) → IsRun first run → AllEnabled first.machine (steps_of run)
+run_steps_are_enabled first [] r = tt
+run_steps_are_enabled first (event ∷ past) r = enabled_histories_join first.machine event.steps (steps_of past) (run_steps_are_enabled first past r.0)
     (subst (λ (m : Machine). AllEnabled m event.steps) (moment_is first past) r.1.steps_are_enabled)
 
 -- Each Ok is told of a whole request.
@@ -74,14 +74,14 @@ run_whole first [] r = tt
 run_whole first (event ∷ past) r = call_whole (abstract_after_all first past) event.evidence event.ports event.steps (steps_of past) r.1.answers_are_lawful (run_whole first past r.0)
 
 -- the history up to a step of it
-pub up_to : (start : Machine) (late : List Step) (step : Step) (early : List Step) → IsLegal start (late ++ step ∷ early) → AllWhole (late ++ step ∷ early) → IsLegal start early × IsEnabled (after start early) step × IsWhole step
+pub up_to : (start : Machine) (late : List Step) (step : Step) (early : List Step) → AllEnabled start (late ++ step ∷ early) → AllWhole (late ++ step ∷ early) → AllEnabled start early × IsEnabled (after start early) step × IsWhole step
 up_to start [] step early l w = (l.0, l.1, w.1)
 up_to start (x ∷ late) step early l w = up_to start late step early l.0 w.0
 
 -- a step of a run
 pub step_of_run : {D : Type 0} (first : AbstractState) (run : List (CallRecord D)) (late : List Step) (step : Step) (early : List Step) → IsRun first run → steps_of run ≡ late ++ step ∷ early
-    → IsLegal first.machine early × IsEnabled (after first.machine early) step × IsWhole step
-step_of_run first run late step early r split = up_to first.machine late step early (subst (IsLegal first.machine) split (run_legal first run r)) (subst AllWhole split (run_whole first run r))
+    → AllEnabled first.machine early × IsEnabled (after first.machine early) step × IsWhole step
+step_of_run first run late step early r split = up_to first.machine late step early (subst (AllEnabled first.machine) split (run_steps_are_enabled first run r)) (subst AllWhole split (run_whole first run r))
 
 -- In a call that answers, no request is accepted and no client stores.
 
@@ -195,12 +195,12 @@ stays_step memory m (Store client frame offset bytes) may s q h = absurd q
 stays_step memory m _ may s q h = h
 
 -- a read that is answered Ok has in the last memory what is left
-answer_holds : (start : Machine) (memory : Memory) (past : List Step) (e : Pending) → IsInitial start → IsLegal start (Answer e Ok ∷ past) → AllStepsFaithful start past → IsWhole (Answer e Ok)
+answer_holds : (start : Machine) (memory : Memory) (past : List Step) (e : Pending) → IsInitial start → AllEnabled start (Answer e Ok ∷ past) → AllStepsFaithful start past → IsWhole (Answer e Ok)
     → Stays memory (after start (Answer e Ok ∷ past)) → e.request.asked.op ≡ Read → HoldsExpected start past memory e.request
 answer_holds start memory past e s l told w is_kept_at_answer op =
     let m = after start past in
     let sound = (traced start past s l.0).sound in
-    let holds = law_touched_read_holds_expected start past e s l.0 told l.1.0 w.0 op in
+    let holds = law_fully_touched_read_holds_expected start past e s l.0 told l.1.0 w.0 op in
     let room = sound.room e (inl l.1.0) (ap is_reader op) in
     let gone : (i : ℕ) → i < length e.request.asked.frames.items → unlend e.request.id m.lent (nth_frame e.request.asked.frames.items i) ≡ None = λ i lt.
     cond-true (is_lent_to e.request.id (m.lent (nth_frame e.request.asked.frames.items i))) None (m.lent (nth_frame e.request.asked.frames.items i))
@@ -216,7 +216,7 @@ abbrev answering : List Step → Pending → List Step → List Step
 answering rest e before = rest ++ Answer e Ok ∷ before
 
 -- so has each read that a call answers, at the call's end
-answers_hold : (start : Machine) (memory : Memory) (rest : List Step) (e : Pending) (before past : List Step) → IsInitial start → IsLegal start (answering rest e before ++ past)
+answers_hold : (start : Machine) (memory : Memory) (rest : List Step) (e : Pending) (before past : List Step) → IsInitial start → AllEnabled start (answering rest e before ++ past)
     → AllStepsFaithful start (answering rest e before ++ past) → AllWhole (answering rest e before ++ past) → ((step : Step) → In step (answering rest e before) → IsQuiet step)
     → Stays memory (after start (answering rest e before ++ past)) → e.request.asked.op ≡ Read → HoldsExpected start (before ++ past) memory e.request
 answers_hold start memory [] e before past s l told w quiet stays = answer_holds start memory (before ++ past) e s l told.0 w.1 stays
@@ -248,7 +248,7 @@ law_answered_reads_hold_expected {D} first run r told later earlier event rest b
     in_call r told = ⊎_elim
         (λ (q : Quiet event.call event.ports). answers_hold first.machine (abstract_after_all first (event ∷ earlier)).machine.memory rest e before (steps_of earlier)
         (run_starts first earlier r.0)
-        (subst (λ (steps : List Step). IsLegal first.machine (steps ++ steps_of earlier)) split (run_legal first (event ∷ earlier) r))
+        (subst (λ (steps : List Step). AllEnabled first.machine (steps ++ steps_of earlier)) split (run_steps_are_enabled first (event ∷ earlier) r))
         (subst (λ (steps : List Step). AllStepsFaithful first.machine (steps ++ steps_of earlier)) split told)
         (subst (λ (steps : List Step). AllWhole (steps ++ steps_of earlier)) split (run_whole first (event ∷ earlier) r))
         (λ step i. ⊎_elim (λ d. (devices_quiet step d).0) (λ h. q step h) (its step i))

@@ -5,18 +5,14 @@ use Rattle.block_machine.specs.Steps.{Step, IsEnabled}
 use Rattle.block_machine.specs.Expected.{after}
 use Rattle.block_machine.specs.Events.{AllEnabled}
 use Rattle.block_machine.specs.Histories.{IsReachable, IsSimulatedBySteps}
-use Rattle.block_machine.proofs.EventLemmas.{after-append, legal_more}
-
-pub may-append : (m : Machine) (late early : List Step) → AllEnabled m early → AllEnabled (after m early) late → AllEnabled m (late ++ early)
-may-append m [] early a b = a
-may-append m (step ∷ late) early a b = (may-append m late early a b.0, subst (λ (x : Machine). IsEnabled x step) (sym (after-append m late early)) b.1)
+use Rattle.block_machine.proofs.EventLemmas.{after-append, enabled_histories_join}
 
 pub reached_more : (m : Machine) (steps : List Step) → IsReachable m → AllEnabled m steps → IsReachable (after m steps)
 reached_more m steps r a = record {
   initial_machine = r.initial_machine;
   steps_since = steps ++ r.steps_since;
   is_initial = r.is_initial;
-  is_legal = legal_more r.initial_machine steps r.steps_since r.is_legal (subst (λ (x : Machine). AllEnabled x steps) r.leads_to_machine a);
+  steps_since_are_enabled = enabled_histories_join r.initial_machine steps r.steps_since r.steps_since_are_enabled (subst (λ (x : Machine). AllEnabled x steps) r.leads_to_machine a);
   leads_to_machine = ap (λ (x : Machine). after x steps) r.leads_to_machine ∙ sym (after-append r.initial_machine steps r.steps_since);
 }
 
@@ -27,5 +23,5 @@ steps_then {S} {Fits} {a} {b} {c} R ab bc join = record {
   simulates = λ m r fits.
       let x = ab.simulates m r fits in
       let y = bc.simulates (after m x.0) (reached_more m x.0 r x.1) x.2 in
-      (y.0 ++ x.0, may-append m y.0 x.0 x.1 y.1, subst (λ (n : Machine). Fits n c) (sym (after-append m y.0 x.0)) y.2, join m x.0 y.0 x.3 y.3);
+      (y.0 ++ x.0, enabled_histories_join m y.0 x.0 x.1 y.1, subst (λ (n : Machine). Fits n c) (sym (after-append m y.0 x.0)) y.2, join m x.0 y.0 x.3 y.3);
 }

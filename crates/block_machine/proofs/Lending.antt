@@ -11,7 +11,8 @@ use Rattle.ata_types.specs.declared.memory.TheConstants.{DRIVER_FRAMES}
 use Rattle.block_machine.specs.Confinement.{WasAccepted, HasFrame}
 use Rattle.block_machine.specs.State.{Accepted, Pending, Machine, nth_frame}
 use Rattle.block_machine.specs.Steps.{Step, Accept, Answer, Release, IsEnabled, IsInBookOrKept, after_step, is_kept_at_answer, unlend, is_lent_to}
-use Rattle.block_machine.specs.Expected.{after, IsInitial, IsLegal}
+use Rattle.block_machine.specs.Events.{AllEnabled}
+use Rattle.block_machine.specs.Expected.{after, IsInitial}
 use Rattle.block_machine.specs.Histories.{IsReachable}
 use Rattle.block_machine.proofs.Accepts.{living_accepted, law_one_id_is_one_request}
 use Rattle.block_machine.proofs.Configured.{owners_stay}
@@ -48,30 +49,30 @@ lent_before m (Answer e outcome) f id may h = by (is_kept_at_answer e outcome) r
 lent_before m Release f id may h = inl (as_was (list_any (λ e. is_lent_to e.request.id (m.lent f)) m.kept) (m.lent f) id h)
 lent_before m _ f id may h = inl h
 
-lent_at : (start : Machine) (past : List Step) (f : Frame) (id : RequestId) → IsInitial start → IsLegal start past → (after start past).lent f ≡ Some id → DRIVER_FRAMES ≤ f.0
-lent_at start [] f id s legal h = some-none h (s.no_frame_is_lent f)
-lent_at start (step ∷ past) f id s legal h = ⊎_elim
-    (λ (l : (after start past).lent f ≡ Some id). lent_at start past f id s legal.0 l)
+lent_at : (start : Machine) (past : List Step) (f : Frame) (id : RequestId) → IsInitial start → AllEnabled start past → (after start past).lent f ≡ Some id → DRIVER_FRAMES ≤ f.0
+lent_at start [] f id s enabled h = some-none h (s.no_frame_is_lent f)
+lent_at start (step ∷ past) f id s enabled h = ⊎_elim
+    (λ (l : (after start past).lent f ≡ Some id). lent_at start past f id s enabled.0 l)
     (λ (o : (r : Accepted) × Comes (after start past) step r × (r.id ≡ id) × HasFrame r f).
     (s.owned_frames_are_clients f o.0.asked.client (sym (owners_stay start past f) ∙ ap (after start past).owner (sym o.3.2)
     ∙ owned _ o.0.asked.client (λ ne. o.1.1.breaks_no_rule (Frames (FrameForeign o.3.0)) (nth_frame o.0.asked.frames.items o.3.0, get_frame o.0.asked.frames.items o.3.0 o.3.1, ne)))).2)
-    (lent_before (after start past) step f id legal.1 h)
+    (lent_before (after start past) step f id enabled.1 h)
 
 pub lent_clients : (m : Machine) (f : Frame) (id : RequestId) → IsReachable m → m.lent f ≡ Some id → DRIVER_FRAMES ≤ f.0
-lent_clients m f id r h = lent_at r.initial_machine r.steps_since f id r.is_initial r.is_legal (ap (λ (x : Machine). x.lent f) (sym r.leads_to_machine) ∙ h)
+lent_clients m f id r h = lent_at r.initial_machine r.steps_since f id r.is_initial r.steps_since_are_enabled (ap (λ (x : Machine). x.lent f) (sym r.leads_to_machine) ∙ h)
 
 -- what is lent, is lent to an accepted request that has it
-pub lent_accepted : (start : Machine) (past : List Step) (f : Frame) (id : RequestId) → IsInitial start → IsLegal start past → (after start past).lent f ≡ Some id →
+pub lent_accepted : (start : Machine) (past : List Step) (f : Frame) (id : RequestId) → IsInitial start → AllEnabled start past → (after start past).lent f ≡ Some id →
     (r : Accepted) × WasAccepted start past r × (r.id ≡ id) × HasFrame r f
-lent_accepted start [] f id s legal h = some-none h (s.no_frame_is_lent f)
-lent_accepted start (step ∷ past) f id s legal h = ⊎_elim
-    (λ (l : (after start past).lent f ≡ Some id). let x = lent_accepted start past f id s legal.0 l in (x.0, inr x.1, x.2, x.3))
+lent_accepted start [] f id s enabled h = some-none h (s.no_frame_is_lent f)
+lent_accepted start (step ∷ past) f id s enabled h = ⊎_elim
+    (λ (l : (after start past).lent f ≡ Some id). let x = lent_accepted start past f id s enabled.0 l in (x.0, inr x.1, x.2, x.3))
     (λ (o : (r : Accepted) × Comes (after start past) step r × (r.id ≡ id) × HasFrame r f). (o.0, inl o.1, o.2, o.3))
-    (lent_before (after start past) step f id legal.1 h)
+    (lent_before (after start past) step f id enabled.1 h)
 
 -- a frame that is lent to a request is one of its frames
 pub lent_own : (m : Machine) (f : Frame) (e : Pending) → IsReachable m → IsInBookOrKept m e → m.lent f ≡ Some e.request.id → HasFrame e.request f
 lent_own m f e r l h =
-    let x = lent_accepted r.initial_machine r.steps_since f e.request.id r.is_initial r.is_legal (ap (λ (n : Machine). n.lent f) (sym r.leads_to_machine) ∙ h) in
-    let mine = living_accepted r.initial_machine r.steps_since r.is_initial r.is_legal e (subst (λ (n : Machine). IsInBookOrKept n e) r.leads_to_machine l) in
+    let x = lent_accepted r.initial_machine r.steps_since f e.request.id r.is_initial r.steps_since_are_enabled (ap (λ (n : Machine). n.lent f) (sym r.leads_to_machine) ∙ h) in
+    let mine = living_accepted r.initial_machine r.steps_since r.is_initial r.steps_since_are_enabled e (subst (λ (n : Machine). IsInBookOrKept n e) r.leads_to_machine l) in
     subst (λ (o : Accepted). HasFrame o f) (law_one_id_is_one_request r.initial_machine r.steps_since x.0 e.request x.1 mine x.2) x.3

@@ -13,7 +13,8 @@ use Rattle.block_machine.specs.declared.due.Unanswered.{Unanswered}
 use Rattle.block_machine.specs.DueRequests.{IsDue, IsInOrder, is_plain, issued_count}
 use Rattle.block_machine.specs.State.{Accepted, Pending, Machine, nth_frame, unanswered}
 use Rattle.block_machine.specs.Steps.{Step, Accept, Issue, Touch, End, Age, WaitAgain, Answer, Revoke, Release, Unplug, PlugDisk, Store, Load, IsEnabled, IsInBookOrKept, after_step, update_pending, without_pending, newly_issued, touch, mark_ended, requeued, aged_pending, newly_accepted, is_kept_at_answer, unanswered_count}
-use Rattle.block_machine.specs.Expected.{after, IsLegal, IsInitial}
+use Rattle.block_machine.specs.Events.{AllEnabled}
+use Rattle.block_machine.specs.Expected.{after, IsInitial}
 use Rattle.block_machine.specs.Confinement.{WasAccepted, KeepsLimitsAndHoldsOwnFrames}
 use Rattle.block_machine.proofs.Members.{contains_none, contains_here, contains_there, contains_cases, map_in, into_map, at_cases, without_in, append_in}
 use Rattle.block_machine.proofs.Sound.{Sound, KeepsRequest}
@@ -74,12 +75,12 @@ order_step m (WaitAgain e) may s o = order_map (update_pending e.request.id requ
 order_step m (Answer e outcome) may s o = order_without e.request.id m.book o
 order_step m _ may s o = o
 
-ordered : (start : Machine) (h : List Step) → IsInitial start → IsLegal start h → Ordered (map unanswered (after start h).book)
-ordered start [] s legal = subst (λ (es : List Pending). Ordered (map unanswered es)) (sym s.book_is_empty) tt
-ordered start (step ∷ past) s legal = order_step (after start past) step legal.1 (traced start past s legal.0).sound (ordered start past s legal.0)
+ordered : (start : Machine) (h : List Step) → IsInitial start → AllEnabled start h → Ordered (map unanswered (after start h).book)
+ordered start [] s enabled = subst (λ (es : List Pending). Ordered (map unanswered es)) (sym s.book_is_empty) tt
+ordered start (step ∷ past) s enabled = order_step (after start past) step enabled.1 (traced start past s enabled.0).sound (ordered start past s enabled.0)
 
-pub law_book_in_order : (start : Machine) (h : List Step) → IsInitial start → IsLegal start h → IsInOrder (map unanswered (after start h).book)
-law_book_in_order start h s legal = from_ordered (map unanswered (after start h).book) (ordered start h s legal)
+pub law_book_in_order : (start : Machine) (h : List Step) → IsInitial start → AllEnabled start h → IsInOrder (map unanswered (after start h).book)
+law_book_in_order start h s enabled = from_ordered (map unanswered (after start h).book) (ordered start h s enabled)
 
 -- Issues.
 
@@ -150,9 +151,9 @@ counted_step m (PlugDisk port id size disk) may s c x l = c x l
 counted_step m (Store client frame offset bytes) may s c x l = c x l
 counted_step m (Load client frame offset bytes) may s c x l = c x l
 
-all_counted : (start : Machine) (h : List Step) → IsInitial start → IsLegal start h → AllCounted (after start h)
-all_counted start [] s legal e l = absurd (nobody start s e l)
-all_counted start (step ∷ past) s legal e l = counted_step (after start past) step legal.1 (traced start past s legal.0).sound (all_counted start past s legal.0) e l
+all_counted : (start : Machine) (h : List Step) → IsInitial start → AllEnabled start h → AllCounted (after start h)
+all_counted start [] s enabled e l = absurd (nobody start s e l)
+all_counted start (step ∷ past) s enabled e l = counted_step (after start past) step enabled.1 (traced start past s enabled.0).sound (all_counted start past s enabled.0) e l
 
 -- The number of a client's unanswered requests.
 
@@ -189,9 +190,9 @@ few_step m (WaitAgain e) may c le = let a = same_count c (update_pending e.reque
 few_step m (Answer e outcome) may c le = let a = fewer_without c e.request.id m.book in omega (arith, a, le)
 few_step m _ may c le = le
 
-few : (start : Machine) (h : List Step) → IsInitial start → IsLegal start h → (c : ClientId) → unanswered_count (after start h).book c ≤ MOST_UNANSWERED_OF_A_CLIENT
-few start [] s legal c = subst (λ (es : List Pending). unanswered_count es c ≤ MOST_UNANSWERED_OF_A_CLIENT) (sym s.book_is_empty) (omega arith)
-few start (step ∷ past) s legal c = few_step (after start past) step legal.1 c (few start past s legal.0 c)
+few : (start : Machine) (h : List Step) → IsInitial start → AllEnabled start h → (c : ClientId) → unanswered_count (after start h).book c ≤ MOST_UNANSWERED_OF_A_CLIENT
+few start [] s enabled c = subst (λ (es : List Pending). unanswered_count es c ≤ MOST_UNANSWERED_OF_A_CLIENT) (sym s.book_is_empty) (omega arith)
+few start (step ∷ past) s enabled c = few_step (after start past) step enabled.1 c (few start past s enabled.0 c)
 
 -- Owners.
 
@@ -216,14 +217,14 @@ accepted_owned start (step ∷ past) r (inl c) i lt = owner_step (after start pa
 accepted_owned start (step ∷ past) r (inr w) i lt = owner_step (after start past) step (nth_frame r.asked.frames.items i) ∙ accepted_owned start past r w i lt
 
 -- all of these together
-pub law_limits_hold : (start : Machine) (h : List Step) → IsInitial start → IsLegal start h → KeepsLimitsAndHoldsOwnFrames (after start h)
-law_limits_hold start h s legal = record {
-  clients_are_within_limit = few start h s legal;
-  book_is_bounded = all_few start h s legal (few start h s legal);
-  issued_four_times_at_most = λ e l. (all_counted start h s legal e l).most;
-  issued_have_an_issue = λ e l t. (all_counted start h s legal e l).some t;
-  frames_are_lent = λ e l i lt. (traced start h s legal).sound.lent e l i lt;
-  frames_are_owned = λ e l i lt. accepted_owned start h e.request (living_accepted start h s legal e l) i lt;
+pub law_request_limits_hold_and_frames_are_lent : (start : Machine) (h : List Step) → IsInitial start → AllEnabled start h → KeepsLimitsAndHoldsOwnFrames (after start h)
+law_request_limits_hold_and_frames_are_lent start h s enabled = record {
+  clients_are_within_limit = few start h s enabled;
+  book_is_bounded = all_few start h s enabled (few start h s enabled);
+  issued_four_times_at_most = λ e l. (all_counted start h s enabled e l).most;
+  issued_have_an_issue = λ e l t. (all_counted start h s enabled e l).some t;
+  frames_are_lent = λ e l i lt. (traced start h s enabled).sound.lent e l i lt;
+  frames_are_owned = λ e l i lt. accepted_owned start h e.request (living_accepted start h s enabled e l) i lt;
 }
 
 -- a request that is due finds a free slot, a plain one a port with nothing issued

@@ -9,7 +9,8 @@ use Rattle.block_machine.specs.declared.due.QueueMode.{QueueMode}
 use Rattle.block_machine.specs.Rules.{Breaks, HasRow, IsNamed}
 use Rattle.block_machine.specs.State.{Accepted, Pending, Machine}
 use Rattle.block_machine.specs.Steps.{Step, Issue, IsEnabled, MayAccept}
-use Rattle.block_machine.specs.Expected.{after, IsLegal, IsInitial}
+use Rattle.block_machine.specs.Events.{AllEnabled}
+use Rattle.block_machine.specs.Expected.{after, IsInitial}
 use Rattle.block_machine.specs.Confinement.{IsGranted, IsNotOnFrames, KeepsNonFrameRulesAndHoldsFrames, WasAccepted}
 use Rattle.block_machine.proofs.Accepts.{living_accepted, was_new}
 use Rattle.block_machine.proofs.Configured.{rows_shrink, was_granted}
@@ -29,13 +30,13 @@ module _ (start m : Machine) (r : Accepted) (s : IsInitial start) (granted : IsG
   unbroken has FrameCount is breaks = new.1.breaks_no_rule FrameCount breaks
   unbroken has (Frames fault) is breaks = is
 
-pub law_issues_keep_rules_but_frames : (start : Machine) (h : List Step) (mode : QueueMode) (e : Pending) → IsInitial start → IsLegal start h → IsEnabled (after start h) (Issue mode e)
+pub law_issued_was_accepted_and_granted_at_issue : (start : Machine) (h : List Step) (mode : QueueMode) (e : Pending) → IsInitial start → AllEnabled start h → IsEnabled (after start h) (Issue mode e)
     → WasAccepted start h e.request × KeepsNonFrameRulesAndHoldsFrames (after start h) e.request
-law_issues_keep_rules_but_frames start h mode e s legal may =
-    let was = living_accepted start h s legal e (inl may.0) in (
+law_issued_was_accepted_and_granted_at_issue start h mode e s enabled may =
+    let was = living_accepted start h s enabled e (inl may.0) in (
       was,
       record {
         breaks_none_not_on_frames = unbroken start (after start h) e.request s (was_granted start h e.request was) (was_new start h e.request was) (rows_shrink start h) may.3;
-        frames_are_lent = (traced start h s legal).sound.lent e (inl may.0);
+        frames_are_lent = (traced start h s enabled).sound.lent e (inl may.0);
       },
     )

@@ -5,7 +5,8 @@ use Rattle.ata_types.specs.declared.request.Op.{Op}
 use Rattle.ata_types.specs.declared.request.Op.TheVariants.{Read}
 use Rattle.block_machine.specs.State.{Pending, Machine, is_reader}
 use Rattle.block_machine.specs.Steps.{Step, IsEnabled, AllTouched, IsInBookOrKept}
-use Rattle.block_machine.specs.Expected.{after, IsLegal, IsInitial, HoldsExpected, IsTouch, HasTouched, AllStepsFaithful}
+use Rattle.block_machine.specs.Events.{AllEnabled}
+use Rattle.block_machine.specs.Expected.{after, IsInitial, HoldsExpected, IsTouch, HasTouched, AllStepsFaithful}
 use Rattle.block_machine.proofs.Members.{contains_none}
 use Rattle.block_machine.proofs.Sound.{Sound}
 use Rattle.block_machine.proofs.Keeps.{keeps}
@@ -37,16 +38,16 @@ sound_start m s = record {
   order = λ e a r l lt con. nobody m s a l;
 }
 
-pub traced : (start : Machine) (h : List Step) → IsInitial start → IsLegal start h → Traced start h
-traced start [] s legal = record {
+pub traced : (start : Machine) (h : List Step) → IsInitial start → AllEnabled start h → Traced start h
+traced start [] s enabled = record {
   sound = sound_start start s;
   seen = λ w k n t. absurd t;
   holds = λ port k. inr (λ w o. o.touched, refl);
   held = λ e l. absurd (nobody start s e l);
 }
-traced start (step ∷ past) s legal =
-    let t = traced start past s legal.0 in
-    let may : IsEnabled (after start past) step = legal.1 in
+traced start (step ∷ past) s enabled =
+    let t = traced start past s enabled.0 in
+    let may : IsEnabled (after start past) step = enabled.1 in
     record {
       sound = keeps (after start past) step may t.sound;
       seen = λ w k n x. ⊎_elim
@@ -57,19 +58,19 @@ traced start (step ∷ past) s legal =
     }
 
 -- where the bytes that reads moved are their disks', what a read touched is good
-good_all : (start : Machine) (h : List Step) → IsInitial start → IsLegal start h → AllStepsFaithful start h → AllGood start h (after start h)
-good_all start [] s legal told = λ e i r k lt t. absurd (nobody start s e (inl i))
-good_all start (step ∷ past) s legal told =
-    let t = traced start past s legal.0 in
-    good_step start past (after start past) step legal.1 told.1 t.sound t.seen t.holds (good_all start past s legal.0 told.0)
+good_all : (start : Machine) (h : List Step) → IsInitial start → AllEnabled start h → AllStepsFaithful start h → AllGood start h (after start h)
+good_all start [] s enabled told = λ e i r k lt t. absurd (nobody start s e (inl i))
+good_all start (step ∷ past) s enabled told =
+    let t = traced start past s enabled.0 in
+    good_step start past (after start past) step enabled.1 told.1 t.sound t.seen t.holds (good_all start past s enabled.0 told.0)
 
 reads : (op : Op) → op ≡ Read → is_reader op ≡ true
 reads op e = ap is_reader e
 
 -- a read with all its sectors touched holds what was left
-pub law_touched_read_holds_expected : (start : Machine) (h : List Step) (e : Pending) → IsInitial start → IsLegal start h → AllStepsFaithful start h
+pub law_fully_touched_read_holds_expected : (start : Machine) (h : List Step) (e : Pending) → IsInitial start → AllEnabled start h → AllStepsFaithful start h
     → Contains (after start h).book e → AllTouched e → e.request.asked.op ≡ Read → HoldsExpected start h (after start h).memory e.request
-law_touched_read_holds_expected start h e s legal told here whole op = record {
-  sectors_are_expected = λ i lt. (good_all start h s legal told e here (reads e.request.asked.op op) i lt (whole i lt)).1;
-  rest_is_as_accepted = λ i b past room lb. (traced start h s legal).held e (inl here) i b (λ _. past) room lb;
+law_fully_touched_read_holds_expected start h e s enabled told here whole op = record {
+  sectors_are_expected = λ i lt. (good_all start h s enabled told e here (reads e.request.asked.op op) i lt (whole i lt)).1;
+  rest_is_as_accepted = λ i b past room lb. (traced start h s enabled).held e (inl here) i b (λ _. past) room lb;
 }

@@ -4,7 +4,8 @@ use Rattle.std.proofs.lemmas.Bool.{false≢true}
 use Rattle.std.specs.List.{Contains}
 use Rattle.block_machine.specs.State.{Pending, Machine}
 use Rattle.block_machine.specs.Steps.{Step, Accept, Issue, Touch, End, Age, WaitAgain, Answer, Revoke, Release, Unplug, PlugDisk, Store, Load, IsEnabled, MayStillMove, after_step, newly_issued, touch, mark_ended, requeued, aged_pending, newly_accepted}
-use Rattle.block_machine.specs.Expected.{after, IsLegal, IsInitial}
+use Rattle.block_machine.specs.Events.{AllEnabled}
+use Rattle.block_machine.specs.Expected.{after, IsInitial}
 use Rattle.block_machine.specs.Histories.{IsReachable}
 use Rattle.block_machine.proofs.Keeps.{older_ended, older_issued}
 use Rattle.block_machine.proofs.Members.{map_in, at_cases, without_in, append_in}
@@ -62,10 +63,10 @@ started_step m (PlugDisk p id size disk) may s all e h = all e h
 started_step m (Store c f o b) may s all e h = all e h
 started_step m (Load c f o b) may s all e h = all e h
 
-started_at : (start : Machine) (h : List Step) → IsInitial start → IsLegal start h → (e : Pending) → Contains (after start h).book e → IsStarted e
-started_at start [] s legal e h = absurd (nobody start s e (inl h))
-started_at start (step ∷ past) s legal e h =
-    started_step (after start past) step legal.1 (traced start past s legal.0).sound (started_at start past s legal.0) e h
+started_at : (start : Machine) (h : List Step) → IsInitial start → AllEnabled start h → (e : Pending) → Contains (after start h).book e → IsStarted e
+started_at start [] s enabled e h = absurd (nobody start s e (inl h))
+started_at start (step ∷ past) s enabled e h =
+    started_step (after start past) step enabled.1 (traced start past s enabled.0).sound (started_at start past s enabled.0) e h
 
 pub ended_issued : (m : Machine) (e : Pending) → IsReachable m → Contains m.book e → e.ended ≡ true → e.issued ≡ true
-ended_issued m e r here = started_at r.initial_machine r.steps_since r.is_initial r.is_legal e (subst (λ (n : Machine). Contains n.book e) r.leads_to_machine here)
+ended_issued m e r here = started_at r.initial_machine r.steps_since r.is_initial r.steps_since_are_enabled e (subst (λ (n : Machine). Contains n.book e) r.leads_to_machine here)

@@ -12,7 +12,7 @@ use Rattle.block_machine.specs.DueRequests.{IsDue, IsInOrder, waits_for, is_plai
 use Rattle.block_machine.proofs.Members.{into_map}
 use Rattle.block_machine.proofs.Order.{In, Ordered, in_from, from_in, ordered_from}
 use Rattle.block_machine.proofs.Counting.{count_cons}
-use Rattle.block_machine.proofs.Dues.{in_order_one, law_issue_keeps_others_due}
+use Rattle.block_machine.proofs.Dues.{in_order_one, law_issue_leaves_others_due_as_before}
 use Rattle.block_machine.proofs.Keeps.{same_port}
 use Rattle.block_machine.proofs.DueTests.{same_test, due_test as tested}
 
@@ -97,9 +97,9 @@ kept_apart p q gone f (x ∷ xs) out same = go (gone x) (q x) refl refl (kept_ap
         ∙ sym (ap (filter stays) (cond-false (q x) (x ∷ old) old qx)))
 
 -- once a due request is issued, the others that were due are the due ones
-pub law_due_after_issue : (mode : QueueMode) (port : Port) (book : List Unanswered) (e : Unanswered) → IsInOrder book → IsDue mode book e → e.port ≡ port
+pub law_issue_removes_only_that_request_from_due : (mode : QueueMode) (port : Port) (book : List Unanswered) (e : Unanswered) → IsInOrder book → IsDue mode book e → e.port ≡ port
     → due_of mode port (with_issued e.id book) ≡ without_request e.id (due_of mode port book)
-law_due_after_issue mode port book e order due own =
+law_issue_removes_only_that_request_from_due mode port book e order due own =
     kept_apart (due_test mode port (with_issued e.id book)) (due_test mode port book) (λ x. x.id.0 == e.id.0) (mark_issued e.id) book out same
   where
     out : (x : Unanswered) → In x book → (x.id.0 == e.id.0) ≡ true → due_test mode port (with_issued e.id book) (mark_issued e.id x) ≡ false
@@ -121,7 +121,7 @@ law_due_after_issue mode port book e order due own =
         by false apart = and_left _ _ apart ∙ sym (and_left _ _ apart)
         by true mine =
             let here : x.port ≡ e.port = same_port x.port port (eqb-true x.port.0 port.0 mine) ∙ sym own in
-            let both = law_issue_keeps_others_due mode book e x order due old (λ is. eqb-false x.id.0 e.id.0 other (ap (λ (i : RequestId). i.0) is)) here in
+            let both = law_issue_leaves_others_due_as_before mode book e x order due old (λ is. eqb-false x.id.0 e.id.0 other (ap (λ (i : RequestId). i.0) is)) here in
             let n = tested mode (with_issued e.id book) x new in
             let o = tested mode book x old in
             ap (λ (b : Bool). (x.port.0 == port.0) && b) (same_test (is_due mode (with_issued e.id book) x) (is_due mode book x)
@@ -177,7 +177,7 @@ in_turn mode port (id ∷ ids) book order is = go (due_of mode port book) refl (
         let due = (due_member mode port book r own).0 here in
         let later : Ordered (r ∷ rs) = subst (λ (xs : List Unanswered). Ordered xs) e (ordered_filter (due_test mode port book) book (ordered_from book order)) in
         let left : due_of mode port (with_issued r.id book) ≡ rs =
-        law_due_after_issue mode port book r order due own
+        law_issue_removes_only_that_request_from_due mode port book r order due own
         ∙ (ap (without_request r.id) e
         ∙ (cond-false (not (r.id.0 == r.id.0)) (r ∷ without_request r.id rs) (without_request r.id rs) (ap not (eq-eqb r.id.0 r.id.0 refl))
         ∙ none_dropped r.id rs (λ x h. apart x (later.0 x h) (x.id.0 == r.id.0) refl))) in (

@@ -310,8 +310,8 @@ pub record UnpluggedOutcomeEmptiesPort (steps : List Step) (new : Machine) : Typ
 
 -- Where a request is told Unplugged, its port is neither dead nor ready with serial and size as before: a tick, or a
 -- reset, lets requests go again where it finds these.
-abbrev pub UnpluggedOutcomeExcludesDeadAndSameSerialAndSize : List Step → Ports → Ports → Type 0
-UnpluggedOutcomeExcludesDeadAndSameSerialAndSize steps old new = (e : Pending)
+abbrev pub UnpluggedExcludesDeadAndSameDisk : List Step → Ports → Ports → Type 0
+UnpluggedExcludesDeadAndSameDisk steps old new = (e : Pending)
     → Contains steps (Answer e outcome.Unplugged)
     → (new.state e.request.port ≢ Dead) × (new.state e.request.port ≡ Ready → SameSerialAndSize old new e.request.port
     → ⊥)
@@ -351,7 +351,7 @@ pub record RestartsTimedOut (old : AbstractState) (evidence : Evidence) (steps :
   pub issued_are_issued_in_steps : (port : Port) → TimesOutAtTick old port
       → IssuedOnPortAreIssuedInSteps steps new.machine port
   pub timed_out_iff_stopped_or_stuck : (port : Port) → TimesOutAtTick old port ↔ IsStoppedOrStuck evidence port
-  pub unplugged_lost_disk : UnpluggedOutcomeExcludesDeadAndSameSerialAndSize steps old.ports new.ports
+  pub unplugged_lost_disk : UnpluggedExcludesDeadAndSameDisk steps old.ports new.ports
   pub shown_disk_was_in_or_came : (port : Port) → TimesOutAtTick old port → ShownDiskWasInOrCame old steps new port
 
 -- The kept requests' frames are given back once, before the server does anything else.
@@ -403,7 +403,7 @@ pub record AnswersReset (old : AbstractState) (evidence : Evidence) (steps : Lis
   pub replies_match : RepliesMatch steps replies
   pub releases_once : ReleasesOnceBeforeServerSteps steps
   pub unplugged_outcome_empties_port : UnpluggedOutcomeEmptiesPort steps new.machine
-  pub unplugged_lost_disk : UnpluggedOutcomeExcludesDeadAndSameSerialAndSize steps old.ports new.ports
+  pub unplugged_lost_disk : UnpluggedExcludesDeadAndSameDisk steps old.ports new.ports
   pub none_is_due_where_ready : NoneDueWhereReady new
   pub empty_unless_ready : (port : Port) → EmptyUnlessReady new port
   pub port_may_become : (port : Port) → MayBecome old.ports evidence new.ports port

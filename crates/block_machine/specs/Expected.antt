@@ -11,20 +11,15 @@ use Rattle.ata_types.specs.declared.memory.TheConstants.{DRIVER_FRAMES, MOST_FRA
 use Rattle.block_machine.specs.Rules.{DifferInName}
 use Rattle.block_machine.specs.DueRequests.{changes_sectors}
 use Rattle.block_machine.specs.State.{Block, DiskBytes, Memory, Accepted, Machine, block_of, sector_of, block_written}
-use Rattle.block_machine.specs.Steps.{Step, Accept, Issue, Touch, End, PlugDisk, IsEnabled, HoldsOrHeldSinceFlush, after_step}
+use Rattle.block_machine.specs.Steps.{Step, Accept, Issue, Touch, End, PlugDisk, HoldsOrHeldSinceFlush, after_step}
 
 -- the machine after a history of steps
 abbrev pub after : Machine → List Step → Machine
 after start [] = start
 after start (step ∷ past) = after_step (after start past) step
 
--- each step of the history came when it might
-abbrev pub IsLegal : Machine → List Step → Type 0
-IsLegal start [] = Unit {0}
-IsLegal start (step ∷ past) = IsLegal start past × IsEnabled (after start past) step
-
--- A grant as a configuration may give it: to a client from 1 to 8, under a number from 0 to 63, on a port from 0 to 3,
--- of one sector at least, all of them below 2^48.
+-- A grant as a configuration may give it, but for its rights: to a client from 1 to 8, under a number from 0 to 63, on
+-- a port from 0 to 3, of one sector at least, all of them below 2^48.
 pub record IsValidRow (row : GrantRow) : Type 0 where
   pub client_is_valid : (1 ≤ row.client.0) × (row.client.0 ≤ 8)
   pub number_is_at_most_63 : row.number ≤ 63

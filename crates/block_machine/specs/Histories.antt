@@ -7,7 +7,7 @@ use Rattle.std.specs.Prelude.{◌≡◌, List, [], ◌∷◌, map}
 use Rattle.block_machine.specs.State.{Machine}
 use Rattle.block_machine.specs.Ports.{PortsWellFormed}
 use Rattle.block_machine.specs.Steps.{Step}
-use Rattle.block_machine.specs.Expected.{after, IsInitial, IsLegal}
+use Rattle.block_machine.specs.Expected.{after, IsInitial}
 use Rattle.block_machine.specs.Events.{AbstractState, CallRecord, AllEnabled, Happens, abstract_after}
 
 -- device, machine and ports between two calls
@@ -53,7 +53,7 @@ pub record IsReachable (m : Machine) : Type 0 where
   pub initial_machine : Machine
   pub steps_since : List Step
   pub is_initial : IsInitial initial_machine
-  pub is_legal : IsLegal initial_machine steps_since
+  pub steps_since_are_enabled : AllEnabled initial_machine steps_since
   pub leads_to_machine : m ≡ after initial_machine steps_since
 
 -- What a part of a call does: from each machine that is reached and fits the old state, steps that may come lead to one

@@ -4,7 +4,7 @@
 ghost use Rattle.std.specs.Prelude.{◌≡◌, ◌≢◌, ◌↔◌, ◌<◌, ℕ, Bool, IsTrue, true, false, List, [], ◌∷◌, ◌++◌, ◌≤◌, ◌&&◌, nat_lt, Option, Some, All, length, map, count_by, Contains};
 ghost use Rattle.ata_types.specs.{declared.Port.{Port}, declared.PortState.TheVariants.{Ready}, declared.request.ClientId.{ClientId}, declared.request.Frame.{Frame}, declared.request.Request.{Request}, declared.request.RequestId.{RequestId}, declared.grant.GrantRow.{GrantRow}, declared.request.Outcome.{Outcome}, declared.request.Op.TheVariants.{Read}};
 ghost use Rattle.block_machine.specs.{declared.due.QueueMode.{QueueMode}, declared.due.Unanswered.{Unanswered}, DueRequests.{IsDue, IsInOrder, is_plain, issued_count, is_due, unblocked_ahead_count, due_ahead_count, free_slots, with_issued, with_waiting, without_request, requests_of_port, due_of, AreAllDueInOrder}, Ports.{Ports, PortsWellFormed}, Refusals.{AdmissionContext, IsAcceptable, MayAccessFrame}, Rules.{HasGrantName}};
-ghost use Rattle.block_machine.specs.{State.{Block, Accepted, Pending, Machine, unanswered}, Steps.{Step, Touch, End, Issue, WaitAgain, Answer, Age, after_step, IsEnabled, MayAccept, IsInBookOrKept, AllTouched}, Expected.{IsInitial, IsLegal, AllStepsFaithful, HoldsExpected, after}, Confinement.{IsGranted, IsConfined, FramesAreAsAcceptedOutsideReadRange, HasFrame, KeepsNonFrameRulesAndHoldsFrames, WasAccepted, KeepsLimitsAndHoldsOwnFrames}};
+ghost use Rattle.block_machine.specs.{State.{Block, Accepted, Pending, Machine, unanswered}, Steps.{Step, Touch, End, Issue, WaitAgain, Answer, Age, after_step, IsEnabled, MayAccept, IsInBookOrKept, AllTouched}, Expected.{IsInitial, AllStepsFaithful, HoldsExpected, after}, Confinement.{IsGranted, IsConfined, FramesAreAsAcceptedOutsideReadRange, HasFrame, KeepsNonFrameRulesAndHoldsFrames, WasAccepted, KeepsLimitsAndHoldsOwnFrames}};
 ghost use Rattle.block_machine.specs.{Events.{AbstractState, CallRecord, AllEnabled, IsRun, EveryReadHoldsExpected, abstract_after_all, steps_of}, Histories.{IsReachable}};
 
 /// Over every run of calls whose reads moved their disks' bytes: each read that is answered Ok has, at the end of the
@@ -16,10 +16,12 @@ pub fn law_answered_reads_hold_expected<D>()
         → EveryReadHoldsExpected first run }
 {}
 
-/// After every history, a read with all its sectors touched since its last issue has what is left.
-pub fn law_touched_read_holds_expected()
+/// After every history whose reads moved their disks' bytes: an unanswered read with all its sectors touched since its
+/// last issue has, sector by sector, what the writes and trims accepted before it left, and the rest of its frames is
+/// as it was when it was accepted.
+pub fn law_fully_touched_read_holds_expected()
     ensures { (start : Machine) (history : List Step) (read : Pending) → IsInitial start
-        → IsLegal start history
+        → AllEnabled start history
         → AllStepsFaithful start history → Contains (after start history).book read → AllTouched read
         → read.request.asked.op ≡ Read → HoldsExpected start history
         (after start history).memory read.request }
@@ -32,13 +34,13 @@ pub fn law_rows_shrink_and_owners_stay()
         × ((frame : Frame) → (after start history).owner frame ≡ start.owner frame) }
 {}
 
-/// The steps of a run are a legal history, which leads to the run's machine: so the laws on histories of steps hold of
+/// The steps of a run came when they might, and lead to the run's machine: so the laws on histories of steps hold of
 /// runs. Among them: each touch of a sector in it is of an accepted request's own sector, at a frame that is lent to
 /// it; and each request that it issues was accepted, when it broke no rule, still breaks none by the rows as they are
 /// when it is issued, and its frames are lent to it.
-pub fn law_runs_are_legal<D>()
-    ensures legal { (first : AbstractState) (run : List (CallRecord D)) → IsRun first run
-        → IsInitial first.machine × IsLegal first.machine (steps_of run)
+pub fn law_run_steps_are_enabled<D>()
+    ensures steps_are_enabled { (first : AbstractState) (run : List (CallRecord D)) → IsRun first run
+        → IsInitial first.machine × AllEnabled first.machine (steps_of run)
         × ((abstract_after_all first run).machine ≡ after first.machine (steps_of run)) }
     ensures touches { (first : AbstractState) (run : List (CallRecord D)) (late early : List Step) (e : Pending) (i : ℕ)
         (block : Block)
@@ -91,15 +93,15 @@ pub fn law_lent_frame_is_of_its_request()
 pub fn law_touch_is_confined()
     ensures { (start : Machine) (history : List Step) (e : Pending) (i : ℕ) (block : Block)
         → IsInitial start
-        → IsLegal start history → IsEnabled (after start history) (Touch e i block)
+        → AllEnabled start history → IsEnabled (after start history) (Touch e i block)
         → IsConfined start history e.request i }
 {}
 
 /// Each request that is issued was accepted, when it broke no rule. By the rows as they are when it is issued it breaks
 /// none on its grant, nor on how many sectors and frames it has; and its frames are lent to it.
-pub fn law_issues_keep_rules_but_frames()
+pub fn law_issued_was_accepted_and_granted_at_issue()
     ensures { (start : Machine) (history : List Step) (mode : QueueMode) (e : Pending) → IsInitial start
-        → IsLegal start history → IsEnabled (after start history) (Issue mode e)
+        → AllEnabled start history → IsEnabled (after start history) (Issue mode e)
         → WasAccepted start history e.request × KeepsNonFrameRulesAndHoldsFrames (after start history) e.request }
 {}
 
@@ -111,14 +113,14 @@ pub fn law_accepted_is_granted()
 /// Each request that is unanswered or kept was accepted.
 pub fn law_request_in_book_or_kept_was_accepted()
     ensures { (start : Machine) (history : List Step) (e : Pending) → IsInitial start
-        → IsLegal start history
+        → AllEnabled start history
         → IsInBookOrKept (after start history) e → WasAccepted start history e.request }
 {}
 
 /// A frame that is lent is lent to an accepted request, and is one of its own.
-pub fn law_lent_was_accepted()
+pub fn law_lent_frame_is_of_accepted_request()
     ensures { (start : Machine) (history : List Step) (frame : Frame) (id : RequestId) → IsInitial start
-        → IsLegal start history → (after start history).lent frame ≡ Some id
+        → AllEnabled start history → (after start history).lent frame ≡ Some id
         → (r : Accepted) × WasAccepted start history r × (r.id ≡ id) × HasFrame r frame }
 {}
 
@@ -133,18 +135,18 @@ pub fn law_one_id_is_one_request()
 /// a read: so the device moves a write's own bytes.
 pub fn law_frames_keep_bytes_outside_read_range()
     ensures { (start : Machine) (history : List Step) (e : Pending) → IsInitial start
-        → IsLegal start history
+        → AllEnabled start history
         → IsInBookOrKept (after start history) e → FramesAreAsAcceptedOutsideReadRange (after start history) e.request }
 {}
 
 /// In a machine that is reached a client and a number name one row at most.
-pub fn law_a_name_is_of_one_row()
+pub fn law_a_grant_name_is_of_at_most_one_row()
     ensures { (m : Machine) (client : ClientId) (number : ℕ) (a b : GrantRow) → IsReachable m → Contains m.rows a
         → HasGrantName client number a → Contains m.rows b → HasGrantName client number b → a ≡ b }
 {}
 
 /// The frames of an acceptable request are its client's, and so is one that a client may access.
-pub fn law_acceptable_and_accessible_frames_are_owned()
+pub fn law_lendable_or_accessible_frames_are_owned()
     ensures acceptable { (s : AdmissionContext) (r : Request) → IsAcceptable s r
         → All (λ frame. s.owner frame ≡ Some r.client) r.frames.items }
     ensures accessible { (owner : Frame → Option ClientId) (lent : Frame → Option RequestId) (client : ClientId)
@@ -158,15 +160,16 @@ pub fn law_ready_ports_are_served()
         → (ports.served port ≡ true) × (port.0 < 4) }
 {}
 
-/// The limits hold after every history.
-pub fn law_limits_hold()
-    ensures { (start : Machine) (history : List Step) → IsInitial start → IsLegal start history
+/// The limits hold after every history; and the frames of each request that is unanswered or kept are its client's, and
+/// lent to it.
+pub fn law_request_limits_hold_and_frames_are_lent()
+    ensures { (start : Machine) (history : List Step) → IsInitial start → AllEnabled start history
         → KeepsLimitsAndHoldsOwnFrames (after start history) }
 {}
 
 /// The book stands in order of acceptance.
 pub fn law_book_in_order()
-    ensures { (start : Machine) (history : List Step) → IsInitial start → IsLegal start history
+    ensures { (start : Machine) (history : List Step) → IsInitial start → AllEnabled start history
         → IsInOrder (map unanswered (after start history).book) }
 {}
 
@@ -178,7 +181,7 @@ pub fn law_due_finds_slot()
 {}
 
 /// Once a due request is issued, another request of its port is due exactly where it was due before.
-pub fn law_issue_keeps_others_due()
+pub fn law_issue_leaves_others_due_as_before()
     ensures { (mode : QueueMode) (book : List Unanswered) (r other : Unanswered) → IsInOrder book
         → IsDue mode book r
         → Contains book other → other.id ≢ r.id → other.port ≡ r.port
@@ -206,8 +209,8 @@ pub fn law_earlier_ones_stand_before()
         (front ++ r ∷ back) ≡ count_by passes front }
 {}
 
-/// A request of the book is due where the test says so.
-pub fn law_due_is_tested()
+/// A request of the book is due exactly where the test says so.
+pub fn law_due_test_is_exact()
     ensures { (mode : QueueMode) (book : List Unanswered) (r : Unanswered) → Contains book r
         → IsTrue (is_due mode book r) ↔ IsDue mode book r }
 {}
@@ -221,7 +224,7 @@ pub fn law_due_list_is_exact()
 {}
 
 /// Once a due request is issued, the others of its port that were due are the due ones.
-pub fn law_due_after_issue()
+pub fn law_issue_removes_only_that_request_from_due()
     ensures { (mode : QueueMode) (port : Port) (book : List Unanswered) (r : Unanswered) → IsInOrder book
         → IsDue mode book r → r.port ≡ port
         → due_of mode port (with_issued r.id book) ≡ without_request r.id (due_of mode port book) }
@@ -229,7 +232,7 @@ pub fn law_due_after_issue()
 
 /// The due requests of a port may be issued one after the other, each of them due when its turn comes; then none is
 /// due.
-pub fn law_due_in_turn()
+pub fn law_issuing_due_in_turn_leaves_none_due()
     ensures { (mode : QueueMode) (port : Port) (book : List Unanswered) → IsInOrder book
         → AreAllDueInOrder mode port (map (λ r. r.id) (due_of mode port book)) book }
 {}
@@ -261,7 +264,7 @@ pub fn law_due_depends_on_own_port()
 {}
 
 /// A request that is issued, waits again or is answered on one port leaves the requests of another as they are.
-pub fn law_other_ports_requests_stay()
+pub fn law_request_steps_leave_other_ports_requests()
     ensures issued { (port : Port) (book : List Unanswered) (r : Unanswered) → IsInOrder book → Contains book r
         → r.port ≢ port → requests_of_port port (with_issued r.id book) ≡ requests_of_port port book }
     ensures waiting { (port : Port) (book : List Unanswered) (r : Unanswered) → IsInOrder book → Contains book r
@@ -270,8 +273,9 @@ pub fn law_other_ports_requests_stay()
         → r.port ≢ port → requests_of_port port (without_request r.id book) ≡ requests_of_port port book }
 {}
 
-/// What each step on an accepted request leaves of the list that says which are due.
-pub fn law_effect_of_steps_after_acceptance_on_unanswered()
+/// What steps on requests of the book leave of the list that says which are due: an issue, a wait and an answer change
+/// it; an ageing, a touch and an end don't.
+pub fn law_unanswered_follow_request_steps()
     ensures issue { (m : Machine) (mode : QueueMode) (e : Pending)
         → map unanswered (after_step m (Issue mode e)).book ≡ with_issued e.request.id (map unanswered m.book) }
     ensures wait_again { (m : Machine) (e : Pending)

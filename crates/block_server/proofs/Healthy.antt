@@ -24,7 +24,7 @@ use Rattle.block_machine.specs.Ports.{PortsWellFormed, Evidence, Ports}
 use Rattle.block_machine.specs.State.{Pending}
 use Rattle.block_machine.specs.Steps.{AllTouched, Answer, Step}
 use Rattle.durability.specs.Durable.{EveryReplugFindsFlushedOrLater}
-use Rattle.driver_history.specs.EvidenceHandling.{HandlesIfServiceElseOnlyTickOrResetStops}
+use Rattle.driver_history.specs.EvidenceHandling.{ServicesOrOnlyTickOrResetStops}
 use Rattle.driver_history.specs.Claims.{AnswerJustified, GoesWellFor, IsFaultFreeOutcome, IsHealthyFor}
 use Rattle.driver_history.specs.Evidence.{StaysHealthy}
 use Rattle.driver_history.specs.Histories.{IsDriverHistory}
@@ -39,7 +39,7 @@ use Rattle.identify.specs.declared.DiskInfo.{DiskInfo}
 use Rattle.identify.specs.declared.wanted.Wanted.{Wanted}
 use Rattle.server_history.specs.Histories.{ExtendsHistory, LeadsToServer}
 use Rattle.server_history.specs.ServerState.{is_served, ports_of, state_of}
-use Rattle.block_server.specs.ClientPromise.{ConfinesMovesAndClears, HoldsOfEachAdded, BetweenCallsInvariant, MatchesTape, PortStateIsJustified, IsSeenAt, FlushesSurviveReplugIfDisksTell}
+use Rattle.block_server.specs.ClientPromise.{ConfinesMovesAndClears, HoldsOfEachAdded, ClientPromiseInvariant, MatchesTape, PortStateIsJustified, IsSeenAt, FlushesSurviveReplugIfDisksTell}
 use Rattle.block_server.specs.InitialServer.{IsInitialServer}
 use Rattle.block_server.specs.Promise.{GoesWellForPortAndClients, IsFaultFreeAnswer, Simulates, ServesPorts}
 use Rattle.block_server.specs.AbstractCalls.{abstract_call_of, machine_result_of}
@@ -120,7 +120,7 @@ module _ (wanted : Wanted) (s : DriverSlots) (i : JointState Device) (port : Por
   none_waits true Foreign h unready on = h.has_no_unanswered
   none_waits true (Unfit cause) h unready on = h.has_no_unanswered
 
-holds_between : (wanted : List Wanted) (i : JointState Device) → DriverInvariant wanted i → BetweenCallsInvariant wanted i
+holds_between : (wanted : List Wanted) (i : JointState Device) → DriverInvariant wanted i → ClientPromiseInvariant wanted i
 holds_between wanted i (s, h) = record {
   served_iff_wanted_and_there = h.served_iff_wanted_and_there;
   states_are_justified = λ port low. in_state (wanted_of wanted port.0) s i port (i.abstract.ports.served port) (i.abstract.ports.state port) refl (h.ports_hold port low);
@@ -202,7 +202,7 @@ module _ (laws : HistoryLaws) where
               (goes.is_spared.outcomes_are_fault_free e told here own)
               (λ ok. subst (AnswerJustified old h history.2.accesses e) ok (laws.rest wanted first past h history e told here));
           answers_ok_what_had_ended = λ asks.
-              (subst (λ (ask : AbstractCall DeviceStep). HandlesIfServiceElseOnlyTickOrResetStops port ask old.abstract h.event.evidence h.event.steps (abstract_after old.abstract h.event)) asks heeds healthy.ready).answers_ok_what_had_ended;
+              (subst (λ (ask : AbstractCall DeviceStep). ServicesOrOnlyTickOrResetStops port ask old.abstract h.event.evidence h.event.steps (abstract_after old.abstract h.event)) asks heeds healthy.ready).answers_ok_what_had_ended;
           issues_all_due = goes.issues_all_due;
         },
       )

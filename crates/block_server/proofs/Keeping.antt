@@ -7,7 +7,7 @@ use Rattle.std.proofs.lemmas.List.Elements.{All-contains, Contains-append_cases,
 use Rattle.ata_types.specs.declared.request.Frame.{Frame}
 use Rattle.dma_frames.specs.Loan.{Lending}
 use Rattle.dma_frames.specs.FrameTables.{OwnersAndLoans, lent_to}
-use Rattle.server_history.specs.KeptLoans.{IsKeptIn, LoansEndInTurn, MayGiveBack, GivesBackLoans}
+use Rattle.server_history.specs.KeptLoans.{IsKeptIn, GivingBackLoansComposes, MayGiveBack, GivesBackLoans}
 use Rattle.request_queue.specs.BookEntries.{GivesBack, BookEntry, FramesAreLentToIt}
 use Rattle.server_history.specs.ServerState.{DifferInRequest, IsLentOut, ServerState, quarantined_at}
 
@@ -38,7 +38,7 @@ is_below kept (suc count) loan below = ⊎_elim
     Contains-append_right (loans_below kept count) (quarantined_at kept count) loan (subst (λ (p : ℕ). Contains (quarantined_at kept p) loan) same below.2))
     (cases_lt below.0 count)
 
-module _ (law : LoansEndInTurn) (first now : List (List Lending)) (table mid : OwnersAndLoans) (count : ℕ) (may : MayGiveBack table first) (back : GivesBackLoans table mid (Contains (loans_below first count)))
+module _ (law : GivingBackLoansComposes) (first now : List (List Lending)) (table mid : OwnersAndLoans) (count : ℕ) (may : MayGiveBack table first) (back : GivesBackLoans table mid (Contains (loans_below first count)))
     (here : quarantined_at now count ≡ quarantined_at first count) where
   -- the next port's loans are lent out still
   its_out : All (IsLentOut mid) (quarantined_at first count)
@@ -78,7 +78,7 @@ none_so_far first table four = record {
   back = record { owners_are_kept = refl; their_frames_are_free = λ loan f ended here. absurd (let low = ended.1 in omega (arith, low)); other_loans_are_kept = λ f apart. refl };
 }
 
-pub next_so_far : LoansEndInTurn → (first now : List (List Lending)) (table mid new : OwnersAndLoans) (count : ℕ) → MayGiveBack table first → BackSoFar first now table mid count → count < 4
+pub next_so_far : GivingBackLoansComposes → (first now : List (List Lending)) (table mid new : OwnersAndLoans) (count : ℕ) → MayGiveBack table first → BackSoFar first now table mid count → count < 4
     → GivesBackLoans mid new (Contains (quarantined_at now count)) → BackSoFar first (set now count []) table new (count + 1)
 next_so_far law first now table mid new count may so_far low given = record {
   four = length-set now count [] ∙ so_far.four;

@@ -27,10 +27,6 @@ use Rattle.port_driver.specs.PortAndShared.{NotesProbeResult}
 use Rattle.port_driver.specs.declared.served_port.ServedPort.{ServedPort}
 use Rattle.block_server.proofs.Becoming as becoming
 
--- a row of a plan is one that a configuration may give
-row_is : (plan : PlanView) (row : GrantRow) → IsServableGrant plan.wanted row → IsValidRow row
-row_is plan row g = record { client_is_valid = (g.client.0, g.client.1); number_is_at_most_63 = g.number; port_is_at_most_3 = g.port; count_is_positive = g.count_is_positive; sectors_are_below_2_48 = g.sectors_end_by_2_48 }
-
 -- each of so many is the same
 at_replicate : {X : Type 0} (n : ℕ) (x : X) (place : ℕ) → get_or (replicate n x) place x ≡ x
 at_replicate n x place = ⊎_elim
@@ -53,7 +49,7 @@ module _ (s : ServerState) (host : Host) (plan : PlanView) (is : IsServablePlan 
     (only : (f : Frame) (client : ClientId) → owner_of s.table f ≡ Some client → (run : FrameExtent) × Contains plan.owners run × ExtentHasFrame run f × (run.0 ≡ client))
     (room : 4096 * plan.frames ≤ s.device.memory_size) where
   planned : (row : GrantRow) → Contains s.grants row → IsValidRow row
-  planned row here = row_is plan row (All-contains (IsServableGrant plan.wanted) plan.grants row is.grants (rows.1 row here))
+  planned row here = (All-contains (IsServableGrant plan.wanted) plan.grants row is.grants (rows.1 row here)).row_is_valid
 
   within : (frame : Frame) (client : ClientId) → owner_of s.table frame ≡ Some client → (DRIVER_FRAMES ≤ frame.0) × (frame.0 < plan.frames) × IsClientNumber client
   within frame client own =

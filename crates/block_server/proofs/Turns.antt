@@ -8,9 +8,9 @@ use Rattle.refinement.specs.Relation.{port_at}
 use Rattle.host_boot.specs.TakeOver.{probe_result_of}
 use Rattle.host_boot.specs.declared.ProbeResult.{ProbeResult}
 use Rattle.host_boot.specs.declared.ProbeResult.TheVariants.{Ready, Unready, Unserved}
-use Rattle.server_history.specs.ServerState.{ServerState, SettledInvariant}
+use Rattle.server_history.specs.ServerState.{ServerState, InvariantWithNoneDue}
 use Rattle.server_history.specs.Turns.{EachPortTakesTurn}
-use Rattle.port_driver.specs.PortAndShared.{IsSettledWith, TakesTurn, TurnByProbeResult, with_served_port}
+use Rattle.port_driver.specs.PortAndShared.{HasNoneDueAndParts, TakesTurn, TurnByProbeResult, with_served_port}
 use Rattle.port_driver.specs.declared.served_port.ServedPort.{ServedPort}
 use Rattle.port_driver.specs.declared.served_port.Shared.{Shared}
 use Rattle.block_server.specs.FourPorts.{by_port}
@@ -23,20 +23,20 @@ module _ (Such : Port → List Reply → ServerState → ServerState → Type 0)
   pub record TurnsSoFar (ports : List ServedPort) (told : List Reply) (now : ServerState) (number : ℕ) : Type 0 where
     pub four : length ports ≡ 4
     pub left : (q : ℕ) → number ≤ q → probe_result_of (by_port (λ p. p.probe_result) ports) q ≡ probe_result_of found q
-    pub settled_invariant : SettledInvariant now
+    pub invariant_with_none_due : InvariantWithNoneDue now
     pub rest : (later : List Reply) (last : ServerState) → EachPortTakesTurn Such Other number (drop number found) later now last → EachPortTakesTurn Such Other 0 found (told ++ later) first last
 
   -- at first none has had its turn
-  pub none_yet : (ports : List ServedPort) (now : ServerState) → length ports ≡ 4 → by_port (λ p. p.probe_result) ports ≡ found → SettledInvariant now → now ≡ first → TurnsSoFar ports [] now 0
+  pub none_yet : (ports : List ServedPort) (now : ServerState) → length ports ≡ 4 → by_port (λ p. p.probe_result) ports ≡ found → InvariantWithNoneDue now → now ≡ first → TurnsSoFar ports [] now 0
   none_yet ports now four is settled same = record {
     four = four;
     left = λ q more. ap (λ (list : List ProbeResult). probe_result_of list q) is;
-    settled_invariant = settled;
+    invariant_with_none_due = settled;
     rest = λ later last turns. subst (λ (x : ServerState). EachPortTakesTurn Such Other 0 found later x last) same turns;
   }
 
   -- the port of this number has its turn, and then those after it
-  one_turn : (number : ℕ) → number < length found → (s mid new : ServerState) (its later : List Reply) → SettledInvariant mid → TurnByProbeResult Such Other (probe_result_of found number) (port_at number) its s mid
+  one_turn : (number : ℕ) → number < length found → (s mid new : ServerState) (its later : List Reply) → InvariantWithNoneDue mid → TurnByProbeResult Such Other (probe_result_of found number) (port_at number) its s mid
       → EachPortTakesTurn Such Other (number + 1) (drop (number + 1) found) later mid new → EachPortTakesTurn Such Other number (drop number found) (its ++ later) s new
   one_turn number low s mid new its later kept turn rest =
       subst (λ (left : List ProbeResult). EachPortTakesTurn Such Other number left (its ++ later) s new) (sym (drop_more found number Unserved low)) (by (probe_result_of found number) turn)
@@ -49,8 +49,8 @@ module _ (Such : Port → List Reply → ServerState → ServerState → Type 0)
 
   module _ (s : ServerState) (device : Device) (shared : Shared) (ports : List ServedPort) (told : List Reply) (number : ℕ) (so_far : TurnsSoFar ports told (with_ports s device shared ports) number) where
     -- the port of this number has its part
-    pub its_part : number < 4 → (default : ServedPort) → IsSettledWith (with_ports s device shared ports) device shared (port_at number) (get_or ports number default)
-    its_part low default = record { settled_invariant = so_far.settled_invariant; has_port_and_shared = placing.has_parts s device shared ports number default (let four = so_far.four in omega (arith, four, low)) }
+    pub its_part : number < 4 → (default : ServedPort) → HasNoneDueAndParts (with_ports s device shared ports) device shared (port_at number) (get_or ports number default)
+    its_part low default = record { invariant_with_none_due = so_far.invariant_with_none_due; has_port_and_shared = placing.has_parts s device shared ports number default (let four = so_far.four in omega (arith, four, low)) }
 
     -- and now it has had its turn
     pub one_more : (low : number < 4) → length found ≡ 4 → (default : ServedPort) (d : Device) (other : Shared) (p : ServedPort) (after : List Reply)
@@ -64,11 +64,11 @@ module _ (Such : Port → List Reply → ServerState → ServerState → Type 0)
         record {
           four = length-set ports number p ∙ so_far.four;
           left = λ q more. placing.other_found ports number p q (λ same. omega (arith, more, same)) ∙ so_far.left q (omega (arith, more));
-          settled_invariant = turn.settled_invariant;
+          invariant_with_none_due = turn.invariant_with_none_due;
           rest = λ later last more.
               let W : List Reply → Type 0 = λ all. EachPortTakesTurn Such Other 0 found all first last in
               subst W (sym (ap (λ (all : List Reply). all ++ later) turn.replies_are ∙ append_assoc told turn.new_replies later))
-              (so_far.rest (turn.new_replies ++ later) last (one_turn number (omega (arith, many, low)) (with_ports s device shared ports) mid last turn.new_replies later turn.settled_invariant turn.turn_is_taken more));
+              (so_far.rest (turn.new_replies ++ later) last (one_turn number (omega (arith, many, low)) (with_ports s device shared ports) mid last turn.new_replies later turn.invariant_with_none_due turn.turn_is_taken more));
         }
 
     -- after the last there is none, so the turns of the others are all

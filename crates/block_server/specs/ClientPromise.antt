@@ -66,7 +66,7 @@ PortStateIsJustified wanted i p true state = BacksState (serial_of wanted) state
 -- each is in its state for a reason; and on one that isn't ready no request waits, unless the adapter isn't on.
 -- Clients' frames hold what the machine's do. The disk of each port is the machine's; and where the adapter's disks
 -- tell their sectors, these hold the same.
-pub record BetweenCallsInvariant (wanted : List Wanted) (i : JointState Device) : Type 0 where
+pub record ClientPromiseInvariant (wanted : List Wanted) (i : JointState Device) : Type 0 where
   pub served_iff_wanted_and_there : (p : Port) → p.0 < 4 → (i.abstract.ports.served p ≡ true)
       ↔ IsServed (wanted_of wanted p.0) p.0 i.device
   pub states_are_justified : (p : Port) → p.0 < 4
@@ -89,7 +89,7 @@ pub record MatchesTape (wanted : List Wanted) (first : JointState Device) (past 
   pub tells_device_steps : TellsDeviceSteps (joint_state_after first past).abstract.machine new_entries h.event.steps
   pub plugged_disks_match_steps : (p : ℕ) → (disks : List Disk) × PutsInDisks p disks h.event.steps
       × ((h.device.port p).plug_history ≡ ((joint_state_after first past).device.port p).plug_history ++ disks)
-  pub invariant_holds : BetweenCallsInvariant wanted (joint_state_after first (h ∷ past))
+  pub invariant_holds : ClientPromiseInvariant wanted (joint_state_after first (h ∷ past))
 
 -- What is promised to clients of calls, the newest first, that asked that and said this, one after another, after a
 -- history from where the server was made. With them the history is a run of the block machine, which leads to the
@@ -106,7 +106,7 @@ pub record MeetsClientPromise (first : JointState Device) (past added : List (Jo
   pub is_run : IsRun first.abstract (events_of (added ++ past))
   pub reads_hold_if_disks_tell : first.device.telling ≡ true
       → EveryReadHoldsExpected first.abstract (events_of (added ++ past))
-  pub invariant_at_start : BetweenCallsInvariant old.wanted (joint_state_after first past)
+  pub invariant_at_start : ClientPromiseInvariant old.wanted (joint_state_after first past)
   pub matches_tape : HoldsOfEachAdded (MatchesTape new.wanted first) past added
 
 -- What is promised of moves of data, which follows: in each of these calls moves and clears keep to their places, of

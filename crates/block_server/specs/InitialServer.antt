@@ -15,7 +15,7 @@ use Rattle.host_boot.specs.TakeOver.{TakesOver}
 use Rattle.host_boot.specs.declared.Host.{Host}
 use Rattle.configuration.specs.Plan.{PlanView, IsServablePlan, IsPlanOf}
 use Rattle.server_history.specs.Histories.{StartsHistory}
-use Rattle.server_history.specs.ServerState.{SettledInvariant, quarantined_at, remembered_at, used_for}
+use Rattle.server_history.specs.ServerState.{InvariantWithNoneDue, quarantined_at, remembered_at, used_for}
 use Rattle.block_server.specs.declared.types.ServerError.{ServerError}
 use Rattle.block_server.specs.declared.types.ServerError.TheVariants.{BadConfig, NoMemory}
 
@@ -51,7 +51,7 @@ pub record IsInitialServer {A : Type 0} (device : A → Device) (config : Config
   pub last_id_is_0 : s.last_id ≡ 0
   pub is_not_stuck : s.stuck ≡ false
   pub no_slot_is_used : (port slot : ℕ) → used_for s.slots port slot ≡ None
-  pub settled_invariant : SettledInvariant (server_of device s)
+  pub invariant_with_none_due : InvariantWithNoneDue (server_of device s)
   pub starts_history : StartsHistory (server_of device s)
 
 -- the error is the configuration's least fault; or it has none, and the error is NoMemory

@@ -11,11 +11,12 @@ ghost use Rattle.block_server.specs.{Promise.{Simulates}, InitialServer.{IsIniti
 
 use adapter::Stepped;
 use driver_history::laws::{
-    law_answers_justified, law_healthy_calls_go_well, law_histories_are_runs,
-    law_moves_keep_to_their_places, law_reads_hold_if_disks_tell,
-    law_replugs_keep_flushed_if_disks_tell, law_services_answer_where_bits_are_clear,
+    law_answers_justified, law_device_moves_and_clears_are_confined,
+    law_healthy_calls_tell_no_fault_and_issue_due, law_histories_are_runs,
+    law_ok_reads_hold_expected_if_disks_tell, law_replugs_keep_flushed_if_disks_tell,
+    law_services_answer_where_bits_are_clear,
 };
-use host_boot::laws::law_what_was_taken_over_may_be_served;
+use host_boot::laws::law_taken_over_ports_are_as_their_state_says;
 
 /// Calls that add an event each to every history that leads to the server before them keep their promise: none at all,
 /// one, and calls after others. With them the history is a run of the block machine, in which each read that was
@@ -24,7 +25,7 @@ use host_boot::laws::law_what_was_taken_over_may_be_served;
 /// while it tells of no fault and no fatal error, and no disk of it goes or comes, each call issues exactly what is
 /// due, each service answers what has ended, with Ok, and nothing else, and the port stays as it is, unless a tick
 /// restarts it.
-pub fn law_runs_keep_their_promise<A: Stepped>()
+pub fn law_calls_that_extend_history_keep_promise<A: Stepped>()
     ensures no_calls { (s : ServerView A) → Simulates A.device s s [] [] }
     ensures one_call { (old new : ServerView A) (call : Call DeviceStep) (one : CallResult (ArrayVec Reply))
         → ExtendsHistory (server_of A.device old) (server_of A.device new) (abstract_call_of call)
@@ -36,11 +37,11 @@ pub fn law_runs_keep_their_promise<A: Stepped>()
         → Simulates A.device old new (calls ++ further) (said ++ more) }
 {
     law_services_answer_where_bits_are_clear();
-    law_healthy_calls_go_well();
+    law_healthy_calls_tell_no_fault_and_issue_due();
     law_answers_justified();
-    law_moves_keep_to_their_places();
+    law_device_moves_and_clears_are_confined();
     law_histories_are_runs();
-    law_reads_hold_if_disks_tell();
+    law_ok_reads_hold_expected_if_disks_tell();
     law_replugs_keep_flushed_if_disks_tell();
 }
 
@@ -53,7 +54,7 @@ pub fn law_new_server_ready_ports_run_well<A: Stepped>()
         → Undisturbed port.0 (A.device adapter) (A.device server.adapter)
         → RunsWell ((A.device server.adapter).port port.0) }
 {
-    law_what_was_taken_over_may_be_served();
+    law_taken_over_ports_are_as_their_state_says();
 }
 
 /// How many accesses the calls make at most, in numbers: by the 64 readings of a wait, 32 slots and four ports.

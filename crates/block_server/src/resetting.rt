@@ -12,9 +12,10 @@ use dma_frames::FrameTable;
 use host_boot::Host;
 use port_driver::{ServedPort, Shared, probed_mode};
 use server_history::laws::{
-    law_a_port_goes_on_after_its_errors, law_loans_end_in_turn, law_requests_preserve_invariant,
+    law_giving_back_loans_composes, law_handled_port_errors_keep_invariant,
+    law_requests_preserve_invariant,
 };
-use server_history::stuck_server::law_may_resolve_persists;
+use server_history::stuck_server::law_resolving_one_port_lets_others_resolve;
 
 /// Gives back the loans that are kept of all ports: their frames are lent to none.
 pub(crate) fn give_all_back(ports: &mut [ServedPort; PORTS], table: &mut FrameTable)
@@ -22,7 +23,7 @@ pub(crate) fn give_all_back(ports: &mut [ServedPort; PORTS], table: &mut FrameTa
     ensures ports { ports.new ≡ map without_kept_loans ports.old }
     ensures takes_kept_loans_back { GivesBackLoans table.old table.new (IsKeptIn (by_port (λ p. p.kept) ports.old)) }
 {
-    law_loans_end_in_turn();
+    law_giving_back_loans_composes();
     for number in 0..PORTS {
         ports[number].kept.give_back(table);
     }
@@ -68,7 +69,7 @@ pub(crate) fn resolve_ports(
     ensures found { by_port (λ p. p.probe_result) ports.new
         ≡ by_port (λ p. p.probe_result) ports.old }
 {
-    law_may_resolve_persists();
+    law_resolving_one_port_lets_others_resolve();
     for number in 0..PORTS {
         ports[number].resolve_after_reset(shared, Port(number as u8), replies);
     }
@@ -88,7 +89,7 @@ pub(crate) fn issue_due_on_ports<A: Adapter>(
         (with_ports s (A.device adapter.new) shared.new ports.new) }
     ensures cost { MakesAtMost (PORTS * ISSUE_DUE_ACCESSES) (A.access_count adapter.old) (A.access_count adapter.new) }
 {
-    law_a_port_goes_on_after_its_errors();
+    law_handled_port_errors_keep_invariant();
     law_requests_preserve_invariant();
     for number in 0..PORTS {
         ports[number].issue_where_ready(adapter, &mut shared.book, Port(number as u8));

@@ -2,7 +2,7 @@
 ghost use Rattle.std.specs.{Prelude.{◌≡◌, ◌<◌, ◌≤◌, ◌+◌, OnOk, IfErr, IsOk, IsSome, length, take, min, vec_len}, Vec.{vec_capacity}};
 ghost use Rattle.block_server.specs.CallResults.{results_in, with_replies};
 
-use crate::laws::law_runs_keep_their_promise;
+use crate::laws::law_calls_that_extend_history_keep_promise;
 use crate::{CallResults, RunStopped, Server};
 use adapter::{Adapter, DeviceStep, Stepped};
 use arrayvec::ArrayVec;
@@ -106,7 +106,7 @@ impl<A: Stepped> Server<A> {
         ensures cost { MakesAtMost (most_accesses_of_all calls.now)
             (A.access_count self.old.adapter) (A.access_count self.new.adapter) }
     {
-        law_runs_keep_their_promise::<A>();
+        law_calls_that_extend_history_keep_promise::<A>();
         for (at, call) in calls.iter().enumerate() {
             if out.reserve(1).is_err() {
                 return Err(RunStopped { at });

@@ -33,7 +33,7 @@ use server_history::laws::{
     law_new_server_starts_history, law_refusals_extend_history, law_requests_preserve_invariant,
     law_services_extend_history, law_ticks_extend_history,
 };
-use server_history::resets::{law_ended_resets_extend_history, law_reset_leads_to_settled};
+use server_history::resets::{law_ended_resets_extend_history, law_reset_leads_to_none_due};
 use server_history::stuck_server::{
     law_calls_that_end_stuck_extend_history, law_in_call_gives_server_invariant,
     law_quarantined_loans_are_lent, law_stuck_servers_admit_none,
@@ -445,7 +445,7 @@ impl<A: Adapter> Server<A> {
     {
         law_in_call_gives_server_invariant();
         law_quarantined_loans_are_lent();
-        law_reset_leads_to_settled();
+        law_reset_leads_to_none_due();
         law_ended_resets_extend_history();
         law_calls_that_end_stuck_extend_history();
         law_book_stays_well_formed();
@@ -487,7 +487,7 @@ impl<A: Adapter> Server<A> {
 }
 
 impl<A: Stepped> Server<A> {
-    ghost use Rattle.block_machine.specs.Events.{StepDevice as Told, Stepped};
+    ghost use Rattle.block_machine.specs.Events.{StepDevice, Stepped};
     ghost use Rattle.block_server.specs.{Calls.{StepsDevice}, ServerView.{server_of}};
     ghost use Rattle.server_history.specs.Histories.{ExtendsHistory};
     ghost use Rattle.adapter.specs.AccessBounds.{MakesAtMost};
@@ -496,7 +496,7 @@ impl<A: Stepped> Server<A> {
     pub fn device(&mut self, step: &DeviceStep) -> bool
         ensures steps { StepsDevice A.device self.old self.new step.now result }
         ensures extends_history { ExtendsHistory (server_of A.device self.old) (server_of A.device self.new)
-            (Told step.now)
+            (StepDevice step.now)
             (Stepped result) }
         ensures cost { MakesAtMost 0 (A.access_count self.old.adapter) (A.access_count self.new.adapter) }
     {

@@ -9,7 +9,7 @@ use Rattle.ata_types.specs.declared.limits.TheConstants.{MOST_REQUEST_FRAMES}
 use Rattle.hba_regs.specs.declared.reg.Reg.{Reg}
 use Rattle.adapter.specs.Access.{Access, Stores}
 use Rattle.adapter.specs.Access.Access.{Reading, Writing, Loading, Storing}
-use Rattle.adapter.specs.Commands.{IsValidMeaning, Meaning, command_of, piece_count, reads_memory}
+use Rattle.adapter.specs.Commands.{IsValidMeaning, Meaning, command_of, transfer_sector_count, reads_memory}
 use Rattle.adapter.specs.Decoding.{IsWholePieces, pieces}
 use Rattle.adapter.specs.Device.{Device}
 use Rattle.adapter.specs.Memory.{patched, bytes_at}
@@ -178,7 +178,7 @@ with_block laws port old mid new table block =
 
 -- the table of a command to which one block goes, from the port's scratch frame
 pub table_for_block : (m : Meaning) (command : Command) (prds : List Prd) (port frame : ℕ) → frame ≡ DRIVER_FRAMES_PER_PORT * port + SCRATCH_FRAME → IsValidMeaning m → command ≡ command_of m.operation 0 m.first m.count →
-    piece_count m.operation m.count ≡ 1 → All IsWholePieces prds → pieces prds ≡ places_of (record { 0 = frame } ∷ []) 1 → IsTableFor 0 command prds m (scratch_frame_address port ∷ [])
+    transfer_sector_count m.operation m.count ≡ 1 → All IsWholePieces prds → pieces prds ≡ places_of (record { 0 = frame } ∷ []) 1 → IsTableFor 0 command prds m (scratch_frame_address port ∷ [])
 table_for_block m command prds port frame same meaning fields one whole places = record {
   meaning = meaning;
   fields = fields;

@@ -6,7 +6,7 @@ use Rattle.byteorder.specs.Endian.{little_from}
 use Rattle.adapter.specs.Access.{Access, Stores}
 use Rattle.adapter.specs.Access.Access.{Storing}
 use Rattle.adapter.specs.Device.{Device}
-use Rattle.adapter.specs.Commands.{Meaning, IsValidMeaning, command_of, piece_count}
+use Rattle.adapter.specs.Commands.{Meaning, IsValidMeaning, command_of, transfer_sector_count}
 use Rattle.adapter.specs.Rules.{IsOn}
 use Rattle.adapter.specs.Decoding.{pieces, IsWholePieces}
 use Rattle.adapter.specs.Encoding.{AreZero, IsAllowedPrd, EncodesCommand, EncodesPrd}
@@ -47,7 +47,7 @@ pub record IsTableFor (slot : ℕ) (command : Command) (prds : List Prd) (m : Me
   pub fields : command ≡ command_of m.operation slot m.first m.count
   pub prds_are_whole_pieces : All IsWholePieces prds
   pub places_are : places ≡ pieces prds
-  pub place_count_is : length places ≡ piece_count m.operation m.count
+  pub place_count_is : length places ≡ transfer_sector_count m.operation m.count
 
 -- The bytes stand in the place of the slot's header, as many as it has; of them PRDBC, 4 to 7, is zero: nothing was
 -- moved for the command yet.

@@ -9,7 +9,7 @@ ghost use Rattle.command_table.specs.TableStores.{IsHeaderOrTableStore};
 /// The stores of a table touch no register; so what is said of accesses that touch none of another port
 /// (`SparesOtherPorts`) is so of them, whichever port that is.
 pub fn law_table_stores_touch_no_register()
-    ensures of_its_port { (port : Port) (slot : ℕ) (access : Access) → IsHeaderOrTableStore port.0 slot access
+    ensures spares_other_ports { (port : Port) (slot : ℕ) (access : Access) → IsHeaderOrTableStore port.0 slot access
         → SparesOtherPorts port access }
     ensures of_any_port { (port : Port) (at slot : ℕ) (access : Access) → IsHeaderOrTableStore at slot access
         → SparesOtherPorts port access }

@@ -7,7 +7,7 @@
 
 ghost use Rattle.std.specs.Prelude.{◌≡◌, ℕ, List, [], ◌∷◌, ◌+◌, ◌*◌, ◌/◌, ◌%◌, ◌^◌, ◌<◌, ◌≤◌, length, drop, All};
 ghost use Rattle.byteorder.specs.Endian.{little_from};
-ghost use Rattle.adapter.specs.{Decoding.{pieces, IsWholePieces}, Encoding.{AreZero, EncodesHeader, EncodesPrd, IsAllowedPrd}, Commands.{IsValidMeaning, Meaning, command_of, piece_count, reads_memory}, Memory.{bytes_at}, Rules.{IsInMemoryNotOwnedByDevice, IsOn, IsStable}, declared.command.Operation.{Operation}, declared.command.Prd.{Prd}, AccessBounds.{MakesAtMost}};
+ghost use Rattle.adapter.specs.{Decoding.{pieces, IsWholePieces}, Encoding.{AreZero, EncodesHeader, EncodesPrd, IsAllowedPrd}, Commands.{IsValidMeaning, Meaning, command_of, transfer_sector_count, reads_memory}, Memory.{bytes_at}, Rules.{IsInMemoryNotOwnedByDevice, IsOn, IsStable}, declared.command.Operation.{Operation}, declared.command.Prd.{Prd}, AccessBounds.{MakesAtMost}};
 ghost use Rattle.refinement.specs.{Fragments.{IsSimulated}, MemoryLayout.{command_list_address, scratch_frame_address}, Slots.{SlotDecodesTo}};
 ghost use Rattle.command_table.specs.{TableStores.{FitsTable, IsHeaderTableOrBlockStore, IsTable, IsTableFor, IsHeaderOrTableStore, IsSlotStateFree, MayWriteTable, StoresTable}, SectorPlaces.{places_of}, FrameRuns.{PrdsCoverFrames, FillFrames, IsLongestRunFromFirst}, BufferBytes.{StoresBytes}, Costs.{TABLE_WITH_BLOCK_ACCESSES, TABLE_ACCESSES}};
 
@@ -227,7 +227,7 @@ pub fn write_table_with_block<A: Adapter>(
         (A.device adapter.old)
         (A.device adapter.new) }
     ensures slot_decodes { (m : Meaning) → IsValidMeaning m → command.now ≡ command_of m.operation 0 m.first m.count
-        → piece_count m.operation m.count ≡ 1
+        → transfer_sector_count m.operation m.count ≡ 1
         → SlotDecodesTo (A.device adapter.new).memory (command_list_address port.0) port.0 0 m
         (scratch_frame_address port.0 ∷ []) }
     ensures block { bytes_at (A.device adapter.new).memory (scratch_frame_address port.0) 512 ≡ block.now }

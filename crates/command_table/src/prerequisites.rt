@@ -6,7 +6,7 @@ use refinement::access_kinds::law_fragment_prerequisites;
 use refinement::laws::{
     law_driver_stores_are_permitted, law_stored_commands_stay, law_tables_and_idle_scratch_are_kept,
 };
-use refinement::port_facts::law_adapter_stays;
+use refinement::port_facts::law_adapter_stays_the_same_and_switched_on;
 use std::marker::Brand;
 
 /// The laws that the proofs of this crate rest on.
@@ -14,7 +14,7 @@ pub fn law_prerequisites()
     ensures { Laws }
 {
     law_memory_reads_back();
-    law_adapter_stays();
+    law_adapter_stays_the_same_and_switched_on();
     law_driver_stores_are_permitted();
     law_tables_and_idle_scratch_are_kept();
     law_stored_commands_stay();

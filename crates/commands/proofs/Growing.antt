@@ -16,7 +16,7 @@ use Rattle.block_machine.specs.Histories.{IsReachable}
 use Rattle.block_machine.specs.Expected.{after}
 use Rattle.block_machine.specs.State.{Machine}
 use Rattle.refinement.specs.Acts.{Act, ActsReach, AreActsDone, DriverSlots, accesses_of, newest_first_steps_of_acts, driver_state_of_slots}
-use Rattle.refinement.specs.Fragments.{AllByDeviceAndPortsKeepSlotsIfKindWritesNoCiSact, SomeMachineAgreesWith}
+use Rattle.refinement.specs.Fragments.{AreByDeviceAndKeepUnwrittenSlots, SomeMachineAgreesWith}
 use Rattle.refinement.specs.Driver.{DriverAdvances, DriverRelation, DriverState, IsInMemoryOfFreeSlot, MissesTableAndHeaderButPrdbc}
 use Rattle.refinement.specs.PreservedParts.{SameAdapter}
 use Rattle.refinement.specs.ReadySlots.{IsStoredOnPortWithStSet, KeepsStoredCommand}
@@ -121,7 +121,7 @@ module _ (laws : Laws) (port : Port) (tasks : List PlacedTask) (t : PlacedTask) 
   s : DriverSlots
   s = record { slot_states = agreed.0; awaiting_disposition = agreed.2.parked }
 
-  x : ActsReach b.stores.is_driven.accesses (driver_state_of_slots s start) agreed.2.machine (driver_state_of_slots s mid) (AllByDeviceAndPortsKeepSlotsIfKindWritesNoCiSact (IsStoreForBatch port.0 tasks) agreed.0)
+  x : ActsReach b.stores.is_driven.accesses (driver_state_of_slots s start) agreed.2.machine (driver_state_of_slots s mid) (AreByDeviceAndKeepUnwrittenSlots (IsStoreForBatch port.0 tasks) agreed.0)
   unfolding s
   x = b.stores.acts_reach s agreed.2.machine agreed.2.reached agreed.2.driver_relation (fewer agreed.0 agreed.1)
 
@@ -162,7 +162,7 @@ module _ (laws : Laws) (port : Port) (tasks : List PlacedTask) (t : PlacedTask) 
         let its_small : y.slot < 32 = All-contains (λ z. z.slot < 32) tasks y b.slots_in_range is in
         let its_fit : IsFitTransfer y.task y.frames = All-contains (λ z. IsFitTransfer z.task z.frames) tasks y b.transfers_fit is in
         let places : List ℕ = piece_addresses_of port.0 y.task.op y.task.range.count y.frames in
-        let z : ActsReach w.stores.is_driven.accesses (driver_state_of_slots s mid) m (driver_state_of_slots s new) (AllByDeviceAndPortsKeepSlotsIfKindWritesNoCiSact (IsHeaderOrTableStore port.0 t.slot) s.slot_states) = w.stores.acts_reach s m m_reached goes.driver_relation (its agreed.0 agreed.1) in
+        let z : ActsReach w.stores.is_driven.accesses (driver_state_of_slots s mid) m (driver_state_of_slots s new) (AreByDeviceAndKeepUnwrittenSlots (IsHeaderOrTableStore port.0 t.slot) s.slot_states) = w.stores.acts_reach s m m_reached goes.driver_relation (its agreed.0 agreed.1) in
         let after_both : IsStoredOnPortWithStSet new port.0 y.slot (meaning_of y.task) places =
         laws.stays port y.slot (meaning_of y.task) places z.acts (driver_state_of_slots s mid) (driver_state_of_slots s new) m m_reached goes.driver_relation z.acts_are_done
         (subst (All (KeepsStoredCommand port y.slot)) (sym z.accesses_match_acts)

@@ -29,14 +29,14 @@ use Rattle.block_machine.specs.Steps.{Step, Issue, IsEnabled, after_step}
 use Rattle.block_machine.specs.declared.due.QueueMode.{QueueMode}
 use Rattle.refinement.specs.Acts.{Act, ActsReach, AreActsDone, DriverSlots, IsActDone, IsIssueStepOn, IsIssueStep, IsAtMostOneStepOrIssuesOfPort, accesses_of, newest_first_steps_of_acts, driver_state_of_slots}
 use Rattle.refinement.specs.Relation.{StateRelation, port_at}
-use Rattle.refinement.specs.Fragments.{IsSoleBit, AllByDeviceAndPortsKeepSlotsIfKindWritesNoCiSact, driver_state_of}
+use Rattle.refinement.specs.Fragments.{IsSoleBit, AreByDeviceAndKeepUnwrittenSlots, driver_state_of}
 use Rattle.refinement.specs.Driver.{IsBackedByDeviceAlone, DriverAdvances, DriverRelation, DriverState, EndsInSteps, IsRequestPreparedToIssue, KeepsTablesAndScratchUnlessOwn, MissesTableAndHeaderButPrdbc, with_slot_serving}
 use Rattle.refinement.specs.Simulation.{SimulatesSteps}
 use Rattle.refinement.specs.PreservedParts.{DoesNotWrite, ControlsChangeOnlyByTheirWrites, SameAdapter}
 use Rattle.refinement.specs.ReadySlots.{IsStoredAndArmedIffQueued, IsReadyToIssue, IsStoredOnPortWithStSet}
 use Rattle.refinement.specs.Slots.{SlotState, Free, Armed, Own, Serves, SlotStates, set_slot_state, MeansRequest, HasBlockIfTrim, IsArmedIfSt, HasListInPlace, RelatesSlot, SlotDecodesTo}
 use Rattle.refinement.specs.StartedPort.{WritesCmdOnlyWithStSet}
-use Rattle.commands.specs.Batches.{BatchSlotsAreUnused, HaveOwnSlots, IsBatchIssued, IsBatchAccess, IsSlotOf, IsStoreForBatch, IssuesBatchAtEnd, MayServeBatch, MemoryEncodesTask, PlacedTask, StoresThenWritesAll, issues_newest_first, with_serving_batch}
+use Rattle.commands.specs.Batches.{BatchSlotsAreUnused, HaveOwnSlots, IsBatchIssued, IsCommandIssueAccess, IsSlotOf, IsStoreForBatch, IssuesBatchAtEnd, MayServeBatch, MemoryEncodesTask, PlacedTask, StoresThenWritesAll, issues_newest_first, with_serving_batch}
 use Rattle.commands.specs.Issuing.{IsArmedFor}
 use Rattle.commands.specs.Tasks.{WritesSactIfQueued, BlockNamesSectors, IsFreeArmedOrServing, IsTaskOf, RunsItsList, piece_addresses_of, meaning_of, task_operation, issuing_writes}
 use Rattle.commands.proofs.Batch.{all_as, all_in, all_one, armed_here, armed_others, uses_armed, bits_begin, bits_more, bits_on, bits_written, changed_here, ci_bits, contains_here, contains_there, first_apart, own_bit, own_bit_is, rest_apart, sact_bits, served_armed, served_here, served_others, uses_served, serving_batch_is, with_bits, zip_as}
@@ -377,7 +377,7 @@ module _ (laws : Laws) (port : Port) where
         later : DriverState
         later = driver_state_of_slots (with_armed queued port tasks s) armed
 
-        x : ActsReach b.stores.is_driven.accesses (driver_state_of_slots s old) m (driver_state_of_slots s b.after_stores) (AllByDeviceAndPortsKeepSlotsIfKindWritesNoCiSact (IsStoreForBatch port.0 tasks) s.slot_states)
+        x : ActsReach b.stores.is_driven.accesses (driver_state_of_slots s old) m (driver_state_of_slots s b.after_stores) (AreByDeviceAndKeepUnwrittenSlots (IsStoreForBatch port.0 tasks) s.slot_states)
         x = b.stores.acts_reach s m reached knows free
 
         g : DriverAdvances (driver_state_of_slots s old) m (newest_first_steps_of_acts x.acts) (driver_state_of_slots s b.after_stores)
@@ -447,11 +447,11 @@ module _ (laws : Laws) (port : Port) where
       arming_does true arms = (armed, arms, refl)
       arming_does false arms = arms
 
-      arming_only : (kind : Bool) → All (IsBatchAccess port) (arming_of port kind own)
-      arming_only true = all_one (IsBatchAccess port) (Writing (Px port Sact) own) (inl refl)
-      arming_only false = All-nil (IsBatchAccess port)
+      arming_only : (kind : Bool) → All (IsCommandIssueAccess port) (arming_of port kind own)
+      arming_only true = all_one (IsCommandIssueAccess port) (Writing (Px port Sact) own) (inl refl)
+      arming_only false = All-nil (IsCommandIssueAccess port)
 
-      is_issuing : (access : Access) → IsStoreForBatch port.0 tasks access → IsBatchAccess port access
+      is_issuing : (access : Access) → IsStoreForBatch port.0 tasks access → IsCommandIssueAccess port access
       is_issuing (Storing at bytes) here = (here.0.slot, All-contains (λ x. x.slot < 32) tasks here.0 b.slots_in_range here.1, store_for here.0.task.op port.0 here.0.slot (Storing at bytes) here.2)
       is_issuing (Reading q v) here = absurd (stores_only (Reading q v) here)
       is_issuing (Writing q v) here = absurd (stores_only (Writing q v) here)
@@ -460,9 +460,9 @@ module _ (laws : Laws) (port : Port) where
       abbrev accesses : List Access
       accesses = (b.stores.is_driven.accesses ++ arming_of port queued own) ++ Writing (Px port Ci) own ∷ []
 
-      driven_only : All (IsBatchAccess port) accesses
+      driven_only : All (IsCommandIssueAccess port) accesses
       driven_only =
-          let P : Access → Type 0 = IsBatchAccess port in
+          let P : Access → Type 0 = IsCommandIssueAccess port in
           All-append P (b.stores.is_driven.accesses ++ arming_of port queued own) (Writing (Px port Ci) own ∷ [])
           (All-append P b.stores.is_driven.accesses (arming_of port queued own) (all_as (IsStoreForBatch port.0 tasks) P is_issuing b.stores.is_driven.accesses b.stores.is_driven.accesses_are_of_kind) (arming_only queued))
           (all_one P (Writing (Px port Ci) own) (inr refl))

@@ -22,7 +22,7 @@ use Rattle.refinement.specs.Fragments.{AnySlotStates, IsSimulated, SparesOtherPo
 use Rattle.refinement.specs.Driver.{EndsInSteps, DriverAdvances, TapeBacksSteps, DriverState, DriverRelation}
 use Rattle.refinement.specs.Slots.{Own, SlotState, client_operation_of}
 use Rattle.commands.specs.Masks.{ReadsDone, ReadsCiOrSact}
-use Rattle.commands.specs.Batches.{IsBatchAccess, IsSlotOf, IssuesBatch, IssuesBatchAtEnd, MayServeBatch, PlacedTask, issues_newest_first, with_serving_batch}
+use Rattle.commands.specs.Batches.{IsCommandIssueAccess, IsSlotOf, IssuesBatch, IssuesBatchAtEnd, MayServeBatch, PlacedTask, issues_newest_first, with_serving_batch}
 use Rattle.commands.specs.Tasks.{IsFreeArmedOrServing, IsTaskOf}
 use Rattle.commands.proofs.Batch.{all_as, slot_cases, zip_at}
 
@@ -34,7 +34,7 @@ reading_own port r place v e = subst (λ (w : Reg). SparesOtherPorts port (Readi
 writing_own : (port : Port) (r : PortReg) (place : Reg) (v : ℕ) → place ≡ Px port r → SparesOtherPorts port (Writing place v)
 writing_own port r place v e = subst (λ (w : Reg). SparesOtherPorts port (Writing w v)) (sym e) refl
 
-pub issuing_of : (port : Port) (access : Access) → IsBatchAccess port access → SparesOtherPorts port access
+pub issuing_of : (port : Port) (access : Access) → IsCommandIssueAccess port access → SparesOtherPorts port access
 issuing_of port (Writing r v) here = ⊎_elim (λ e. writing_own port _ r v e) (λ e. writing_own port _ r v e) here
 issuing_of port (Storing place bytes) here = tt
 issuing_of port (Reading r v) here = absurd here

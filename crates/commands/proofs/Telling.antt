@@ -12,7 +12,7 @@ use Rattle.ata_types.specs.declared.request.Op.TheVariants.{Read, Write, Trim, F
 use Rattle.ata_types.specs.declared.limits.TheConstants.{MOST_REQUEST_SECTORS}
 use Rattle.adapter.specs.Device.{Device}
 use Rattle.adapter.specs.Trim.{consecutive}
-use Rattle.adapter.specs.Commands.{command_of, is_queued, is_ranged, piece_count}
+use Rattle.adapter.specs.Commands.{command_of, is_queued, is_ranged, transfer_sector_count}
 use Rattle.adapter.specs.Decoding.{pieces, IsWholePieces}
 use Rattle.adapter.specs.declared.command.Command.{Command}
 use Rattle.adapter.specs.declared.command.Prd.{Prd}
@@ -43,8 +43,8 @@ kind_of = of_command (λ queued op. is_queued (task_operation queued op) ≡ que
 ranged : (queued : Bool) (op : Op) → IsTransfer op → is_ranged (task_operation queued op) ≡ true
 ranged = of_command (λ queued op. is_ranged (task_operation queued op) ≡ true) refl refl refl refl
 
-moves_all : (count : ℕ) (queued : Bool) (op : Op) → IsTransfer op → piece_count (task_operation queued op) count ≡ count
-moves_all count = of_command (λ queued op. piece_count (task_operation queued op) count ≡ count) refl refl refl refl
+moves_all : (count : ℕ) (queued : Bool) (op : Op) → IsTransfer op → transfer_sector_count (task_operation queued op) count ≡ count
+moves_all count = of_command (λ queued op. transfer_sector_count (task_operation queued op) count ≡ count) refl refl refl refl
 
 pub in_its_fis : (n : ℕ) (op : Op) → IsTransfer op → number_if_transfer op n ≡ n
 in_its_fis n = of_transfer (λ op. number_if_transfer op n ≡ n) refl refl

@@ -12,7 +12,8 @@ use Rattle.adapter.specs.ReadDone.{read_of}
 use Rattle.adapter.specs.Decoding.{DecodesTo, piece_addresses}
 use Rattle.block_machine.specs.Confinement.{WasAccepted}
 use Rattle.block_machine.specs.DueRequests.{is_plain}
-use Rattle.block_machine.specs.Expected.{IsLegal, IsInitial, after}
+use Rattle.block_machine.specs.Events.{AllEnabled}
+use Rattle.block_machine.specs.Expected.{IsInitial, after}
 use Rattle.block_machine.specs.Rules.{frame_count_for}
 use Rattle.block_machine.specs.State.{Accepted, Machine, Pending}
 use Rattle.block_machine.specs.Steps.{Issue, IsEnabled, Step}
@@ -35,7 +36,7 @@ frames_fit start (step ∷ past) r was = ⊎_elim
 -- given what the laws say of the first read, and of requests that are issued
 module _ (known : PreparedReadWitness) (one : (memory : ℕ → ℕ) (list slot : ℕ) (m n : Meaning) (xs ys : List ℕ) → DecodesTo memory list slot m xs → DecodesTo memory list slot n ys → (m ≡ n) × (xs ≡ ys))
     (says : DecodesTo first_read_device.memory 0 0 (read_of 100 8) (piece_addresses 0x64000 8))
-    (issued : (start : Machine) (history : List Step) (mode : QueueMode) (e : Pending) → IsInitial start → IsLegal start history → IsEnabled (after start history) (Issue mode e) → WasAccepted start history e.request) where
+    (issued : (start : Machine) (history : List Step) (mode : QueueMode) (e : Pending) → IsInitial start → AllEnabled start history → IsEnabled (after start history) (Issue mode e) → WasAccepted start history e.request) where
   prepared : IsRequestPreparedToIssue (idle_driver_state prepared_read).slot_states known.machine prepared_read 0 0 known.mode known.request 1
   prepared = known.prepared
 
@@ -62,7 +63,7 @@ module _ (known : PreparedReadWitness) (one : (memory : ℕ → ℕ) (list slot 
   number_is : length request.asked.frames.items ≡ (request.asked.count + 7) / 8
   number_is =
       frames_fit known.reached.initial_machine known.reached.steps_since request
-      (issued known.reached.initial_machine known.reached.steps_since known.mode known.request known.reached.is_initial known.reached.is_legal (subst (λ (m : Machine). IsEnabled m (Issue known.mode known.request)) known.reached.leads_to_machine prepared.issue_is_enabled))
+      (issued known.reached.initial_machine known.reached.steps_since known.mode known.request known.reached.is_initial known.reached.steps_since_are_enabled (subst (λ (m : Machine). IsEnabled m (Issue known.mode known.request)) known.reached.leads_to_machine prepared.issue_is_enabled))
       ∙ ap (λ (op : Op). frame_count_for op request.asked.count) read_is
 
   is_plain_read : is_plain known.mode request.asked.op ≡ true

@@ -92,11 +92,11 @@ pub record IsBatchStored (port : Port) (tasks : List PlacedTask) (old stored : D
 -- ---- it is issued
 
 -- it stores header or table of a slot of the port, or a block, or writes the port's PxSACT or PxCI
-abbrev pub IsBatchAccess : Port → Access → Type 0
-IsBatchAccess port (Writing r v) = (r ≡ Px port Sact) ⊎ (r ≡ Px port Ci)
-IsBatchAccess port (Storing at bytes) = (slot : ℕ) × (slot < 32)
+abbrev pub IsCommandIssueAccess : Port → Access → Type 0
+IsCommandIssueAccess port (Writing r v) = (r ≡ Px port Sact) ⊎ (r ≡ Px port Ci)
+IsCommandIssueAccess port (Storing at bytes) = (slot : ℕ) × (slot < 32)
     × IsHeaderTableOrBlockStore port.0 slot (Storing at bytes)
-IsBatchAccess port access = ⊥
+IsCommandIssueAccess port access = ⊥
 
 -- Stores of what the commands need come first, and then the writes of their slots' bits, all at once.
 pub record StoresThenWritesAll (port : Port) (queued : Bool) (tasks : List PlacedTask) (accesses : List Access) : Type 0
@@ -149,7 +149,7 @@ pub record IssuesBatch (port : Port) (tasks : List PlacedTask) (old new : Device
   pub all_are_of_kind : All (λ t. t.task.queued ≡ queued) tasks
   pub slots_in_range : All (λ t. t.slot < 32) tasks
   pub slots_are_apart : HaveOwnSlots tasks
-  pub driven : IsDrivenBy (IsBatchAccess port) old new
+  pub driven : IsDrivenBy (IsCommandIssueAccess port) old new
   pub stores_come_first : StoresThenWritesAll port queued tasks driven.accesses
   pub machine_follows : (mode : QueueMode) (es : List Pending)
       → AllZip (λ t e. IsTaskOf port t.slot t.task t.frames mode e) tasks es

@@ -15,7 +15,8 @@ use Rattle.block_machine.specs.Steps.{NoneKept}
 use Rattle.refinement.specs.Acts.{Act, DriverSlots, ActsReachWith, newest_first_steps_of_acts}
 use Rattle.refinement.specs.Fragments.{IsDrivenBy}
 use Rattle.refinement.specs.PortFacts.{EndedOnPort}
-use Rattle.refinement.specs.Slots.{Serves, IsOver}
+use Rattle.adapter.specs.OneCommand.{SlotHasNoCommand}
+use Rattle.refinement.specs.Slots.{Serves}
 
 -- it reads PxCI or PxSACT
 abbrev pub ReadsCiOrSact : Port → Access → Type 0
@@ -29,7 +30,7 @@ pub record FindsEnds (port : Port) (done : ℕ) (old new : Device) (s : DriverSl
   pub only_device_steps : AllByDevice (newest_first_steps_of_acts acts)
   pub slots_are_kept : All (λ act. act.state_after.slot_states ≡ s.slot_states) acts
   pub requests_have_ended : (old.port port.0).st ≡ true → (slot : ℕ) (id : RequestId) → slot < 32 → bit done slot ≡ true
-      → s.slot_states port.0 slot ≡ Serves id → IsOver (new.port port.0) slot
+      → s.slot_states port.0 slot ≡ Serves id → SlotHasNoCommand (new.port port.0) slot
       × EndedOnPort (after m (newest_first_steps_of_acts acts)) port id
   pub none_is_quarantined : NoneKept m port → NoneKept (after m (newest_first_steps_of_acts acts)) port
 

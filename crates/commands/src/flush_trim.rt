@@ -11,7 +11,7 @@ ghost use Rattle.command_table.specs.Costs.{TABLE_WITH_BLOCK_ACCESSES, TABLE_ACC
 ghost use Rattle.adapter.specs.declared.command.Operation.TheVariants as operation;
 
 use super::ncq::bit_of;
-use crate::laws::law_writing_issues;
+use crate::laws::law_ci_write_issues_armed_batch;
 use adapter::{Adapter, Command};
 use ata_types::{DATA_SET_MANAGEMENT, DRIVER_BYTES, FLUSH_CACHE_EXT, Port, Range, Slot};
 use command_table::{write_table, write_table_with_block};
@@ -102,7 +102,7 @@ pub fn issue_flush<A: Adapter>(adapter: &mut A, port: Port)
         → IsIssued port 0 (flush_task range) frames (A.device adapter.old) (A.device adapter.new) }
     ensures cost { MakesAtMost (TABLE_ACCESSES + 1) (A.access_count adapter.old) (A.access_count adapter.new) }
 {
-    law_writing_issues();
+    law_ci_write_issues_armed_batch();
     write_table(adapter, port, SLOT, &flush_command(), &[]);
     let own = bit_of(SLOT);
     adapter.write(Reg::Px(port, PortReg::Ci), own);
@@ -119,7 +119,7 @@ pub fn issue_trim<A: Adapter>(adapter: &mut A, port: Port, range: &Range)
     ensures cost { MakesAtMost (TABLE_WITH_BLOCK_ACCESSES + 1) (A.access_count adapter.old)
         (A.access_count adapter.new) }
 {
-    law_writing_issues();
+    law_ci_write_issues_armed_batch();
     write_table_with_block(adapter, port, &trim_command(), &trim_block(range));
     adapter.write(Reg::Px(port, PortReg::Ci), bit_of(SLOT));
 }

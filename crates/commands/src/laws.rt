@@ -5,36 +5,39 @@ ghost use Rattle.hba_regs.specs.{Bits.{bit}, declared.reg.Reg.TheVariants.{Px}, 
 ghost use Rattle.adapter.specs.{Access.{Access, Writes}, Device.{Device}, Rules.{HasPort, IsOn, MayWrite, IsStable}, declared.command.Operation.{Operation}};
 ghost use Rattle.block_machine.specs.{Histories.{IsReachable}, State.{Machine, Pending}, declared.due.QueueMode.{QueueMode}};
 ghost use Rattle.refinement.specs.{Acts.{DriverSlots, driver_state_of_slots}, Fragments.{AnySlotStates, IsSimulated, SomeMachineAgreesWith, SparesOtherPorts, GainsNoMove}, Driver.{EndsInSteps, DriverRelation}, Slots.{Own, client_operation_of}};
-ghost use Rattle.commands.specs.{Batches.{BatchSlotsAreUnused, HasExactlySlotBitsOf, IsBatchIssued, IsBatchStored, IsBatchAccess, IsSlotOf, IssuesBatch, MayServeBatch, PlacedTask, StoresTransfer, issues_newest_first, with_serving_batch}, Issuing.{IsArmedFor, MayIssueTransfer}, Masks.{ReadsDone, ReadsCiOrSact}, Tasks.{IsFitTransfer, IsTaskOf, RunsItsList}, Witness.{BatchIssueWitness, TransferIssueWitness}};
+ghost use Rattle.commands.specs.{Batches.{BatchSlotsAreUnused, HasExactlySlotBitsOf, IsBatchIssued, IsBatchStored, IsCommandIssueAccess, IsSlotOf, IssuesBatch, MayServeBatch, PlacedTask, StoresTransfer, issues_newest_first, with_serving_batch}, Issuing.{IsArmedFor, MayIssueTransfer}, Masks.{ReadsDone, ReadsCiOrSact}, Tasks.{IsFitTransfer, IsTaskOf, RunsItsList}, Witness.{BatchIssueWitness, TransferIssueWitness}};
 
-use adapter::laws::{law_a_first_read_exists, law_decoding_is_unique};
-use block_machine::laws::law_issues_keep_rules_but_frames;
+use adapter::laws::{law_an_adapter_with_one_read_exists, law_slot_decodes_to_at_most_one_command};
+use block_machine::laws::law_issued_was_accepted_and_granted_at_issue;
 use refinement::acts::{
     law_accesses_and_decisions_are_acts, law_acts_advance_driver, law_acts_compose,
 };
 use refinement::fragments::law_other_ports_are_untouched;
 use refinement::laws::{
-    law_a_prepared_read_agrees, law_advances_compose, law_device_and_faithful_step_lists_compose,
-    law_device_is_followed, law_device_steps_are_a_call_part, law_enabled_issues_stay,
-    law_setting_changes_one_slot, law_stored_commands_stay, law_tables_and_idle_scratch_are_kept,
-    law_two_reads_are_stored,
+    law_advances_compose, law_device_and_faithful_step_lists_compose,
+    law_device_steps_are_a_call_part, law_device_steps_are_simulated, law_enabled_issues_stay,
+    law_prepared_read_example_agrees, law_setting_changes_one_slot, law_stored_commands_stay,
+    law_tables_and_idle_scratch_are_kept, law_two_stored_reads_example_agrees,
 };
-use refinement::port_facts::{law_adapter_stays, law_controls_stay};
+use refinement::port_facts::{
+    law_adapter_stays_the_same_and_switched_on, law_port_controls_stay_until_written,
+};
 use refinement::readying::{
-    law_one_bit_arms_or_issues_slot, law_readied_may_be_issued, law_stored_stays,
-    law_stored_stays_over_acts,
+    law_one_bit_arms_or_issues_slot, law_readied_may_be_issued,
+    law_stored_command_stays_over_acts_sparing_it, law_stored_command_stays_while_st_set,
 };
 
-/// No call touches a register of another port, nor another port's bit of IS: so what is said of such accesses
-/// (`SparesOtherPorts`) is so of each.
-pub fn law_calls_are_of_one_port()
-    ensures issuing { (port : Port) (access : Access) → IsBatchAccess port access → SparesOtherPorts port access }
+/// No access that issues commands, or reads what is done, touches a register of another port, nor another port's bit of
+/// IS: so what is said of such accesses (`SparesOtherPorts`) is so of each.
+pub fn law_batch_and_mask_access_spares_other_ports()
+    ensures issuing { (port : Port) (access : Access) → IsCommandIssueAccess port access
+        → SparesOtherPorts port access }
     ensures finding { (port : Port) (access : Access) → ReadsCiOrSact port access → SparesOtherPorts port access }
 {}
 
 /// Once all is stored that the tasks' commands need, and their slots are armed, the slots' bits of PxCI may be written,
 /// and that issues the commands.
-pub fn law_writing_issues()
+pub fn law_ci_write_issues_armed_batch()
     ensures { (port : Port) (queued : Bool) (tasks : List PlacedTask) (own : ℕ) (old armed : Device)
         → IsArmedFor port queued tasks own old armed → IsStable (MayWrite (Px port Ci) own) armed
         × ((new : Device) → Writes (Px port Ci) own armed new → IsBatchIssued port tasks old new) }
@@ -42,10 +45,10 @@ pub fn law_writing_issues()
     law_accesses_and_decisions_are_acts();
     law_acts_compose();
     law_acts_advance_driver();
-    law_adapter_stays();
+    law_adapter_stays_the_same_and_switched_on();
     law_one_bit_arms_or_issues_slot();
-    law_controls_stay();
-    law_device_is_followed();
+    law_port_controls_stay_until_written();
+    law_device_steps_are_simulated();
     law_device_steps_are_a_call_part();
     law_enabled_issues_stay();
     law_tables_and_idle_scratch_are_kept();
@@ -54,13 +57,13 @@ pub fn law_writing_issues()
     law_other_ports_are_untouched();
     law_setting_changes_one_slot();
     law_readied_may_be_issued();
-    law_stored_stays();
+    law_stored_command_stays_while_st_set();
     law_stored_commands_stay();
 }
 
 /// A batch begins empty, on a port that runs. And a queued transfer more may be prepared in a slot of its own that was
 /// unused when the batch began, as all of its slots were; that makes it one of the batch.
-pub fn law_batches_grow()
+pub fn law_stored_task_extends_batch()
     ensures empty_batch { (port : Port) (d : Device) → IsOn d → HasPort d port.0 → DRIVER_BYTES ≤ d.memory_size
         → RunsItsList port.0 d → SomeMachineAgreesWith (BatchSlotsAreUnused port.0 []) d → IsBatchStored port [] d d }
     ensures one_more_task { (port : Port) (tasks : List PlacedTask) (t : PlacedTask) (start mid : Device)
@@ -78,11 +81,11 @@ pub fn law_batches_grow()
     law_other_ports_are_untouched();
     law_setting_changes_one_slot();
     law_stored_commands_stay();
-    law_stored_stays_over_acts();
+    law_stored_command_stays_over_acts_sparing_it();
 }
 
 /// So does its mask, of 32 bits: it begins with none, and has the bit of the task's slot more.
-pub fn law_batch_masks_grow()
+pub fn law_batch_mask_gains_task_slot_bit()
     ensures empty_mask { HasExactlySlotBitsOf [] 0 }
     ensures one_more_bit { (tasks : List PlacedTask) (t : PlacedTask) (mask later : ℕ) → mask < 2 ^ 32 → later < 2 ^ 32
         → HasExactlySlotBitsOf tasks mask → bit later t.slot ≡ true
@@ -112,25 +115,25 @@ pub fn law_batch_issues_come_last()
 }
 
 /// Where a mask was read for what is done, that is simulated, with each slot used as it was.
-pub fn law_mask_reading_is_simulated()
+pub fn law_ci_and_sact_reads_keep_machine_related()
     ensures { (port : Port) (mask done : ℕ) (old new : Device) → ReadsDone port mask done old new
         → IsSimulated (ReadsCiOrSact port) AnySlotStates old new }
 {}
 
 /// There is an adapter on which a plain transfer may be issued in slot 0, so that the clauses on issuing speak of
 /// something.
-pub fn law_a_transfer_may_be_issued()
+pub fn law_an_issuable_transfer_exists()
     ensures { TransferIssueWitness }
 {
-    law_a_prepared_read_agrees();
-    law_decoding_is_unique();
-    law_a_first_read_exists();
-    law_issues_keep_rules_but_frames();
+    law_prepared_read_example_agrees();
+    law_slot_decodes_to_at_most_one_command();
+    law_an_adapter_with_one_read_exists();
+    law_issued_was_accepted_and_granted_at_issue();
 }
 
 /// There is one on which a batch of two queued reads is stored and may be issued.
-pub fn law_a_batch_may_be_issued()
+pub fn law_an_issuable_batch_exists()
     ensures { BatchIssueWitness }
 {
-    law_two_reads_are_stored();
+    law_two_stored_reads_example_agrees();
 }

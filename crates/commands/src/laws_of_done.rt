@@ -10,23 +10,26 @@ use adapter::laws::law_step_lists_keep_what_steps_keep;
 use refinement::acts::law_accesses_and_decisions_are_acts;
 use refinement::laws::{
     law_advances_compose, law_book_only_advances_over_device_steps,
-    law_device_and_faithful_step_lists_compose, law_reading_is_followed,
+    law_device_and_faithful_step_lists_compose, law_register_reading_is_simulated,
 };
-use refinement::port_facts::{law_adapter_stays, law_controls_stay, law_ended_is_clear};
+use refinement::port_facts::{
+    law_adapter_stays_the_same_and_switched_on, law_port_controls_stay_until_written,
+    law_slot_is_clear_iff_ended_while_st_set,
+};
 
 /// PxCI and then PxSACT are read: they tell what is done.
-pub fn law_reading_finds_done()
+pub fn law_ci_then_sact_reads_find_done_slots()
     ensures { (port : Port) (mask done issued active : ℕ) (old mid new : Device) → IsOn old
         → Reads (Px port Ci) issued old mid → Reads (Px port Sact) active mid new → IsDoneMask mask issued active done
         → ReadsDone port mask done old new × FindsEachClearSlot port mask done old }
 {
     law_accesses_and_decisions_are_acts();
-    law_adapter_stays();
-    law_controls_stay();
-    law_ended_is_clear();
+    law_adapter_stays_the_same_and_switched_on();
+    law_port_controls_stay_until_written();
+    law_slot_is_clear_iff_ended_while_st_set();
     law_advances_compose();
     law_device_and_faithful_step_lists_compose();
-    law_reading_is_followed();
+    law_register_reading_is_simulated();
     law_step_lists_keep_what_steps_keep();
     law_book_only_advances_over_device_steps();
 }

@@ -13,8 +13,8 @@ ghost use Rattle.hba_regs.specs.{declared.reg.PortReg.TheVariants.{Ci, Sact}, de
 ghost use Rattle.commands.specs.{Batches.{HasExactlySlotBitsOf, IsBatchIssued, IsBatchStored, PlacedTask, StoresTransfer}, Issuing.{IsIssued, MayIssueTask, MayIssueTransfer}, Masks.{IsDoneMask, ReadsDone, FindsEachClearSlot}, Tasks.{WritesSactIfQueued, IsFitTransfer, IsTransfer, task_operation}, Costs.{BATCH_WRITE_ACCESSES, DONE_ACCESSES, ISSUE_ACCESSES}};
 ghost use Rattle.command_table.specs.Costs.{TABLE_ACCESSES};
 
-use crate::laws::law_writing_issues;
-use crate::laws_of_done::law_reading_finds_done;
+use crate::laws::law_ci_write_issues_armed_batch;
+use crate::laws_of_done::law_ci_then_sact_reads_find_done_slots;
 use adapter::{Adapter, Command};
 use ata_types::{
     DRIVER_BYTES, Frame, MOST_REQUEST_FRAMES, MOST_REQUEST_SECTORS, Op, Port, READ_DMA_EXT,
@@ -24,7 +24,7 @@ use command_table::{prds_in, write_table};
 use hba_regs::{PortReg, Reg, with_bit};
 use refinement::fragments::law_other_ports_are_untouched;
 use refinement::laws::law_writes_but_ci_stay_permitted;
-use refinement::port_facts::law_adapter_stays;
+use refinement::port_facts::law_adapter_stays_the_same_and_switched_on;
 
 /// Where a queued command has its tag, which is its slot: bits 7:3 of the count field (ACS-3).
 const TAG_FACTOR: u16 = 8;
@@ -158,7 +158,7 @@ pub fn issue<A: Adapter>(adapter: &mut A, port: Port, slot: Slot, transfer: &Tas
     store_transfer(adapter, port, slot, transfer, frames);
     let own = bit_of(slot);
     arm(adapter, port, own, transfer.queued);
-    law_writing_issues();
+    law_ci_write_issues_armed_batch();
     adapter.write(Reg::Px(port, PortReg::Ci), own);
 }
 
@@ -175,7 +175,7 @@ pub fn issue_all<A: Adapter>(adapter: &mut A, port: Port, mask: u32)
     law_other_ports_are_untouched();
     law_writes_but_ci_stay_permitted();
     adapter.write(Reg::Px(port, PortReg::Sact), mask);
-    law_writing_issues();
+    law_ci_write_issues_armed_batch();
     adapter.write(Reg::Px(port, PortReg::Ci), mask);
 }
 
@@ -197,8 +197,8 @@ pub fn done<A: Adapter>(adapter: &mut A, port: Port, mask: u32) -> u32
     ensures finds_each_that_was_clear { FindsEachClearSlot port mask result (A.device adapter.old) }
     ensures cost { MakesAtMost DONE_ACCESSES (A.access_count adapter.old) (A.access_count adapter.new) }
 {
-    law_adapter_stays();
-    law_reading_finds_done();
+    law_adapter_stays_the_same_and_switched_on();
+    law_ci_then_sact_reads_find_done_slots();
     let issued = adapter.read(Reg::Px(port, PortReg::Ci));
     let active = adapter.read(Reg::Px(port, PortReg::Sact));
     clear_in_both(mask, issued, active)

@@ -94,12 +94,15 @@ module _ (c : Config) (sound : LacksEveryFault c) where
       let disk = are g.port (omega (arith, is.port)) in
       let named = disk.2.configured_port_wants_disk port.0 port.1 port.2 (ap (λ p. p.number) port.3 ∙ port.4) in
       record {
-        client = (is.client_is_positive, is.client_is_a_clients);
-        number = is.number;
-        port = is.port;
+        row_is_valid =
+            record {
+              client_is_valid = (is.client_is_positive, is.client_is_a_clients);
+              number_is_at_most_63 = is.number;
+              port_is_at_most_3 = is.port;
+              count_is_positive = is.has_a_sector;
+              sectors_are_below_2_48 = is.sectors_end_by_2_48;
+            };
         disk_is_wanted = (disk.0, disk.1, λ nothing. some_disk _ (sym named ∙ nothing));
-        count_is_positive = is.has_a_sector;
-        sectors_end_by_2_48 = is.sectors_end_by_2_48;
       }
 
   names : AllPairs DifferInName (map row_of c.grant.items)

@@ -1,9 +1,10 @@
 -- Which plans a server can serve, and which one a configuration stands for (this project's own).
-use Rattle.std.specs.Prelude.{ℕ, ◌≡◌, ◌≢◌, ◌+◌, ◌^◌, ◌≤◌, List, Some, All, AllPairs, length, map, slice_get}
+use Rattle.std.specs.Prelude.{ℕ, ◌≡◌, ◌≢◌, ◌+◌, ◌≤◌, List, Some, All, AllPairs, length, map, slice_get}
 use Rattle.ata_types.specs.declared.grant.GrantRow.{GrantRow}
 use Rattle.ata_types.specs.declared.limits.TheConstants.{CLIENTS, MOST_GRANTS}
 use Rattle.ata_types.specs.declared.memory.TheConstants.{DRIVER_FRAMES, FEWEST_FRAMES, MOST_FRAMES}
 use Rattle.ata_types.specs.declared.request.ClientId.{ClientId}
+use Rattle.block_machine.specs.Expected.{IsValidRow}
 use Rattle.block_machine.specs.Rules.{DifferInName}
 use Rattle.configuration.specs.declared.Config.{Config}
 use Rattle.dma_frames.specs.FrameTables.{FrameExtent, ExtentsApart}
@@ -44,15 +45,11 @@ pub record AreClientExtents (frames : ℕ) (runs : List FrameExtent) : Type 0 wh
   pub frames_are_clients_frames : All (HasClientFrames frames) runs
   pub extents_share_no_frame : AllPairs ExtentsApart runs
 
--- A grant that a server can serve where these disks are wanted: of a client 1 to 8, under a number of 63 or less, on
--- one of the ports 0 to 3 in which a disk is wanted, of one sector at least, all of them below 2^48.
+-- A grant that a server can serve where these disks are wanted: its client, number, port and sectors are in range, and
+-- a disk is wanted in its port.
 pub record IsServableGrant (wanted : List Wanted) (row : GrantRow) : Type 0 where
-  pub client : IsClientNumber row.client
-  pub number : row.number ≤ 63
-  pub port : row.port.0 ≤ 3
+  pub row_is_valid : IsValidRow row
   pub disk_is_wanted : (w : Wanted) × (slice_get wanted row.port.0 ≡ Some w) × (w ≢ Nothing)
-  pub count_is_positive : 1 ≤ row.count
-  pub sectors_end_by_2_48 : row.first.0 + row.count ≤ 2 ^ 48
 
 -- A server can serve the plan: at most 64 grants, no two of one client under one number.
 pub record IsServablePlan (p : PlanView) : Type 0 where

@@ -4,7 +4,7 @@ ghost use Rattle.std.specs.Prelude.{◌≡◌, ℕ, List};
 ghost use Rattle.configuration.specs.{Document.{TextReadsAsValidConfig, IsLeastTextFault}, declared.Config.{Config}, declared.FaultKind.{FaultKind}};
 
 /// A text has one least kind of fault at most.
-pub fn law_fault_kind_is_unique()
+pub fn law_least_fault_kind_is_unique()
     ensures { (text : List ℕ) (one other : FaultKind) → IsLeastTextFault text one → IsLeastTextFault text other
         → one ≡ other }
 {}

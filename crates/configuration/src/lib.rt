@@ -16,7 +16,7 @@ mod rules;
 mod schema;
 mod table;
 
-pub use laws::{law_fault_kind_is_unique, law_read_text_has_no_fault};
+pub use laws::{law_least_fault_kind_is_unique, law_read_text_has_no_fault};
 pub use plan::Plan;
 pub use schema::{Key, ValueType};
 use thiserror::Error;

@@ -2,7 +2,7 @@
 use Rattle.std.proofs.Common.{ℕ, Bool, zero, suc, ◌≡◌, ◌<◌, ◌≤◌, ◌+◌, ◌-◌, ◌*◌, ◌/◌, List, [], ◌∷◌, ◌++◌, length, take, drop, All, slice_index, slice_index_or, refl, sym, ◌∙◌, ap, arith, subst, append_assoc, length-append}
 use Rattle.std.proofs.lemmas.List.{drop_all, get_or_append_left, get_or-append_right}
 use Rattle.adapter.specs.Memory.{bytes_at}
-use Rattle.adapter.specs.Commands.{IsValidMeaning, Meaning, command_of, reads_memory, piece_count}
+use Rattle.adapter.specs.Commands.{IsValidMeaning, Meaning, command_of, reads_memory, transfer_sector_count}
 use Rattle.adapter.specs.Encoding.{EncodesPrd, EncodesHeader, EncodesCommand}
 use Rattle.adapter.specs.Decoding.{HasPrds, IsWholePieces, DecodesTo, pieces, piece_addresses}
 use Rattle.adapter.specs.declared.command.Operation.{Operation}
@@ -138,5 +138,5 @@ module _ (k : Operation) (memory : ℕ → ℕ) (list slot : ℕ) (m : Meaning) 
   pub said_meaning : IsValidMeaning (record { operation = k; first = m.first; count = m.count })
   said_meaning = subst (λ (o : Operation). IsValidMeaning (record { operation = o; first = m.first; count = m.count })) is s.meaning
 
-  pub said_count : length (pieces s.prds) ≡ piece_count k m.count
-  said_count = ap length (sym s.places_are) ∙ (s.place_count_is ∙ ap (λ (o : Operation). piece_count o m.count) is)
+  pub said_count : length (pieces s.prds) ≡ transfer_sector_count k m.count
+  said_count = ap length (sym s.places_are) ∙ (s.place_count_is ∙ ap (λ (o : Operation). transfer_sector_count o m.count) is)

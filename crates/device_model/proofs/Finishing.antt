@@ -5,7 +5,7 @@ use Rattle.adapter.specs.AskedSteps.{DoesClear, DoesFetch, DoesMove, DoesDone, D
 use Rattle.adapter.specs.Commands.{Meaning, is_queued, is_ranged}
 use Rattle.adapter.specs.Device.{Disk, FetchedCommand, Halt, DevicePort, Device}
 use Rattle.adapter.specs.Memory.{changed}
-use Rattle.adapter.specs.OneCommand.{IsFreeSlot}
+use Rattle.adapter.specs.OneCommand.{SlotHasNoCommand}
 use Rattle.adapter.specs.Decoding.{pieces}
 use Rattle.adapter.specs.Steps.{Can, IsWorking, WorksOn, admits, newly_fetched, MayBring, next_place, next_sector, port_after_fetch, port_after_move, port_after_clear, port_after_done_except_lasting, port_with_lasting_after_operation, block_after}
 use Rattle.adapter.specs.Steps.DeviceTransition.{Fetch, Move, Done}
@@ -232,7 +232,7 @@ module _ (port slot : ℕ) where
 
   -- a plain one is issued no more
   pub done_frees : (old new : Device) (going : IsInProgress old port slot 0 0) → is_queued going.fetched_command.meaning.operation ≡ false → EndsAndPosts (SendsEnd slot) port slot old new →
-      IsFreeSlot (new.port port) slot
+      SlotHasNoCommand (new.port port) slot
   done_frees old new going plain e =
       let f : DoesDone port slot old e.after_end = e.done in
       let p : DevicePort = old.port port in
@@ -241,7 +241,7 @@ module _ (port slot : ℕ) where
       let issued : state.ci ≡ changed p.ci slot false =
       ap (λ b. if b then p.ci else changed p.ci slot false) (ap (λ (x : FetchedCommand). is_queued x.meaning.operation) same ∙ plain) in
       record {
-        ci_is_clear = ap (λ (x : DevicePort). x.ci slot) (done_port old new e) ∙ (ap (λ (f : ℕ → Bool). f slot) issued ∙ changed_same p.ci slot false);
+        is_not_issued = ap (λ (x : DevicePort). x.ci slot) (done_port old new e) ∙ (ap (λ (f : ℕ → Bool). f slot) issued ∙ changed_same p.ci slot false);
         is_not_taken = done_gone old new e;
       }
 

@@ -7,7 +7,7 @@ use Rattle.adapter.specs.AskedSteps.{DoesFetch, DoesSlotStep, DoesExactlySlotSte
 use Rattle.adapter.specs.Commands.{Meaning, is_queued, is_ranged, sends_page}
 use Rattle.adapter.specs.Device.{Notes, DevicePort, Device, FetchedCommand}
 use Rattle.adapter.specs.Memory.{changed}
-use Rattle.adapter.specs.OneCommand.{IsFreeSlot}
+use Rattle.adapter.specs.OneCommand.{SlotHasNoCommand}
 use Rattle.adapter.specs.Decoding.{DecodesTo}
 use Rattle.adapter.specs.Steps.{Can, IsFetchable, IsWorking, IsUnmixed, WorksOn, newly_fetched, port_after_clear, port_after_done_except_lasting, port_with_lasting_after_operation, port_after_fetch, port_after_move}
 use Rattle.adapter.specs.Steps.DeviceTransition.{Fetch}
@@ -374,13 +374,13 @@ some_elsewhere zero port slot old new e k ne = ap (λ (d : Device). weight d por
 some_elsewhere (suc n) port slot old new s k ne = one_elsewhere port slot s.0 new s.2 k ne ∙ some_elsewhere n port slot old s.0 s.1 k ne
 
 -- one that was done is neither issued nor taken
-pub fewer_left : (port slot : ℕ) (old new : Device) → slot < 32 → HasFinishablePageCommand old port slot → DoesAtLeastOneSlotStep (SendsEnd slot) port slot old new → IsFreeSlot (new.port port) slot →
+pub fewer_left : (port slot : ℕ) (old new : Device) → slot < 32 → HasFinishablePageCommand old port slot → DoesAtLeastOneSlotStep (SendsEnd slot) port slot old new → SlotHasNoCommand (new.port port) slot →
     total (weight new port) 32 < total (weight old port) 32
 fewer_left port slot old new small has went free =
     total_less (weight new port) (weight old port) slot 32 small (some_elsewhere (suc went.0) port slot old new went.1) (less has.may_finish.is_begun_or_fetchable)
   where
     none : weight new port slot ≡ 0
-    none = λ i. (if free.ci_is_clear i then 1 else 0) + (if is_some (free.is_not_taken i) then 1 else 0)
+    none = λ i. (if free.is_not_issued i then 1 else 0) + (if is_some (free.is_not_taken i) then 1 else 0)
 
     less : WorksOn (old.port port) slot has.may_finish.fetched_command has.may_finish.fetched_command.meaning.operation
         ⊎ (Can (Fetch port slot has.may_finish.fetched_command.meaning has.may_finish.fetched_command.places) old × (has.may_finish.fetched_command ≡ newly_fetched has.may_finish.fetched_command.meaning has.may_finish.fetched_command.places)) →

@@ -5,7 +5,7 @@ use Rattle.std.proofs.lemmas.List.{length-set}
 use Rattle.std.proofs.lemmas.Bool.Decides.{eqb_tells}
 use Rattle.adapter.specs.AskedSteps.{DoesAtLeastOneSlotStep}
 use Rattle.adapter.specs.Device.{Device, DevicePort}
-use Rattle.adapter.specs.OneCommand.{IsFreeSlot}
+use Rattle.adapter.specs.OneCommand.{SlotHasNoCommand}
 use Rattle.adapter.specs.declared.access.DeviceStep.TheVariants as asked
 use Rattle.ata_types.specs.declared.Port.{Port}
 use Rattle.ata_types.specs.declared.Slot.{Slot}
@@ -17,7 +17,7 @@ use Rattle.device_model.specs.HeldPorts.{IsPortHeld, IsPortReleased}
 use Rattle.device_model.specs.ModelState.{device_at}
 use Rattle.device_model.specs.PageTaking.{TakesPageCommandUnlessOneIsTaken}
 use Rattle.device_model.specs.SentFises.{SendsEnd}
-use Rattle.device_model.specs.ModelOwnSteps.{IsSettled, LeadsBySteps, LeavesPageWithoutMemory, PageCommandWaitsOnlyIfHeldOrStarved, SendsPages}
+use Rattle.device_model.specs.ModelOwnSteps.{IsSettled, LeadsBySteps, LeavesPageWithoutTapeRoom, PageCommandWaitsOnlyIfHeldOrStarved, SendsPages}
 use Rattle.device_model.specs.WholeAdapter.{HasDisks}
 use Rattle.device_model.specs.declared.disks.DiskIndex.{DiskIndex}
 use Rattle.device_model.specs.declared.model.Model.{Model}
@@ -168,7 +168,7 @@ module _ {S : Type 0} (size : S → ℕ) (told : S → Option (ℕ → List ℕ)
           }
 
       -- fewer are left then, of the ports that aren't left out
-      pub fewer : answer ≡ true → IsFreeSlot ((device_at size told new).port p.0) s.0 →
+      pub fewer : answer ≡ true → SlotHasNoCommand ((device_at size told new).port p.0) s.0 →
           (total (weight (device_at size told new) p.0) 32 < total (weight old_device p.0) 32)
           × ((q : ℕ) → q ≢ p.0 → total (weight (device_at size told new) q) 32 ≡ total (weight old_device q) 32)
       fewer done free =
@@ -273,10 +273,10 @@ module _ {S : Type 0} (size : S → ℕ) (told : S → Option (ℕ → List ℕ)
           ];
     }
 
-    pub lacking_told : m.hardware.starved ≡ true → (first.hardware.starved ≡ true) ⊎ LeavesPageWithoutMemory m.hardware (device_at size told m)
+    pub lacking_told : m.hardware.starved ≡ true → (first.hardware.starved ≡ true) ⊎ LeavesPageWithoutTapeRoom m.hardware (device_at size told m)
     lacking_told starved = by lacks refl
       where
-        by : (b : Bool) → lacks ≡ b → (first.hardware.starved ≡ true) ⊎ LeavesPageWithoutMemory m.hardware (device_at size told m)
+        by : (b : Bool) → lacks ≡ b → (first.hardware.starved ≡ true) ⊎ LeavesPageWithoutTapeRoom m.hardware (device_at size told m)
         by false e = inl (sym (is.fed e) ∙ starved)
         by true e = let one = (is.lacking e).1 in inr (one.port, one.slot, one.small, one.low, one.disks, one.has, one.lacks)
 

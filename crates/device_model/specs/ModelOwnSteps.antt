@@ -104,8 +104,8 @@ pub record PageCommandWaitsOnlyIfHeldOrStarved (held : List Bool) (starved : Boo
       ⊎ (starved ≡ true)
 
 -- one is left, for which the tape has no memory: each of its moves, and its end, would be noted there
-abbrev pub LeavesPageWithoutMemory : Hardware → Device → Type 0
-LeavesPageWithoutMemory h d = (port slot : ℕ) × (port < 4) × (slot < 32) × HasDisks d port
+abbrev pub LeavesPageWithoutTapeRoom : Hardware → Device → Type 0
+LeavesPageWithoutTapeRoom h d = (port slot : ℕ) × (port < 4) × (slot < 32) × HasDisks d port
     × (has : HasFinishablePageCommand d port slot)
     × (TapeHasRoom h (has.moves_left + 1) → ⊥)
 

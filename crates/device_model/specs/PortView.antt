@@ -1,6 +1,7 @@
 -- The state that a model stands for.
 use Rattle.std.specs.Prelude.{ℕ, Bool, false, ◌%◌, List, [], Option, None, option_map, unwrap_or, slice_index_or, if◌then◌else◌}
 use Rattle.adapter.specs.AskedSteps.{bsy_mask}
+use Rattle.adapter.specs.Commands.{is_queued, sends_page}
 use Rattle.adapter.specs.Device.{Disk, FetchedCommand, Bases, Halt, Notes, DevicePort}
 use Rattle.adapter.specs.Device.Halt.{NotHalted, HaltedPlain, HaltedQueued, LogOnly}
 use Rattle.adapter.specs.Decoding.{pieces}
@@ -51,11 +52,7 @@ notes_of r =
 -- the cause in PxIS that its end sets: PSS where its data go by PIO, SDBS where it was queued, and else DHRS (AHCI
 -- 1.3.1, 3.3.5)
 abbrev pub cause_of : Operation → ℕ
-cause_of operation.Identify = 1
-cause_of operation.ReadLog = 1
-cause_of operation.ReadQueued = 3
-cause_of operation.WriteQueued = 3
-cause_of _ = 0
+cause_of operation = if sends_page operation then 1 else (if is_queued operation then 3 else 0)
 
 -- which of BSY and DRQ a command that failed has left set: BSY, where its disk is left busy
 abbrev pub bsy_if_disk_left_busy : Bool → ℕ

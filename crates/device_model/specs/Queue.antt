@@ -9,7 +9,7 @@ use Rattle.sector_store.specs.declared.store.Failures.{Failures}
 use Rattle.device_model.specs.Disks.{numbered_disk, page_source_of, disk_index_of}
 use Rattle.device_model.specs.StepEffects.{AnswersStep, StepKeeps}
 use Rattle.device_model.specs.DiskPages.{GainsOwnPages}
-use Rattle.device_model.specs.ModelOwnSteps.{DoesSpontaneousSteps, EndsPendingResetUnlessAllHeld, LeavesPageWithoutMemory}
+use Rattle.device_model.specs.ModelOwnSteps.{DoesSpontaneousSteps, EndsPendingResetUnlessAllHeld, LeavesPageWithoutTapeRoom}
 use Rattle.device_model.specs.ModelState.{device_at}
 use Rattle.device_model.specs.declared.disks.DiskIndex.{DiskIndex}
 use Rattle.device_model.specs.declared.model.Model.{Model}
@@ -76,5 +76,5 @@ pub record DoesRead {S : Type 0} (size : S → ℕ) (told : S → Option (ℕ �
   pub step_keeps : StepKeeps size after_begin new
   pub stays_starved : after_begin.hardware.starved ≡ true → new.hardware.starved ≡ true
   pub starves_for_want : new.hardware.starved ≡ true → (after_begin.hardware.starved ≡ true)
-      ⊎ LeavesPageWithoutMemory new.hardware
+      ⊎ LeavesPageWithoutTapeRoom new.hardware
       after_own_steps

@@ -116,11 +116,11 @@ MayAskStore step d = ⊥
 
 -- Each place of the memory has an address of 32 bits, for a step to which that matters: a Move, or a Finish of a
 -- command that is taken already.
-abbrev pub IsMemoryAddressableForStep : DeviceStep → Device → Type 0
-IsMemoryAddressableForStep (asked.Move p s) d = d.memory_size ≤ 2 ^ 32
-IsMemoryAddressableForStep (asked.Finish p s) d = (t : FetchedCommand) → (d.port p.0).taken s.0 ≡ Some t
+abbrev pub MemoryIs4GibAtMostForStep : DeviceStep → Device → Type 0
+MemoryIs4GibAtMostForStep (asked.Move p s) d = d.memory_size ≤ 2 ^ 32
+MemoryIs4GibAtMostForStep (asked.Finish p s) d = (t : FetchedCommand) → (d.port p.0).taken s.0 ≡ Some t
     → d.memory_size ≤ 2 ^ 32
-IsMemoryAddressableForStep step d = Unit {0}
+MemoryIs4GibAtMostForStep step d = Unit {0}
 
 -- ---- what a step makes of a model
 
@@ -371,7 +371,7 @@ pub record IsLeftOut {S : Type 0} (size : S → ℕ) (told : S → Option (ℕ �
   pub other_bays_are_kept : (port : ℕ) → port ≢ asked_port s → bay_of new port ≡ bay_of old port
   pub disks_are_kept : (which : DiskIndex) → numbered_disk new (asked_port s) which
       ≡ numbered_disk old (asked_port s) which
-  pub possible_step_lacks_memory : IsMemoryAddressableForStep s (device_at size told old)
+  pub possible_step_lacks_memory : MemoryIs4GibAtMostForStep s (device_at size told old)
       → IsPossible s (device_at size told old) →
       LacksMemory s (device_at size told old) old.hardware old.bays.items × (new.hardware.starved ≡ true)
   pub step_keeps : StepKeeps size old new

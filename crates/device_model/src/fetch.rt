@@ -402,7 +402,7 @@ fn decode_command(
     {
         return false;
     }
-    if count_pieces(command.prds.as_slice()) != operation.pieces(sectors.count) {
+    if count_pieces(command.prds.as_slice()) != operation.transfer_sector_count(sectors.count) {
         return false;
     }
     command.operation = operation;

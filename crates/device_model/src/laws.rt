@@ -52,7 +52,7 @@ pub fn law_disk_out_stays_out_unless_put_in<S: SectorStore>()
 {}
 
 /// What a model does by itself leaves a held port as it is.
-pub fn law_own_steps_leave_held_ports()
+pub fn law_spontaneous_steps_spare_held_ports()
     ensures { (held : List Bool) (old new : Device) (port : ℕ) → IsPortHeld held port
         → DoesSpontaneousSteps held old new
         → new.port port ≡ old.port port }

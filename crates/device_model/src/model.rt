@@ -1,10 +1,10 @@
 // The model as an adapter.
 ghost use Rattle.std.specs.{Prelude.{◌≡◌, ◌≢◌, ◌↔◌, ◌<◌, ◌≤◌, ◌+◌, ◌-◌, ◌*◌, ◌^◌, ◌⊎◌, ◌++◌, ◌∷◌, [], ℕ, Bool, List, true, false, is_some, None, Some, ◌&&◌, min, max, map, length, slice_index, slice_index_or, slice_set, IsTrue, IfSome, IfOk, OnOk, OnErr}, Vec.{vec_len, vec_capacity}};
-ghost use Rattle.adapter.specs.{Commands.{is_ranged, reads_memory, sends_page}, Device.{Disk, IsValidSector, FetchedCommand}, Access.{Reads, Writes, Loads, Stores, Shows, device_after_write}, Memory.{bytes_at, patched}, Rules.{MayRead, MayWrite, IsInMemoryNotOwnedByDevice, IsStable}, Steps.{Steps, disk_after, disk_cleared, next_place}, AskedSteps.{DoesOrFailsStep}, OneCommand.{IsFreeSlot}};
+ghost use Rattle.adapter.specs.{Commands.{is_ranged, reads_memory, sends_page}, Device.{Disk, IsValidSector, FetchedCommand}, Access.{Reads, Writes, Loads, Stores, Shows, device_after_write}, Memory.{bytes_at, patched}, Rules.{MayRead, MayWrite, IsInMemoryNotOwnedByDevice, IsStable}, Steps.{Steps, disk_after, disk_cleared, next_place}, AskedSteps.{DoesOrFailsStep}, OneCommand.{SlotHasNoCommand}};
 ghost use Rattle.sector_store.specs.Stores.{HasOneMoreFailure};
 ghost use Rattle.device_model.specs.{FetchedBytes.{bytes_of}, Disks.{OnlyEndsCommand, ModelHasRoomForOldSectors, OnlyChangesPageSource, numbered_disk, disks_given_for, port_0_alone}, Finishing.{FindsPageCommandAndWhetherItCanEnd, HasFinishablePageCommand, HasMove, TapeHasRoom, HasTakenCommand, MayTakePageCommand}, HeldPorts.{IsPortReleased}, DiskPages.{with_lie, with_logged_error, without_lies}, PageTaking.{TakesPageCommandUnlessOneIsTaken}};
 ghost use Rattle.device_model.specs.{StepEffects.{AnswersStep, Completes, OwnStepsKeep, HasCleared, IsPossible, CommandOfStepFails, KeepsRoomForNext, is_step_not_skipped, asked_fault}, ToldDisks.{all_disks_have_known_sectors}, Queue.{BeginsAccess, DoesRead, AppliesEffect}, ModelState.{IsNewBay, IsNewMedia, IsNewModel, all_given_disks_tell, all_bay_stores_are_known, cap_of, device_at, given_disks_tell, media_of, tells}, Slots.{IsNextMove}};
-ghost use Rattle.device_model.specs.{declared.port.TakenCommand.{TakenCommand}, ModelOwnSteps.{SendsPages, IsSettled, LeadsBySteps, LeavesPageWithoutMemory, PageCommandWaitsOnlyIfHeldOrStarved}, Trims.{next_run_length, sectors_left_to_write}, WholeAdapter.{HasDisks, HasRegister}};
+ghost use Rattle.device_model.specs.{declared.port.TakenCommand.{TakenCommand}, ModelOwnSteps.{SendsPages, IsSettled, LeadsBySteps, LeavesPageWithoutTapeRoom, PageCommandWaitsOnlyIfHeldOrStarved}, Trims.{next_run_length, sectors_left_to_write}, WholeAdapter.{HasDisks, HasRegister}};
 
 use crate::bay::{Bay, PAGE_BYTES, add_lie_of, end_lies, log_failed, note_end_of};
 use crate::clearing::SectorExtent;
@@ -492,7 +492,7 @@ impl<S: SectorStore> Model<S> {
         ensures answers { AnswersStep S.size S.told S.failures (DeviceStep.Finish port slot) result self.old self.new }
         ensures sends { HasDisks (device_at S.size S.told self.old) port.0
             → (has : HasFinishablePageCommand (device_at S.size S.told self.old) port.0 slot.0) →
-            (result ≡ true → IsFreeSlot ((device_at S.size S.told self.new).port port.0) slot.0)
+            (result ≡ true → SlotHasNoCommand ((device_at S.size S.told self.new).port port.0) slot.0)
             × (result ≡ false → (self.new.hardware.starved ≡ true)
             × (TapeHasRoom self.new.hardware (has.moves_left + 1) → ⊥)) }
     {
@@ -582,7 +582,7 @@ impl<S: SectorStore> Model<S> {
             (device_at S.size S.told self.new) }
         ensures rest { OwnStepsKeep S.size self.old self.new }
         ensures told { self.new.hardware.starved ≡ true → (self.old.hardware.starved ≡ true)
-            ⊎ LeavesPageWithoutMemory self.new.hardware (device_at S.size S.told self.new) }
+            ⊎ LeavesPageWithoutTapeRoom self.new.hardware (device_at S.size S.told self.new) }
         ensures disks { (port : ℕ) (which : DiskIndex)
             → numbered_disk self.new port which ≡ numbered_disk self.old port which }
     {

@@ -13,7 +13,7 @@ const PSS: u32 = 1;
 
 const SDBS: u32 = 3;
 
-/// How many sectors a command writes to the disk, of so many pieces that are left to move.
+/// How many sectors at most a command writes to the disk, of so many pieces that are left to move.
 #[inline]
 pub fn sectors_to_write(operation: Operation, left: u32) -> u32
     ensures { result ≡ sectors_left_to_write operation left }
@@ -36,8 +36,8 @@ pub fn end_cause(operation: Operation) -> u32
     }
 }
 
-/// How long the tape was when the disk last ended a flush, once this command has ended: so long, if it is one, and else
-/// as before.
+/// Once this command has ended, how long the tape was when the disk last ended a flush, or else when it was first in:
+/// `here`, the length before the entry of its end, if it is a flush, and else `was`.
 pub fn lasting_tape_length_after(operation: Operation, was: usize, here: usize) -> usize
     ensures { (lasting : DurableState) (disk : Disk) → lasting.tape_length ≡ was
         → result ≡ (lasting_after operation lasting disk here).tape_length }

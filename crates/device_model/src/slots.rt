@@ -167,7 +167,7 @@ impl PortModel {
             ⊥ }
     {
         if operation.is_queued() {
-            self.taken.are_queued()
+            self.taken.are_all_queued()
         } else {
             self.taken.is_empty()
         }

@@ -177,7 +177,7 @@ impl TakenCommands {
     }
 
     /// Whether each that is taken is queued.
-    pub fn are_queued(&self) -> bool
+    pub fn are_all_queued(&self) -> bool
         ensures { IsTrue result ↔ ((slot : ℕ) (t : TakenCommand) → taken_in self.now slot ≡ Some t
             → is_queued t.operation ≡ true) }
     {

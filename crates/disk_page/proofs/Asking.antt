@@ -12,7 +12,7 @@ use Rattle.hba_regs.specs.declared.reg.Reg.TheVariants.{Ghc, Px}
 use Rattle.hba_regs.specs.declared.reg.PortReg.TheVariants.{Ci, Sact}
 use Rattle.adapter.specs.Access.{Access, Does, Reads, Writes, Loads, count_after_reading}
 use Rattle.adapter.specs.Access.Access.{Reading, Writing, Loading, Storing}
-use Rattle.adapter.specs.Commands.{Meaning, command_of, is_ranged, piece_count}
+use Rattle.adapter.specs.Commands.{Meaning, command_of, is_ranged, transfer_sector_count}
 use Rattle.adapter.specs.Device.{Bases, Notes, DevicePort, Device}
 use Rattle.adapter.specs.Device.Halt.{NotHalted}
 use Rattle.adapter.specs.KeptBySteps.{KeepsOverSteps, KeepsControlsFlagsRise, PortBitsOnlyFallFreeSlotsStay}
@@ -27,7 +27,8 @@ use Rattle.refinement.specs.Fragments.{SomeMachineAgrees, IsDrivenBy, IsSimulate
 use Rattle.refinement.specs.Driver.{IsOwnCommandPreparedInSlot0}
 use Rattle.refinement.specs.PortFacts.{IsSlotClear}
 use Rattle.refinement.specs.MemoryLayout.{command_list_address, scratch_frame_address}
-use Rattle.refinement.specs.Slots.{Free, Own, SlotStates, set_slot_state as used, SlotDecodesTo, IsOver, client_operation_of, PageCameSinceAndStandsInScratch}
+use Rattle.adapter.specs.OneCommand.{SlotHasNoCommand}
+use Rattle.refinement.specs.Slots.{Free, Own, SlotStates, set_slot_state as used, SlotDecodesTo, client_operation_of, PageCameSinceAndStandsInScratch}
 use Rattle.command_table.specs.SectorPlaces.{places_of}
 use Rattle.command_table.specs.TableStores.{IsTableFor, IsHeaderOrTableStore, IsSlotStateFree}
 use Rattle.disk_page.specs.PageRequests.{page_operation, AreSlot0IssuedReadings, PortMayAskForPage, IsSlot0CiOrPageMemoryAccess, BringsLastPage, ShowsSlot0Issued, WaitsForSlot0InVain}
@@ -93,7 +94,7 @@ pub unranged : (page : Page) → is_ranged (page_operation page) ≡ false
 unranged Identity = refl
 unranged ErrorLog = refl
 
-pub one_piece : (page : Page) → piece_count (page_operation page) 0 ≡ 1
+pub one_piece : (page : Page) → transfer_sector_count (page_operation page) 0 ≡ 1
 one_piece Identity = refl
 one_piece ErrorLog = refl
 
@@ -297,7 +298,7 @@ module _ (laws : Laws) where
   awaited_then port old mid new a b = (laws.fragments.fragments_join (AwaitingWithAnySlots port) (AwaitingWithAnySlots port) (λ uses. uses) (λ uses. uses) (λ access may. may) (λ uses any. tt) old mid new a b).is_simulated
 
   -- a page that came leaves its slot
-  pub asked_back : (port : Port) (o : Operation) (old new : Device) → IsOver (new.port port.0) 0 → IsSimulatedChangingUses (IsSlot0CiOrPageMemoryAccess port) (IsSlotStateFree port.0 0) (λ uses. used uses port.0 0 (Own o)) old new →
+  pub asked_back : (port : Port) (o : Operation) (old new : Device) → SlotHasNoCommand (new.port port.0) 0 → IsSimulatedChangingUses (IsSlot0CiOrPageMemoryAccess port) (IsSlotStateFree port.0 0) (λ uses. used uses port.0 0 (Own o)) old new →
       IsSimulated (IsSlot0CiOrPageMemoryAccess port) (IsSlotStateFree port.0 0) old new
   asked_back port o old new over a = (laws.fragments.own_command_is_over (Asking port) port o 1 old new (refl, refl) (λ uses free. free) over a).is_simulated
 

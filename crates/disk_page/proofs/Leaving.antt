@@ -15,7 +15,7 @@ use Rattle.adapter.specs.declared.tape.Entry.{Entry}
 use Rattle.adapter.specs.RegisterEffects.{PortRegisterRead}
 use Rattle.adapter.specs.RegisterEffects.{PortRegisterWritten}
 use Rattle.refinement.specs.Fragments.{NoCommandIsIssuedOrTaken, IsDrivenBy}
-use Rattle.refinement.specs.Slots.{IsOver}
+use Rattle.adapter.specs.OneCommand.{SlotHasNoCommand}
 use Rattle.disk_page.specs.PageRequests.{IsSlot0CiOrPageMemoryAccess, LeavesPortWhileAsking, SameButCiNotes}
 use Rattle.disk_page.proofs.Asking.{reading_leaves, grown, asking_spares_ghc, bit_one_other}
 use Rattle.disk_page.specs.Laws.{Laws}
@@ -54,9 +54,9 @@ same_read v old p is =
     subst P (sym is) refl
 
 -- a port without a command, but for slot 0's, which is over
-pub asked_none : (port : ℕ) (old new : Device) → LeavesPortWhileAsking port old new → NoCommandIsIssuedOrTaken (old.port port) → IsOver (new.port port) 0 → NoCommandIsIssuedOrTaken (new.port port)
+pub asked_none : (port : ℕ) (old new : Device) → LeavesPortWhileAsking port old new → NoCommandIsIssuedOrTaken (old.port port) → SlotHasNoCommand (new.port port) 0 → NoCommandIsIssuedOrTaken (new.port port)
 asked_none port old new l none over slot = elim (cases_eq slot 0) [
-  | inl e ↦ let P : ℕ → Type 0 = λ k. IsOver (new.port port) k in subst P (sym e) over
+  | inl e ↦ let P : ℕ → Type 0 = λ k. SlotHasNoCommand (new.port port) k in subst P (sym e) over
   | inr ne ↦ record { is_not_issued = l.ci_stays_clear slot ne (none slot).is_not_issued; is_not_taken = l.empty_slots_stay_empty slot ne (none slot).is_not_issued (none slot).is_not_taken }
 ]
 

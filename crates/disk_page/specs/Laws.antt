@@ -7,7 +7,8 @@ use Rattle.refinement.specs.Relation.{StateRelation}
 use Rattle.refinement.specs.Fragments.{AnyAccess, AnySlotStates, SomeMachineAgrees, IsDrivenBy, SparesOtherPorts, OnlyDeviceChangesPort, NoneWrites, GainsNoMove}
 use Rattle.refinement.specs.AwaitedPage.{AwaitsOrHasPage}
 use Rattle.refinement.specs.HaltRecovery.{PlainSlot0IsIssuedOrNotHalted}
-use Rattle.refinement.specs.Slots.{PageCameSinceAndStandsInScratch, Free, IsMove, IsOver, Own, SlotState, SlotStates, client_operation_of, set_slot_state}
+use Rattle.adapter.specs.OneCommand.{SlotHasNoCommand}
+use Rattle.refinement.specs.Slots.{PageCameSinceAndStandsInScratch, Free, IsMove, Own, SlotState, SlotStates, client_operation_of, set_slot_state}
 use Rattle.hba_regs.specs.declared.reg.PortReg.TheVariants.{Ci, Sact}
 use Rattle.refinement.specs.StartedPort.{WritesCmdOnlyWithStSet}
 use Rattle.adapter.specs.Device.{Device, DevicePort}
@@ -112,16 +113,17 @@ pub record Laws : Type 0 where
       × PageCameSinceAndStandsInScratch new.memory new.tape port.0 o since
   pub awaited_is_loaded : (uses : SlotStates) (m : Machine) (port : ℕ) (o : Operation) (since : ℕ) (bytes : List ℕ)
       (old new : Device) → IsReachable m → StateRelation uses m old → AwaitsOrHasPage uses port o since old
-      → IsOver (old.port port) 0
+      → SlotHasNoCommand (old.port port) 0
       → Loads (scratch_frame_address port) bytes old new → length bytes ≡ 512
       → (b : PageCameSinceAndStandsInScratch new.memory new.tape port o since)
       × (bytes ≡ b.move.bytes.value)
   pub device_owns_no_scratch : (uses : SlotStates) (m : Machine) (d : Device) → IsReachable m → StateRelation uses m d
       → (port : ℕ) → port < 4
-      → scratch_frame_address port + 512 ≤ d.memory_size → IsOver (d.port port) 0
+      → scratch_frame_address port + 512 ≤ d.memory_size → SlotHasNoCommand (d.port port) 0
       → IsStable (IsInMemoryNotOwnedByDevice (scratch_frame_address port) 512) d
   pub release_keeps_relation : (uses : SlotStates) (port : ℕ) (o : Operation) (d : Device) → uses port 0 ≡ Free
-      → IsOver (d.port port) 0 → SomeMachineAgrees (set_slot_state uses port 0 (Own o)) d → SomeMachineAgrees uses d
+      → SlotHasNoCommand (d.port port) 0 → SomeMachineAgrees (set_slot_state uses port 0 (Own o)) d
+      → SomeMachineAgrees uses d
   pub issued_own_command_is_unended_or_unhalted : (uses : SlotStates) (m : Machine) (port : Port) (o : Operation)
       (v : ℕ)
       (old new : Device)
@@ -139,7 +141,7 @@ pub record Laws : Type 0 where
       (o : Operation)
       (gained : List Entry) → IsReachable m → StateRelation uses m old → Does access old new
       → new.tape ≡ old.tape ++ gained
-      → client_operation_of o ≡ None → (uses port 0 ≡ Own o → IsOver (old.port port) 0)
+      → client_operation_of o ≡ None → (uses port 0 ≡ Own o → SlotHasNoCommand (old.port port) 0)
       → All (λ e. IsMove port o e → ⊥) gained
   pub no_moves_compose : (port : ℕ) (o : Operation) (old mid new : Device) → GainsNoMove port o old mid
       → GainsNoMove port o mid new → GainsNoMove port o old new

@@ -10,17 +10,17 @@ use Rattle.adapter.specs.Device.{Device, DevicePort}
 use Rattle.adapter.specs.declared.access.DeviceStep.{DeviceStep}
 use Rattle.adapter.specs.declared.tape.Entry.{Entry}
 use Rattle.adapter.specs.declared.tape.Entry.TheVariants as entry
-use Rattle.refinement.specs.Errors.{IsFatalErrorOf}
+use Rattle.refinement.specs.Errors.{IsFatalEntryOf}
 use Rattle.refinement.specs.PortFacts.{Undisturbed, IsDisturbance, IsFaultOf, ShowsNoTrouble}
 use Rattle.refinement.specs.PreservedParts.{IsPlugEvent}
 use Rattle.refinement.specs.Tape.{TellsDeviceSteps}
-use Rattle.block_machine.specs.Events.{AbstractCall, AbstractState, Submit, StoreAt, LoadAt, Service, Tick, Reset, RevokeOf, State, StepDevice as Told, AbstractCallResult, Submitted, Stored, Loaded, Replied, WasReset, WasRevoked, PortStateShown, Stepped, ResultMatchesSteps, TimesOutAtTick, RestartsTimedOut, changes_disk, abstract_after}
+use Rattle.block_machine.specs.Events.{AbstractCall, AbstractState, Submit, StoreAt, LoadAt, Service, Tick, Reset, RevokeOf, State, StepDevice, AbstractCallResult, Submitted, Stored, Loaded, Replied, WasReset, WasRevoked, PortStateShown, Stepped, ResultMatchesSteps, TimesOutAtTick, RestartsTimedOut, changes_disk, abstract_after}
 use Rattle.block_machine.specs.Histories.{JointState, JointEvent}
 use Rattle.block_machine.specs.Ports.{Ports, Evidence, IsStoppedOrStuck}
 use Rattle.block_machine.specs.State.{Machine}
 use Rattle.block_machine.specs.Steps.{Step}
 use Rattle.identify.specs.declared.wanted.Wanted.{Wanted}
-use Rattle.driver_history.specs.EvidenceHandling.{ShowsErrorOrLinkOrDiskChange, IsLeftAlone, ServicesReadyPort, HandlesIfServiceElseOnlyTickOrResetStops}
+use Rattle.driver_history.specs.EvidenceHandling.{ShowsErrorOrLinkOrDiskChange, IsLeftAlone, ServicesReadyPort, ServicesOrOnlyTickOrResetStops}
 use Rattle.driver_history.specs.Claims.{IsFaultFreeOutcome, IsSpared}
 use Rattle.driver_history.specs.Evidence.{TapeGainsEntry, ReadyPortShowedOrHadFailure, ReadyPortShowedOrHadFatalError, IsEvidencedOf, ReadyPortShowedLossOrHadPlugEvent, ShowsFailure, StaysHealthy}
 use Rattle.error_recovery.specs.Evidence.{GainsSinceStart, ShowsFatal}
@@ -52,7 +52,7 @@ fault_disturbs port (entry.Move x) is = absurd is
 fault_disturbs port (entry.Clear x) is = absurd is
 fault_disturbs port (entry.Done x) is = absurd is
 
-fatal_disturbs : (port : ℕ) (e : Entry) → IsFatalErrorOf port e → IsDisturbance port e
+fatal_disturbs : (port : ℕ) (e : Entry) → IsFatalEntryOf port e → IsDisturbance port e
 fatal_disturbs port (entry.Fatal x) is = is
 fatal_disturbs port (entry.Fault x) is = absurd is
 fatal_disturbs port (entry.Unplug x) is = absurd is
@@ -90,11 +90,11 @@ untroubled evidence old ports new port healthy = record {
       (no_failure (old.device.port port.0) healthy.port_runs_well.shows_no_trouble)
       (λ g. ⊎_elim
       (none_gained port.0 (IsFaultOf port.0) old.device new (fault_disturbs port.0) healthy.undisturbed)
-      (none_gained port.0 (IsFatalErrorOf port.0) old.device new (fatal_disturbs port.0) healthy.undisturbed)
+      (none_gained port.0 (IsFatalEntryOf port.0) old.device new (fatal_disturbs port.0) healthy.undisturbed)
       g)
       port_error);
   ready_shows_fault_since_start = λ ready g. absurd (none_gained port.0 (IsFaultOf port.0) old.device new (fault_disturbs port.0) healthy.undisturbed (gains_of port.0 (IsFaultOf port.0) old.device new g));
-  ready_shows_fatal_since_start = λ ready g. absurd (none_gained port.0 (IsFatalErrorOf port.0) old.device new (fatal_disturbs port.0) healthy.undisturbed (gains_of port.0 (IsFatalErrorOf port.0) old.device new g));
+  ready_shows_fatal_since_start = λ ready g. absurd (none_gained port.0 (IsFatalEntryOf port.0) old.device new (fatal_disturbs port.0) healthy.undisturbed (gains_of port.0 (IsFatalEntryOf port.0) old.device new g));
   ready_shows_plug_event_since_start = λ ready g. absurd (none_gained port.0 (IsPlugEvent port.0) old.device new (plugging_disturbs port.0) healthy.undisturbed (gains_of port.0 (IsPlugEvent port.0) old.device new g));
   changes_are_handled_or_shown_unless_dead = λ ready port_error. absurd (⊎_elim
       (λ change. ⊎_elim (λ n. false≢true (sym healthy.port_runs_well.shows_no_trouble.serr_n_is_clear ∙ n)) (λ x. false≢true (sym healthy.port_runs_well.shows_no_trouble.serr_x_is_clear ∙ x)) change)
@@ -109,14 +109,14 @@ module _ (port : Port) (old : JointState Device) (new : Device) (healthy : Stays
       (no_failure (old.device.port port.0) healthy.port_runs_well.shows_no_trouble)
       (λ g. ⊎_elim
       (none_gained port.0 (IsFaultOf port.0) old.device new (fault_disturbs port.0) healthy.undisturbed)
-      (none_gained port.0 (IsFatalErrorOf port.0) old.device new (fatal_disturbs port.0) healthy.undisturbed)
+      (none_gained port.0 (IsFatalEntryOf port.0) old.device new (fatal_disturbs port.0) healthy.undisturbed)
       g)
       e.1
 
   pub no_fatal_errors : ReadyPortShowedOrHadFatalError port old new → ⊥
   no_fatal_errors e = ⊎_elim
       (no_fatal (old.device.port port.0) healthy.port_runs_well.shows_no_trouble)
-      (none_gained port.0 (IsFatalErrorOf port.0) old.device new (fatal_disturbs port.0) healthy.undisturbed)
+      (none_gained port.0 (IsFatalEntryOf port.0) old.device new (fatal_disturbs port.0) healthy.undisturbed)
       e.1
 
   pub no_plugging : TapeGainsEntry (IsPlugEvent port.0) old.device new → ⊥
@@ -149,7 +149,7 @@ module _ (told : EntryIsTold) (wanted : List Wanted) (old : JointState Device) (
   module _ (asks : h.event.call ≡ Service) (ready : old.abstract.ports.state port ≡ Ready) where
     serves : ServicesReadyPort old.abstract h.event.evidence h.event.steps (abstract_after old.abstract h.event) port
     serves =
-        let Heeded : AbstractCall DeviceStep → Type 0 = λ ask. HandlesIfServiceElseOnlyTickOrResetStops port ask old.abstract h.event.evidence h.event.steps (abstract_after old.abstract h.event) in
+        let Heeded : AbstractCall DeviceStep → Type 0 = λ ask. ServicesOrOnlyTickOrResetStops port ask old.abstract h.event.evidence h.event.steps (abstract_after old.abstract h.event) in
         let its : Heeded Service = subst Heeded asks (t.ports_correspond port).handles_evidence in
         its ready
 
@@ -164,7 +164,7 @@ module _ (told : EntryIsTold) (wanted : List Wanted) (old : JointState Device) (
     }
 
   -- nothing stopped it, unless it is a tick that restarts it, or a reset
-  no_interrupt : (ask : AbstractCall DeviceStep) → HandlesIfServiceElseOnlyTickOrResetStops port ask old.abstract h.event.evidence h.event.steps (abstract_after old.abstract h.event) → ask ≢ Reset
+  no_interrupt : (ask : AbstractCall DeviceStep) → ServicesOrOnlyTickOrResetStops port ask old.abstract h.event.evidence h.event.steps (abstract_after old.abstract h.event) → ask ≢ Reset
       → (ask ≡ Tick → IsStoppedOrStuck h.event.evidence port → ⊥) → old.abstract.ports.state port ≡ Ready → IsStoppedOrStuck h.event.evidence port → ⊥
   no_interrupt Service heeds other spares ready i = ⊎_elim undisturbed (λ (a : IsLeftAlone old.abstract.ports h.event.evidence h.event.steps h.event.ports port). a.is_neither_stopped_nor_stuck i) (heeds ready).is_left_alone_if_calm
   no_interrupt Tick heeds other spares ready i = spares refl i
@@ -174,7 +174,7 @@ module _ (told : EntryIsTold) (wanted : List Wanted) (old : JointState Device) (
   no_interrupt (StoreAt client frame offset bytes) heeds other spares ready i = heeds i
   no_interrupt (LoadAt client frame offset count) heeds other spares ready i = heeds i
   no_interrupt (State at) heeds other spares ready i = heeds i
-  no_interrupt (Told step) heeds other spares ready i = heeds i
+  no_interrupt (StepDevice step) heeds other spares ready i = heeds i
 
   pub engine_left : h.event.call ≢ Reset → (h.event.call ≡ Tick → IsStoppedOrStuck h.event.evidence port → ⊥) → old.abstract.ports.state port ≡ Ready → All (WritesNeitherCmdNorSctl port) t.accesses
   engine_left other spares ready = ⊎_elim (λ a. a) (λ i. absurd (no_interrupt h.event.call (t.ports_correspond port).handles_evidence other spares ready i)) ev.engine_is_left_or_stopped

@@ -14,7 +14,7 @@ use Rattle.adapter.specs.Device.{Device, DevicePort}
 use Rattle.adapter.specs.Steps.{Steps}
 use Rattle.adapter.specs.declared.tape.Entry.{Entry}
 use Rattle.refinement.specs.Fragments.{TapeGrows}
-use Rattle.refinement.specs.Errors.{IsFatalErrorOf, NoFaults, NoFatalErrors}
+use Rattle.refinement.specs.Errors.{IsFatalEntryOf, NoFaults, NoFatalErrors}
 use Rattle.refinement.specs.PortFacts.{IsFaultOf}
 use Rattle.refinement.specs.PreservedParts.{IsPlugEvent, NoPlugEvents, DoesNotWrite}
 use Rattle.error_recovery.specs.Evidence.{ShowsFatal}
@@ -55,7 +55,7 @@ Shows links p = p.serr_x ≡ true
 -- the entry is one of the port
 abbrev pub IsOne : TroubleKind → ℕ → Entry → Type 0
 IsOne faults port = IsFaultOf port
-IsOne fatals port = IsFatalErrorOf port
+IsOne fatals port = IsFatalEntryOf port
 IsOne disks port = IsPlugEvent port
 IsOne links port = λ e. ⊥
 
@@ -148,7 +148,7 @@ module _ (laws : AccessLaws) where
       → AreShown fatals port old new
   of_fatals port old new tells = record {
     still = λ shown. laws.shows_fatal_unless_clear (new.port port) (λ clear. false≢true (sym ((tells clear).0 shown.place shown.from shown.to) ∙ shown.cause_is_set));
-    came = λ g. laws.shows_fatal_unless_clear (new.port port) (λ clear. let none = (tells clear).1 in denies (IsFatalErrorOf port) old new none.new_entries none.tape_is none.no_such_entry g);
+    came = λ g. laws.shows_fatal_unless_clear (new.port port) (λ clear. let none = (tells clear).1 in denies (IsFatalEntryOf port) old new none.new_entries none.tape_is none.no_such_entry g);
   }
 
   -- the device's own steps clear none

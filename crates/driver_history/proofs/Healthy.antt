@@ -5,7 +5,7 @@ use Rattle.ata_types.specs.declared.Port.{Port}
 use Rattle.ata_types.specs.declared.request.Outcome.{Outcome}
 use Rattle.adapter.specs.Device.{Device}
 use Rattle.adapter.specs.declared.access.DeviceStep.{DeviceStep}
-use Rattle.block_machine.specs.Events.{AbstractCall, Submit, StoreAt, LoadAt, Service, Tick, Reset, RevokeOf, State, StepDevice as Told, AbstractCallResult, Submitted, Stored, Loaded, WasRevoked, PortStateShown, Stepped, AbstractState, ResultMatchesSteps, TimesOutAtTick, IsByServer, abstract_after}
+use Rattle.block_machine.specs.Events.{AbstractCall, Submit, StoreAt, LoadAt, Service, Tick, Reset, RevokeOf, State, StepDevice, AbstractCallResult, Submitted, Stored, Loaded, WasRevoked, PortStateShown, Stepped, AbstractState, ResultMatchesSteps, TimesOutAtTick, IsByServer, abstract_after}
 use Rattle.block_machine.specs.Histories.{JointState, JointEvent, joint_state_after}
 use Rattle.block_machine.specs.Ports.{Ports, Evidence, SamePort}
 use Rattle.block_machine.specs.State.{Pending}
@@ -31,8 +31,8 @@ same_port (StoreAt client frame offset bytes) (Stored (Some fault)) old evidence
 same_port (LoadAt client frame offset count) (Loaded (Ok bytes)) old evidence steps new port a one two three = a.0 port
 same_port (LoadAt client frame offset count) (Loaded (Err fault)) old evidence steps new port a one two three = a.0 port
 same_port (State at) (PortStateShown state) old evidence steps new port a one two three = a.2 port
-same_port (Told step) (Stepped true) old evidence steps new port a one two three = a.1 port
-same_port (Told step) (Stepped false) old evidence steps new port a one two three = a.1 port
+same_port (StepDevice step) (Stepped true) old evidence steps new port a one two three = a.1 port
+same_port (StepDevice step) (Stepped false) old evidence steps new port a one two three = a.1 port
 same_port Service said old evidence steps new port a one two three = absurd (one refl)
 same_port Tick said old evidence steps new port a one two three = absurd (two refl)
 same_port Reset said old evidence steps new port a one two three = absurd (three refl)
@@ -44,7 +44,7 @@ tells_calmly (Submit r) ports e o s one two three = absurd s
 tells_calmly (StoreAt client frame offset bytes) ports e o s one two three = absurd s
 tells_calmly (LoadAt client frame offset count) ports e o s one two three = absurd s
 tells_calmly (State at) ports e o s one two three = absurd s
-tells_calmly (Told step) ports e o s one two three = absurd s
+tells_calmly (StepDevice step) ports e o s one two three = absurd s
 tells_calmly Service ports e o s one two three = absurd (one refl)
 tells_calmly Tick ports e o s one two three = absurd (two refl)
 tells_calmly Reset ports e o s one two three = absurd (three refl)
@@ -68,7 +68,7 @@ kind_of (LoadAt client frame offset count) =
 kind_of (RevokeOf client number) =
     other (λ e. let z : RevokeOf client number ≡ Service = e in absurd cc) (λ e. let z : RevokeOf client number ≡ Tick = e in absurd cc) (λ e. let z : RevokeOf client number ≡ Reset = e in absurd cc)
 kind_of (State at) = other (λ e. let z : State at ≡ Service = e in absurd cc) (λ e. let z : State at ≡ Tick = e in absurd cc) (λ e. let z : State at ≡ Reset = e in absurd cc)
-kind_of (Told step) = other (λ e. let z : Told step ≡ Service = e in absurd cc) (λ e. let z : Told step ≡ Tick = e in absurd cc) (λ e. let z : Told step ≡ Reset = e in absurd cc)
+kind_of (StepDevice step) = other (λ e. let z : StepDevice step ≡ Service = e in absurd cc) (λ e. let z : StepDevice step ≡ Tick = e in absurd cc) (λ e. let z : StepDevice step ≡ Reset = e in absurd cc)
 
 module _ (told : EntryIsTold) (steps : KeepsWell) (wanted : List Wanted) (first : JointState Device) (port : Port) where
   module _ (past : List (JointEvent Device DeviceStep)) (h : JointEvent Device DeviceStep) (history : IsDriverHistory wanted first (h ∷ past)) (healthy : IsHealthyFor (joint_state_after first past) h port) where

@@ -15,7 +15,7 @@ use Rattle.adapter.specs.Steps.{Steps}
 use Rattle.adapter.specs.declared.access.DeviceStep.{DeviceStep}
 use Rattle.refinement.specs.PortFacts.{RunsWell, Undisturbed}
 use Rattle.refinement.specs.PreservedParts.{DoesNotWrite}
-use Rattle.block_machine.specs.Events.{AbstractCall, Submit, StoreAt, LoadAt, Service, Tick, Reset, RevokeOf, StepDevice as Told, AbstractCallResult, Submitted, Stored, Loaded, Replied, WasRevoked, Stepped, TimesOutAtTick, AbstractState}
+use Rattle.block_machine.specs.Events.{AbstractCall, Submit, StoreAt, LoadAt, Service, Tick, Reset, RevokeOf, StepDevice, AbstractCallResult, Submitted, Stored, Loaded, Replied, WasRevoked, Stepped, TimesOutAtTick, AbstractState}
 use Rattle.driver_history.specs.Histories.{ExplainsAccesses, StoresOrWritesSactOrCi, IsServedAndNotDead}
 use Rattle.driver_history.specs.AccessTrace.{UsesPortsAndNotGhc, WritesNeitherCmdNorSctl}
 use Rattle.port_boot.specs.States.{StaysRunningIfUndisturbed}
@@ -67,7 +67,7 @@ module _ (port : Port) (m : AbstractState) (accesses : List Access) (old new : D
 
   -- how the call came there, if it leaves the engine alone
   pub came_calmly : KeepsWell → (ask : AbstractCall DeviceStep) (said : AbstractCallResult) → ExplainsAccesses m ask said accesses old new → IsNoReset ask → All (WritesNeitherCmdNorSctl port) accesses → Calm
-  came_calmly laws (Told step) (Stepped true) c other leaves = inr (laws.asked step old new c.1)
+  came_calmly laws (StepDevice step) (Stepped true) c other leaves = inr (laws.asked step old new c.1)
   came_calmly laws (Submit r) (Submitted (Ok id)) c other leaves = inl ((λ i e small. issuing_leaves port c.1.0.port _ (c.1.2 i e small)), c.0)
   came_calmly laws (RevokeOf client number) (WasRevoked (Some replies)) c other leaves = inl ((λ i e small. issuing_leaves port c.1.0.0.port _ (c.1.1 i e small)), c.0)
   came_calmly laws (StoreAt client frame offset bytes) (Stored None) c other leaves =

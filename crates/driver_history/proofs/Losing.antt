@@ -14,7 +14,7 @@ use Rattle.adapter.specs.Device.{Device, DevicePort}
 use Rattle.adapter.specs.RegisterEffects.{PortRegisterWritten}
 use Rattle.adapter.specs.Rules.{IsOn}
 use Rattle.refinement.specs.Relation.{port_at}
-use Rattle.refinement.specs.Errors.{IsFatalErrorOf}
+use Rattle.refinement.specs.Errors.{IsFatalEntryOf}
 use Rattle.refinement.specs.PortFacts.{IsFaultOf}
 use Rattle.refinement.specs.PreservedParts.{IsPlugEvent, DoesNotWrite}
 use Rattle.block_machine.specs.Histories.{JointState}
@@ -128,6 +128,6 @@ module _ (laws : AccessLaws) (port : Port) where
         port_error);
     changes_are_handled_or_shown_unless_dead = λ tends port_error. inr (⊎_elim (change_still port.0 old.device new shows) (λ g. inl ((shows disks).came g)) port_error);
     ready_shows_fault_since_start = λ ready g. (shows faults).came (gains_of port.0 (IsFaultOf port.0) old.device new g);
-    ready_shows_fatal_since_start = λ ready g. (shows fatals).came (gains_of port.0 (IsFatalErrorOf port.0) old.device new g);
+    ready_shows_fatal_since_start = λ ready g. (shows fatals).came (gains_of port.0 (IsFatalEntryOf port.0) old.device new g);
     ready_shows_plug_event_since_start = λ ready g. (shows disks).came (gains_of port.0 (IsPlugEvent port.0) old.device new g);
   }

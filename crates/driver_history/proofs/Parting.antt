@@ -16,16 +16,16 @@ use Rattle.adapter.specs.declared.tape.Fault as tape_fault
 use Rattle.adapter.specs.declared.command.Operation.TheVariants.{ReadLog}
 use Rattle.refinement.specs.Fragments.{IsDrivenBy, SparesOtherPorts, TapeGrows, OnlyDeviceChangesPort, GainsNoMove}
 use Rattle.refinement.specs.Slots.{IsMove}
-use Rattle.refinement.specs.Errors.{LinkErrorsRiseByDisks, ErrorBitsRiseByErrors, IsFatalErrorOf}
+use Rattle.refinement.specs.Errors.{LinkErrorsRiseByDisks, ErrorBitsRiseByErrors, IsFatalEntryOf}
 use Rattle.refinement.specs.PortFacts.{IsFaultOf}
 use Rattle.refinement.specs.PreservedParts.{ComesUp, IsPlugEvent, NoPlugEvents, SameLink}
 use Rattle.block_machine.specs.Events.{AbstractCall, AbstractState, AbstractCallResult}
 use Rattle.block_machine.specs.Histories.{JointState}
 use Rattle.block_machine.specs.Ports.{Ports, SamePort, Evidence, IsStoppedOrStuck}
-use Rattle.driver_history.specs.Evidence.{TapeGainsEntry, ReadyPortShowedOrHadFailure, ReadyPortShowedOrHadFatalError, IsEvidencedOf, ReadyPortShowedLossOrHadPlugEvent, ShowedLossHadPlugEventOrEndsNeitherDeadNorUnchanged, ShowsLinkChange, BeganWithLinkChangeOrNoDeviceAndNoneComes}
+use Rattle.driver_history.specs.Evidence.{TapeGainsEntry, ReadyPortShowedOrHadFailure, ReadyPortShowedOrHadFatalError, IsEvidencedOf, ReadyPortShowedLossOrHadPlugEvent, HasEvidenceOfLoss, ShowsLinkChange, ShowedLinkChangeOrNoDeviceAndNoneCame}
 use Rattle.error_recovery.specs.Evidence.{BringsLastLogPage, HasFailed, ShowsFatal}
 use Rattle.driver_history.specs.Laws.{AccessLaws}
-use Rattle.driver_history.specs.PortTurn.{HasTurnIn, IsOfOtherPort, EvidenceAgreesOn, call_accesses}
+use Rattle.driver_history.specs.PortTurn.{HasTurnIn, KeepsToAnotherPort, EvidenceAgreesOn, call_accesses}
 use Rattle.driver_history.specs.AccessTrace.{DoesNotWriteCmd, WritesNeitherCmdNorSctl}
 use Rattle.driver_history.proofs.Errors.{AreShown, TroubleKind, access_shows, change_still, failure_still, fatals, register_of, shown_more, shown_none}
 
@@ -70,7 +70,7 @@ is_fault port (entry.Clear x) = inr (λ is. is)
 is_fault port (entry.Done x) = inr (λ is. is)
 is_fault port (entry.Fatal x) = inr (λ is. is)
 
-is_fatal : (port : ℕ) (e : Entry) → IsFatalErrorOf port e ⊎ (IsFatalErrorOf port e → ⊥)
+is_fatal : (port : ℕ) (e : Entry) → IsFatalEntryOf port e ⊎ (IsFatalEntryOf port e → ⊥)
 is_fatal port (entry.Fatal at) = cases_eq at.0 port
 is_fatal port (entry.Unplug at) = inr (λ is. is)
 is_fatal port (entry.Plug at name) = inr (λ is. is)
@@ -124,7 +124,7 @@ module _ (laws : AccessLaws) (port : Port) where
         b.fault parts.1 (a.fault parts.0 is);
   }
 
-  one_left : (access : Access) (old new : Device) → IsOn old → IsOfOtherPort port access → Does access old new → IsLeft old new
+  one_left : (access : Access) (old new : Device) → IsOn old → KeepsToAnotherPort port access → Does access old new → IsLeft old new
   one_left access old new on (other, apart, of) does =
       let driven : IsDrivenBy (SparesOtherPorts other) old new = record { accesses = access ∷ []; all_are_done = (new, does, refl); accesses_are_of_kind = All-cons (SparesOtherPorts other) access [] of (All-nil (SparesOtherPorts other)) } in
       record {
@@ -149,7 +149,7 @@ module _ (laws : AccessLaws) (port : Port) where
         trouble_shown = λ kind. access_shows laws kind port access old new on.no_reset (laws.one_port_spares_registers other port (register_of kind) apart access of) does;
       }
 
-  pub others_leave : (accesses : List Access) (old new : Device) → IsOn old → DoesAll accesses old new → All (IsOfOtherPort port) accesses → IsLeft old new
+  pub others_leave : (accesses : List Access) (old new : Device) → IsOn old → DoesAll accesses old new → All (KeepsToAnotherPort port) accesses → IsLeft old new
   others_leave [] old new on same of = subst (IsLeft old) (sym same) (record {
     on = on;
     leaves = laws.leaves_port_is_reflexive (old.port port.0);
@@ -163,8 +163,8 @@ module _ (laws : AccessLaws) (port : Port) where
     trouble_shown = λ kind. shown_none kind port.0 old;
   })
   others_leave (access ∷ accesses) old new on (mid, does, rest) of =
-      let a = one_left access old mid on (All-head (IsOfOtherPort port) access accesses of) does in
-      let b = others_leave accesses mid new a.on rest (All-tail (IsOfOtherPort port) access accesses of) in
+      let a = one_left access old mid on (All-head (KeepsToAnotherPort port) access accesses of) does in
+      let b = others_leave accesses mid new a.on rest (All-tail (KeepsToAnotherPort port) access accesses of) in
       record {
         on = b.on;
         leaves = laws.leaves_port_is_transitive (old.port port.0) (mid.port port.0) (new.port port.0) a.leaves b.leaves;
@@ -185,9 +185,9 @@ module _ (laws : AccessLaws) (port : Port) where
       }
 
   -- they write neither PxCMD nor PxSCTL of it
-  pub others_leave_engine : (accesses : List Access) → All (IsOfOtherPort port) accesses → All (WritesNeitherCmdNorSctl port) accesses
+  pub others_leave_engine : (accesses : List Access) → All (KeepsToAnotherPort port) accesses → All (WritesNeitherCmdNorSctl port) accesses
   others_leave_engine accesses of =
-      All-weaker (IsOfOtherPort port) (WritesNeitherCmdNorSctl port) (λ access x. (laws.one_port_spares_registers x.0 port Cmd x.1 access x.2, laws.one_port_spares_registers x.0 port Sctl x.1 access x.2)) accesses of
+      All-weaker (KeepsToAnotherPort port) (WritesNeitherCmdNorSctl port) (λ access x. (laws.one_port_spares_registers x.0 port Cmd x.1 access x.2, laws.one_port_spares_registers x.0 port Sctl x.1 access x.2)) accesses of
 
   -- the tape gains over accesses
   pub grows_over : (accesses : List Access) (old new : Device) → DoesAll accesses old new → TapeGrows old new
@@ -197,7 +197,7 @@ module _ (laws : AccessLaws) (port : Port) where
   -- ---- a turn in a call
 
   -- a loss that the port shows in the call it shows in its turn
-  pub loss_then : (old new : Device) → IsOn old → (old.port port.0).link_due ≡ false → (t : HasTurnIn port old new) → BeganWithLinkChangeOrNoDeviceAndNoneComes port old new → BeganWithLinkChangeOrNoDeviceAndNoneComes port t.start t.end
+  pub loss_then : (old new : Device) → IsOn old → (old.port port.0).link_due ≡ false → (t : HasTurnIn port old new) → ShowedLinkChangeOrNoDeviceAndNoneCame port old new → ShowedLinkChangeOrNoDeviceAndNoneCame port t.start t.end
   loss_then old new on undue t loss = ⊎_elim
       (λ change. inl (change_still port.0 old t.start first.trouble_shown change))
       (λ missing.
@@ -256,10 +256,10 @@ module _ (laws : AccessLaws) (port : Port) where
     missing : (old.device.port port.0).link_due ≡ false → (t.start.port port.0).ssts_det ≢ 3 → ((old.device.port port.0).ssts_det ≢ 3) ⊎ TapeGainsEntry (IsPlugEvent port.0) old.device new
     missing undue gone = ⊎_elim (λ g. inr (before (IsPlugEvent port.0) g)) (λ none. inl (λ there. gone (first.shows undue none ∙ there))) plugged
 
-    fatal : ShowsFatal (t.start.port port.0) → ShowsFatal (old.device.port port.0) ⊎ TapeGainsEntry (IsFatalErrorOf port.0) old.device new
+    fatal : ShowsFatal (t.start.port port.0) → ShowsFatal (old.device.port port.0) ⊎ TapeGainsEntry (IsFatalEntryOf port.0) old.device new
     unfolding GainsOrNone
     fatal shown = ⊎_elim
-        (λ g. inr (before (IsFatalErrorOf port.0) g))
+        (λ g. inr (before (IsFatalEntryOf port.0) g))
         (λ none. inl (record {
           place = shown.place;
           from = shown.from;
@@ -268,7 +268,7 @@ module _ (laws : AccessLaws) (port : Port) where
               (λ clear. absurd (false≢true (sym (first.errors.fatal (record { new_entries = none.0; tape_is = none.1; no_such_entry = none.2 }) shown.place shown.from shown.to clear) ∙ shown.cause_is_set)))
               (cases_Bool ((old.device.port port.0).is shown.place));
         }))
-        (gains_or_none (IsFatalErrorOf port.0) (is_fatal port.0) old.device t.start first.grows)
+        (gains_or_none (IsFatalEntryOf port.0) (is_fatal port.0) old.device t.start first.grows)
 
     failed : (t.start.port port.0).is 30 ≡ true → ((old.device.port port.0).is 30 ≡ true) ⊎ TapeGainsEntry (IsFaultOf port.0) old.device new
     unfolding GainsOrNone
@@ -286,7 +286,7 @@ module _ (laws : AccessLaws) (port : Port) where
     ready_then : begun.ports.state port ≡ Ready → old.abstract.ports.state port ≡ Ready
     ready_then is = sym was.1 ∙ is
 
-    lost : (old.device.port port.0).link_due ≡ false → ShowedLossHadPlugEventOrEndsNeitherDeadNorUnchanged port (record { device = t.start; abstract = begun }) ended t.end → ShowedLossHadPlugEventOrEndsNeitherDeadNorUnchanged port old ports new
+    lost : (old.device.port port.0).link_due ≡ false → HasEvidenceOfLoss port (record { device = t.start; abstract = begun }) ended t.end → HasEvidenceOfLoss port old ports new
     lost undue (inl shown) = ⊎_elim (λ change. inl change) (λ g. inr (inr (inl g))) (changes undue shown)
     lost undue (inr (inl gone)) = ⊎_elim (λ out. inr (inl out)) (λ g. inr (inr (inl g))) (missing undue gone)
     lost undue (inr (inr (inl g))) = inr (inr (inl (within (IsPlugEvent port.0) g)))
@@ -304,11 +304,11 @@ module _ (laws : AccessLaws) (port : Port) where
     errors (is, inl (inl shown)) = (ready_then is, ⊎_elim (λ f. inl (inl f)) (λ g. inr (inr g)) (fatal shown))
     errors (is, inl (inr shown)) = (ready_then is, ⊎_elim (λ f. inl (inr f)) (λ g. inr (inl g)) (failed shown))
     errors (is, inr (inl g)) = (ready_then is, inr (inl (within (IsFaultOf port.0) g)))
-    errors (is, inr (inr g)) = (ready_then is, inr (inr (within (IsFatalErrorOf port.0) g)))
+    errors (is, inr (inr g)) = (ready_then is, inr (inr (within (IsFatalEntryOf port.0) g)))
 
     fatal_errors : ReadyPortShowedOrHadFatalError port (record { device = t.start; abstract = begun }) t.end → ReadyPortShowedOrHadFatalError port old new
     fatal_errors (is, inl shown) = (ready_then is, ⊎_elim (λ f. inl f) (λ g. inr g) (fatal shown))
-    fatal_errors (is, inr g) = (ready_then is, inr (within (IsFatalErrorOf port.0) g))
+    fatal_errors (is, inr g) = (ready_then is, inr (within (IsFatalEntryOf port.0) g))
 
     pub evidence_is_the_calls : IsEvidencedOf ask said (call_accesses t) old ports new call port
     evidence_is_the_calls = record {

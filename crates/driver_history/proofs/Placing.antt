@@ -13,9 +13,9 @@ use Rattle.adapter.specs.declared.tape.Clear as tape_clear
 use Rattle.refinement.specs.Slots.{client_operation_of}
 use Rattle.refinement.specs.MemoryLayout.{scratch_frame_address}
 use Rattle.refinement.specs.Tape.{MovesSector, ClearsSectors, TellsDeviceSteps, TellsEntry, TellsMove}
-use Rattle.block_machine.specs.Events.{IsRun, steps_of}
+use Rattle.block_machine.specs.Events.{IsRun, steps_of, AllEnabled}
 use Rattle.block_machine.specs.Histories.{JointState, JointEvent, events_of, joint_state_after}
-use Rattle.block_machine.specs.Expected.{after, IsLegal}
+use Rattle.block_machine.specs.Expected.{after}
 use Rattle.block_machine.specs.State.{Machine}
 use Rattle.block_machine.specs.Steps.{Step, Touch}
 use Rattle.identify.specs.declared.wanted.Wanted.{Wanted}
@@ -123,9 +123,9 @@ all_cleared laws m (e ∷ entries) steps (own, first, rest, alone, tells, more, 
 cleared : RunLaws → (m : Machine) (entries : List Entry) (steps : List Step) → TellsDeviceSteps m entries steps → (clear : tape_clear.Clear) → Contains entries (entry.Clear clear) → IsCleared m steps clear
 cleared laws m entries steps tells clear here = All-contains (ClearsAs m steps) entries (entry.Clear clear) (all_cleared laws m entries steps tells) here clear refl
 
-legal_before : (start : Machine) (late early : List Step) → IsLegal start (late ++ early) → IsLegal start early
-legal_before start [] early legal = legal
-legal_before start (step ∷ late) early legal = legal_before start late early legal.0
+enabled_before : (start : Machine) (late early : List Step) → AllEnabled start (late ++ early) → AllEnabled start early
+enabled_before start [] early enabled = enabled
+enabled_before start (step ∷ late) early enabled = enabled_before start late early enabled.0
 
 -- ---- in a history
 
@@ -174,8 +174,8 @@ module _ (laws : RunLaws) (wanted : List Wanted) (first : JointState Device) (pa
     steps_are_split = c.here;
     clears_sectors = then;
     was_accepted =
-        let whole = laws.run_steps_are_legal first.abstract (events_of (h ∷ past)) run in
-        laws.holders_were_accepted start (c.before ++ early) then.pending whole.0 (legal_before start (c.later ++ c.touches) (c.before ++ early) (subst (IsLegal start) split whole.1))
+        let whole = laws.run_steps_are_enabled first.abstract (events_of (h ∷ past)) run in
+        laws.holders_were_accepted start (c.before ++ early) then.pending whole.0 (enabled_before start (c.later ++ c.touches) (c.before ++ early) (subst (AllEnabled start) split whole.1))
         (⊎_elim (λ issued. inl issued.0) (λ kept. inr kept) then.may_still_move);
   }
     where

@@ -12,7 +12,7 @@ use Rattle.ata_types.specs.declared.request.Outcome.{Outcome}
 use Rattle.ata_types.specs.declared.request.Outcome.TheVariants as outcome
 use Rattle.adapter.specs.Device.{Device}
 use Rattle.adapter.specs.declared.access.DeviceStep.{DeviceStep}
-use Rattle.block_machine.specs.Events.{AbstractCall, Submit, StoreAt, LoadAt, Service, Tick, Reset, RevokeOf, State, StepDevice as Told, AbstractCallResult, AbstractState, AnswersAndWaitsLawful, AllEnabled, AreStepsOfCall, Happens, IsByDevice, IsLawfulAnswer, IsByServer, abstract_after}
+use Rattle.block_machine.specs.Events.{AbstractCall, Submit, StoreAt, LoadAt, Service, Tick, Reset, RevokeOf, State, StepDevice, AbstractCallResult, AbstractState, AnswersAndWaitsLawful, AllEnabled, AreStepsOfCall, Happens, IsByDevice, IsLawfulAnswer, IsByServer, abstract_after}
 use Rattle.block_machine.specs.Histories.{JointState, JointEvent}
 use Rattle.block_machine.specs.Ports.{Ports, Evidence, PortsWellFormed}
 use Rattle.block_machine.specs.State.{Pending, Machine}
@@ -21,7 +21,7 @@ use Rattle.block_machine.specs.Expected.{after}
 use Rattle.host_boot.specs.TakeOver.{wanted_of}
 use Rattle.identify.specs.declared.wanted.Wanted.{Wanted}
 use Rattle.driver_history.specs.Claims.{AnswerJustified}
-use Rattle.driver_history.specs.Evidence.{IsEndedReset, ShowedLossHadPlugEventOrEndsNeitherDeadNorUnchanged}
+use Rattle.driver_history.specs.Evidence.{IsEndedReset, HasEvidenceOfLoss}
 use Rattle.driver_history.specs.Histories.{CallCorresponds}
 use Rattle.driver_history.specs.PortInvariants.{DriverInvariant, PortStateInvariant, IsDeadAt}
 
@@ -72,7 +72,7 @@ no_fault (LoadAt c f o n) said ports e status error ends s = ends
 no_fault Service said ports e status error ends s = ends
 no_fault Tick said ports e status error ends s = ends
 no_fault (State p) said ports e status error ends s = ends
-no_fault (Told d) said ports e status error ends s = ends
+no_fault (StepDevice d) said ports e status error ends s = ends
 
 -- rows only go
 abbrev pub RowsShrink : Type 0
@@ -99,7 +99,7 @@ module _ (wanted : List Wanted) (old : JointState Device) (h : JointEvent Device
   lawful e o here = lawful_of old.abstract h.event.evidence h.event.ports h.event.steps x.answers_are_lawful e o here
 
   -- a port of which Unplugged is told was lost
-  pub lost_then : (e : Pending) → Contains h.event.steps (Answer e outcome.Unplugged) → ShowedLossHadPlugEventOrEndsNeitherDeadNorUnchanged e.request.port old h.event.ports h.device
+  pub lost_then : (e : Pending) → Contains h.event.steps (Answer e outcome.Unplugged) → HasEvidenceOfLoss e.request.port old h.event.ports h.device
   lost_then e here = (t.is_evidenced.each_port_is_evidenced e.request.port).named_lost_showed_loss_or_changed (lawful e outcome.Unplugged here).0
 
   module _ (shrink : RowsShrink) where

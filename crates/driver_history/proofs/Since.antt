@@ -6,7 +6,7 @@ use Rattle.adapter.specs.Device.{Device}
 use Rattle.adapter.specs.declared.tape.Entry.{Entry}
 use Rattle.adapter.specs.declared.tape.Entry.TheVariants as entry
 use Rattle.refinement.specs.Fragments.{TapeGrows}
-use Rattle.refinement.specs.Errors.{IsFatalErrorOf}
+use Rattle.refinement.specs.Errors.{IsFatalEntryOf}
 use Rattle.refinement.specs.PortFacts.{IsDisturbance, IsFaultOf, Undisturbed}
 use Rattle.refinement.specs.PreservedParts.{IsPlugEvent, NoPlugEvents}
 use Rattle.error_recovery.specs.Evidence.{GainsSinceStart}
@@ -52,10 +52,10 @@ module _ (laws : AccessLaws) (port : ℕ) (old mid new : Device) (early : TapeGr
         came_since_start = omega (arith, set, long, more);
       }
 
-  module _ (unfailed : GainsSinceStart (IsFaultOf port) port old new → ⊥) (unbroken : GainsSinceStart (IsFatalErrorOf port) port old new → ⊥) where
+  module _ (unfailed : GainsSinceStart (IsFaultOf port) port old new → ⊥) (unbroken : GainsSinceStart (IsFatalEntryOf port) port old new → ⊥) where
     one_calm : (before : List Entry) (e : Entry) (later : List Entry) → new.tape ≡ mid.tape ++ (before ++ e ∷ later) → (IsPlugEvent port e → ⊥) → IsDisturbance port e → ⊥
     one_calm before (entry.Fault fault) later tape none is = unfailed (running (IsFaultOf port) before (entry.Fault fault) later tape is)
-    one_calm before (entry.Fatal at) later tape none is = unbroken (running (IsFatalErrorOf port) before (entry.Fatal at) later tape is)
+    one_calm before (entry.Fatal at) later tape none is = unbroken (running (IsFatalEntryOf port) before (entry.Fatal at) later tape is)
     one_calm before (entry.Unplug at) later tape none is = none is
     one_calm before (entry.Plug at name) later tape none is = none is
     one_calm before (entry.Move x) later tape none is = absurd is
@@ -68,7 +68,7 @@ module _ (laws : AccessLaws) (port : ℕ) (old mid new : Device) (early : TapeGr
         All-cons (λ e. IsDisturbance port e → ⊥) e later (one_calm before e later tape (All-head (λ e. IsPlugEvent port e → ⊥) e later none))
         (all_calm (before ++ e ∷ []) later (tape ∙ ap (λ (xs : List Entry). mid.tape ++ xs) (sym (append_assoc before (e ∷ []) later))) (All-tail (λ e. IsPlugEvent port e → ⊥) e later none))
 
-  pub calm_since : NoPlugEvents port old new → (GainsSinceStart (IsFaultOf port) port old new → ⊥) → (GainsSinceStart (IsFatalErrorOf port) port old new → ⊥) → Undisturbed port mid new
+  pub calm_since : NoPlugEvents port old new → (GainsSinceStart (IsFaultOf port) port old new → ⊥) → (GainsSinceStart (IsFatalEntryOf port) port old new → ⊥) → Undisturbed port mid new
   calm_since none unfailed unbroken =
       let after = (laws.tape.no_plug_events_in_parts port old mid new early.0 late.0 early.1 late.1 none).1 in
       record { new_entries = after.new_entries; tape_is = after.tape_is; no_disturbance = all_calm unfailed unbroken [] after.new_entries after.tape_is after.no_such_entry }

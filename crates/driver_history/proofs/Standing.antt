@@ -25,7 +25,7 @@ use Rattle.block_machine.specs.Ports.{SameSerialAndSize}
 use Rattle.block_machine.specs.State.{Accepted, Machine, Pending}
 use Rattle.block_machine.specs.Steps.{Answer}
 use Rattle.identify.specs.declared.wanted.Wanted.{Wanted}
-use Rattle.driver_history.specs.EvidenceHandling.{HandlesIfServiceElseOnlyTickOrResetStops}
+use Rattle.driver_history.specs.EvidenceHandling.{ServicesOrOnlyTickOrResetStops}
 use Rattle.driver_history.specs.Evidence.{TapeGainsEntry, ShowsLinkChange}
 use Rattle.driver_history.specs.Histories.{IsDriverHistory, CallCorresponds}
 use Rattle.driver_history.specs.Laws.{RunLaws}
@@ -71,7 +71,7 @@ seen_answered wanted first past h port slot id history asks asked serves ci sact
     let same_port : serves.pending.request.port ≡ port = ap port_at serves.port_is in
     let booked : Contains old.abstract.machine.book serves.pending = ⊎_elim (λ b. b.0) (λ k. absurd (at.none_is_quarantined serves.pending k same_port)) serves.may_still_move in
     let ended : serves.pending.ended ≡ true = ended_of old.device.memory (old.device.port port.0) port.0 slot serves.pending serves.command serves.places serves.stage at.engine_runs.st_is_set ci sact in
-    let Heeded : AbstractCall DeviceStep → Type 0 = λ ask. HandlesIfServiceElseOnlyTickOrResetStops port ask old.abstract h.event.evidence h.event.steps (abstract_after old.abstract h.event) in
+    let Heeded : AbstractCall DeviceStep → Type 0 = λ ask. ServicesOrOnlyTickOrResetStops port ask old.abstract h.event.evidence h.event.steps (abstract_after old.abstract h.event) in
     let served : Heeded Service = subst Heeded asks (t.ports_correspond port).handles_evidence in
     let answer = (served asked).answers_ok_what_had_ended serves.pending booked same_port ended in
     (answer.0, ap (λ (r : Accepted). r.id) answer.1 ∙ serves.id_is, answer.2)

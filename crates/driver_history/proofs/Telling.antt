@@ -27,13 +27,13 @@ telling_stays wanted first (x ∷ past) h = h.2.is_backed.telling_is_same ∙ te
 
 module _ (laws : RunLaws) (wanted : List Wanted) where
   pub machine_is : (first : JointState Device) (past : List (JointEvent Device DeviceStep)) → IsDriverHistory wanted first past → (joint_state_after first past).abstract.machine ≡ after first.abstract.machine (steps_of (events_of past))
-  machine_is first past h = ap (λ (m : AbstractState). m.machine) (now_is first past) ∙ (laws.run_steps_are_legal first.abstract (events_of past) (history_runs wanted first past h)).2
+  machine_is first past h = ap (λ (m : AbstractState). m.machine) (now_is first past) ∙ (laws.run_steps_are_enabled first.abstract (events_of past) (history_runs wanted first past h)).2
 
   -- the machine of a history is reached
   pub history_reached : (first : JointState Device) (past : List (JointEvent Device DeviceStep)) → IsDriverHistory wanted first past → IsReachable (joint_state_after first past).abstract.machine
   history_reached first past h =
-      let run = laws.run_steps_are_legal first.abstract (events_of past) (history_runs wanted first past h) in
-      record { initial_machine = first.abstract.machine; steps_since = steps_of (events_of past); is_initial = run.0; is_legal = run.1; leads_to_machine = machine_is first past h }
+      let run = laws.run_steps_are_enabled first.abstract (events_of past) (history_runs wanted first past h) in
+      record { initial_machine = first.abstract.machine; steps_since = steps_of (events_of past); is_initial = run.0; steps_since_are_enabled = run.1; leads_to_machine = machine_is first past h }
 
   all_told : (first : JointState Device) (past : List (JointEvent Device DeviceStep)) → IsDriverHistory wanted first past → first.device.telling ≡ true → AllStepsFaithful first.abstract.machine (steps_of (events_of past))
   all_told first [] h tells = tt

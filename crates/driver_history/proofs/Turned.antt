@@ -13,10 +13,10 @@ use Rattle.adapter.specs.Device.{Device, DevicePort}
 use Rattle.adapter.specs.Rules.{IsOn}
 use Rattle.adapter.specs.declared.tape.Entry.{Entry}
 use Rattle.refinement.specs.Fragments.{TapeGrows}
-use Rattle.refinement.specs.Errors.{ErrorBitsRiseByErrors, IsFatalErrorOf, NoDiskComes, NoFatalErrors}
+use Rattle.refinement.specs.Errors.{ErrorBitsRiseByErrors, IsFatalEntryOf, NoDiskComes, NoFatalErrors}
 use Rattle.refinement.specs.PortFacts.{IsFaultOf}
 use Rattle.refinement.specs.PreservedParts.{HasDet3IfDiskPresent, IsPlugEvent, NoPlugEvents, DoesNotWrite}
-use Rattle.refinement.specs.Vacant.{HasFirstFisIfShown, IsVacant}
+use Rattle.refinement.specs.Vacant.{HasFirstFisIfDet3, IsVacant}
 use Rattle.block_machine.specs.Events.{AbstractState, AbstractCallResult, Service}
 use Rattle.block_machine.specs.Histories.{JointState}
 use Rattle.block_machine.specs.Ports.{Evidence, IsStoppedOrStuck, Ports, SamePort}
@@ -24,7 +24,7 @@ use Rattle.error_recovery.specs.Evidence.{GainsSinceStart, ShowsFatal}
 use Rattle.driver_history.specs.Evidence.{TapeGainsEntry, ShowsLinkChange, ShowsFailure}
 use Rattle.driver_history.specs.Histories.{BootsAnewWhereRequired, IsForeignOrUnfit, HasOnlyTaskFileError, HasFirstFisOrNoDevice, LosesNoPortError, RunsWellAnew, IsServedAndNotDead, ProbesDisk}
 use Rattle.driver_history.specs.Laws.{AccessLaws}
-use Rattle.driver_history.specs.PortTurn.{ForeignOrUnfitShowingXEndsNoLinkDue, HasTurnIn, IsOfOtherPort, EvidenceAgreesOn, call_accesses}
+use Rattle.driver_history.specs.PortTurn.{ForeignOrUnfitShowingXEndsNoLinkDue, HasTurnIn, KeepsToAnotherPort, EvidenceAgreesOn, call_accesses}
 use Rattle.driver_history.specs.AccessTrace.{ResetsLink}
 use Rattle.driver_history.proofs.Parting.{IsLeft, gains_within, grows_over, loss_then, others_leave, plugged_or_not}
 use Rattle.driver_history.proofs.Since.{calm_since, running_in_part}
@@ -41,10 +41,10 @@ gained_at Such old new before e later tape is = record {
   entry_is_of_kind = is;
 }
 
-fresh_or_gone : (p : DevicePort) → HasFirstFisIfShown p → HasFirstFisOrNoDevice p
+fresh_or_gone : (p : DevicePort) → HasFirstFisIfDet3 p → HasFirstFisOrNoDevice p
 fresh_or_gone p fresh = ⊎_elim (λ (shows : p.ssts_det ≡ 3). inl (fresh shows)) (λ gone. inr gone) (cases_eq p.ssts_det 3)
 
-fresh_if_shown : (p : DevicePort) → HasFirstFisOrNoDevice p → HasFirstFisIfShown p
+fresh_if_shown : (p : DevicePort) → HasFirstFisOrNoDevice p → HasFirstFisIfDet3 p
 fresh_if_shown p fresh shows = ⊎_elim (λ came. came) (λ gone. absurd (gone shows)) fresh
 
 module _ (laws : AccessLaws) (port : Port) where
@@ -96,8 +96,8 @@ module _ (laws : AccessLaws) (port : Port) where
     module _ (ended ports : Ports) (stays : SamePort ended ports port) where
       -- boots
 
-      spares_other : (accesses : List Access) → All (IsOfOtherPort port) accesses → All (DoesNotWrite (Px port Sctl)) accesses
-      spares_other accesses of = All-weaker (IsOfOtherPort port) (DoesNotWrite (Px port Sctl)) (λ access x. laws.one_port_spares_registers x.0 port Sctl x.1 access x.2) accesses of
+      spares_other : (accesses : List Access) → All (KeepsToAnotherPort port) accesses → All (DoesNotWrite (Px port Sctl)) accesses
+      spares_other accesses of = All-weaker (KeepsToAnotherPort port) (DoesNotWrite (Px port Sctl)) (λ access x. laws.one_port_spares_registers x.0 port Sctl x.1 access x.2) accesses of
 
       reset_in_call : ResetsLink port t.turn → ResetsLink port (call_accesses t)
       reset_in_call r = reset_within port t.before t.turn t.later (spares_other t.later t.later_are_of_others) r
@@ -154,7 +154,7 @@ module _ (laws : AccessLaws) (port : Port) where
 
       -- the disk's first FIS has come, or no device shows, at the call's end, where it has at the turn's
       fresh_still : NoDiskComes port.0 t.end new → HasFirstFisOrNoDevice (t.end.port port.0) → HasFirstFisOrNoDevice (new.port port.0)
-      fresh_still none fresh = fresh_or_gone (new.port port.0) (stays_over HasFirstFisIfShown (laws.first_fis_if_shown_stays_if_no_disk_comes port) t.later t.end new t.leads_to_new none (fresh_if_shown (t.end.port port.0) fresh))
+      fresh_still none fresh = fresh_or_gone (new.port port.0) (stays_over HasFirstFisIfDet3 (laws.first_fis_if_det_3_stays_if_no_disk_comes port) t.later t.end new t.leads_to_new none (fresh_if_shown (t.end.port port.0) fresh))
 
       pub tries_are_the_calls : SamePort old.abstract.ports begun.ports port → (IsForeignOrUnfit old.abstract.ports port → HasDet3IfDiskPresent (old.device.port port.0)) → ForeignOrUnfitShowingXEndsNoLinkDue port began ended t.end
           → (NoDiskComes port.0 t.start t.end → ProbesDisk t.turn began ended t.end port) → NoDiskComes port.0 old.device new → ProbesDisk (call_accesses t) old ports new port
@@ -196,9 +196,9 @@ module _ (laws : AccessLaws) (port : Port) where
           its = tried parts.1
 
           -- what is so of the disk's first FIS when the turn begins is so at the call's end
-          from_start : HasFirstFisIfShown (t.start.port port.0) → HasFirstFisOrNoDevice (new.port port.0)
+          from_start : HasFirstFisIfDet3 (t.start.port port.0) → HasFirstFisOrNoDevice (new.port port.0)
           from_start fresh = fresh_or_gone (new.port port.0)
-              (stays_over HasFirstFisIfShown (laws.first_fis_if_shown_stays_if_no_disk_comes port) t.later t.end new t.leads_to_new parts.2 (stays_over HasFirstFisIfShown (laws.first_fis_if_shown_stays_if_no_disk_comes port) t.turn t.start t.end t.turn_leads_to_end parts.1 fresh))
+              (stays_over HasFirstFisIfDet3 (laws.first_fis_if_det_3_stays_if_no_disk_comes port) t.later t.end new t.leads_to_new parts.2 (stays_over HasFirstFisIfDet3 (laws.first_fis_if_det_3_stays_if_no_disk_comes port) t.turn t.start t.end t.turn_leads_to_end parts.1 fresh))
 
           -- where no disk was in, none is when the turn begins
           vacant_then : IsForeignOrUnfit old.abstract.ports port → (old.device.port port.0).ssts_det ≢ 3 → IsVacant (t.start.port port.0)
@@ -304,13 +304,13 @@ module _ (laws : AccessLaws) (port : Port) where
             let up : ResetsLink port t.turn ⊎ ((t.start.port port.0).fresh ≡ true) = ⊎_elim (λ r. inl (reset_in_turn r)) (λ fresh. ⊎_elim (λ undue. inr (first.fresh undue parts.0 ∙ fresh)) (λ r. inl r) (linked is_ready)) how in
             laws.stays_well_if_undisturbed port.0 t.end new
             (laws.runs_on_after_accesses port t.later t.end new on_then t.leads_to_new
-            (All-weaker (IsOfOtherPort port) (DoesNotWrite Ghc) (λ access x. laws.one_port_spares_ghc x.0 access x.2) t.later t.later_are_of_others)
+            (All-weaker (KeepsToAnotherPort port) (DoesNotWrite Ghc) (λ access x. laws.one_port_spares_ghc x.0 access x.2) t.later t.later_are_of_others)
             (spares_other t.later t.later_are_of_others)
-            (All-weaker (IsOfOtherPort port) (DoesNotWrite (Px port Cmd)) (λ access x. laws.one_port_spares_registers x.0 port Cmd x.1 access x.2) t.later t.later_are_of_others))
+            (All-weaker (KeepsToAnotherPort port) (DoesNotWrite (Px port Cmd)) (λ access x. laws.one_port_spares_registers x.0 port Cmd x.1 access x.2) t.later t.later_are_of_others))
             (calm_since laws port.0 old.device t.end new (laws.tape.growth_is_transitive old.device t.start t.end first.grows middle) last.grows (omega (arith, same, small)) plugs unfailed unbroken)
             (its (unnamed i) is_ready parts.1
             (λ g. unfailed (running_in_part (IsFaultOf port.0) port.0 old.device t.start t.end new first.grows last.grows same g))
-            (λ g. unbroken (running_in_part (IsFatalErrorOf port.0) port.0 old.device t.start t.end new first.grows last.grows same g))
+            (λ g. unbroken (running_in_part (IsFatalEntryOf port.0) port.0 old.device t.start t.end new first.grows last.grows same g))
             up)
 
 -- ---- a plain request's fault

@@ -18,7 +18,7 @@ use Rattle.block_machine.specs.Steps.{Answer, AllTouched, HasGrant}
 use Rattle.port_control.specs.Engines.{Stops}
 use Rattle.error_recovery.specs.Evidence.{ShowsFatal}
 use Rattle.driver_history.specs.EvidenceHandling.{ToldOkOr, tells_fault}
-use Rattle.driver_history.specs.Evidence.{IsEndedReset, IsFaultTold, ShowedLossHadPlugEventOrEndsNeitherDeadNorUnchanged, StaysHealthy}
+use Rattle.driver_history.specs.Evidence.{IsEndedReset, IsFaultTold, HasEvidenceOfLoss, StaysHealthy}
 use Rattle.driver_history.specs.Histories.{ExplainsAccesses, FindsDoneInServiceOrTick, IssuesAllDue, TellsLonePlainFaultsUnlessDead}
 use Rattle.driver_history.specs.AccessTrace.{WritesNeitherCmdNorSctl}
 
@@ -50,7 +50,7 @@ AnswerJustified old h accesses e (outcome.DeviceError status error) =
     × Stops e.request.port accesses
 AnswerJustified old h accesses e outcome.Aborted = (e.issue_count ≡ 4) × (h.event.ports.state e.request.port ≡ Ready)
 AnswerJustified old h accesses e outcome.Unplugged =
-    ShowedLossHadPlugEventOrEndsNeitherDeadNorUnchanged e.request.port old h.event.ports h.device
+    HasEvidenceOfLoss e.request.port old h.event.ports h.device
 AnswerJustified old h accesses e outcome.PortDead = (h.event.ports.state e.request.port ≡ Dead)
     × (((h.device.port e.request.port.0).notes.engine_wait_count ≡ MOST_READINGS) ⊎ (IsOn h.device → ⊥))
 AnswerJustified old h accesses e outcome.Revoked = (HasGrant (abstract_after old.abstract h.event).machine e → ⊥)

@@ -10,7 +10,7 @@ use Rattle.adapter.specs.Device.{DevicePort, Device}
 use Rattle.adapter.specs.declared.access.DeviceStep.{DeviceStep}
 use Rattle.adapter.specs.declared.tape.Entry.{Entry}
 use Rattle.adapter.specs.declared.tape.Fault as tape_fault
-use Rattle.refinement.specs.Errors.{IsFatalErrorOf, NoDiskComes}
+use Rattle.refinement.specs.Errors.{IsFatalEntryOf, NoDiskComes}
 use Rattle.refinement.specs.PortFacts.{IsFaultOf, RunsWell, Undisturbed}
 use Rattle.refinement.specs.PreservedParts.{IsPlugEvent}
 use Rattle.refinement.specs.Slots.{ServesRequest}
@@ -88,19 +88,19 @@ pub record IsFaultTold (old : JointState Device) (new : Device) (accesses : List
 
 -- The port had told of a change, or showed no device, when the call began; a disk of it went or came in the call; or it
 -- ends the call neither dead nor ready with serial and size as when it was last ready.
-abbrev pub ShowedLossHadPlugEventOrEndsNeitherDeadNorUnchanged : Port → JointState Device → Ports → Device → Type 0
-ShowedLossHadPlugEventOrEndsNeitherDeadNorUnchanged port old ports new =
+abbrev pub HasEvidenceOfLoss : Port → JointState Device → Ports → Device → Type 0
+HasEvidenceOfLoss port old ports new =
     ShowsLinkChange (old.device.port port.0)
     ⊎ (((old.device.port port.0).ssts_det ≢ 3)
     ⊎ (TapeGainsEntry (IsPlugEvent port.0) old.device new
     ⊎ ((ports.state port ≢ Dead) × (ports.state port ≡ Ready → SameSerialAndSize old.abstract.ports ports port → ⊥))))
 
 -- It showed a change when the call began; or no device, and no disk came in the call.
-abbrev pub BeganWithLinkChangeOrNoDeviceAndNoneComes : Port → Device → Device → Type 0
-BeganWithLinkChangeOrNoDeviceAndNoneComes port old new = ShowsLinkChange (old.port port.0)
+abbrev pub ShowedLinkChangeOrNoDeviceAndNoneCame : Port → Device → Device → Type 0
+ShowedLinkChangeOrNoDeviceAndNoneCame port old new = ShowsLinkChange (old.port port.0)
     ⊎ (((old.port port.0).ssts_det ≢ 3) × NoDiskComes port.0 old new)
 
--- It was ready, and showed that when the call began, or a disk went or came in it.
+-- It was ready; and it showed a change, or no device, when the call began, or a disk went or came in it.
 abbrev pub ReadyPortShowedLossOrHadPlugEvent : Port → JointState Device → Device → Type 0
 ReadyPortShowedLossOrHadPlugEvent port old new = (old.abstract.ports.state port ≡ Ready)
     × (ShowsLinkChange (old.device.port port.0)
@@ -111,12 +111,12 @@ ReadyPortShowedLossOrHadPlugEvent port old new = (old.abstract.ports.state port 
 abbrev pub ReadyPortShowedOrHadFailure : Port → JointState Device → Device → Type 0
 ReadyPortShowedOrHadFailure port old new = (old.abstract.ports.state port ≡ Ready)
     × (ShowsFailure (old.device.port port.0)
-    ⊎ (TapeGainsEntry (IsFaultOf port.0) old.device new ⊎ TapeGainsEntry (IsFatalErrorOf port.0) old.device new))
+    ⊎ (TapeGainsEntry (IsFaultOf port.0) old.device new ⊎ TapeGainsEntry (IsFatalEntryOf port.0) old.device new))
 
 -- It was ready, and showed a fatal error then, or had one in the call.
 abbrev pub ReadyPortShowedOrHadFatalError : Port → JointState Device → Device → Type 0
 ReadyPortShowedOrHadFatalError port old new = (old.abstract.ports.state port ≡ Ready)
-    × (ShowsFatal (old.device.port port.0) ⊎ TapeGainsEntry (IsFatalErrorOf port.0) old.device new)
+    × (ShowsFatal (old.device.port port.0) ⊎ TapeGainsEntry (IsFatalEntryOf port.0) old.device new)
 
 -- ---- resets
 
@@ -141,9 +141,9 @@ pub record IsEvidencedOf (ask : AbstractCall DeviceStep) (said : AbstractCallRes
     (ports : Ports) (new : Device)
     (evidence : Evidence) (port : Port) : Type 0 where
   pub named_lost_showed_loss_or_changed : Contains evidence.lost port
-      → ShowedLossHadPlugEventOrEndsNeitherDeadNorUnchanged port old ports new
+      → HasEvidenceOfLoss port old ports new
   pub shown_loss_of_ready_is_named : old.abstract.ports.state port ≡ Ready
-      → BeganWithLinkChangeOrNoDeviceAndNoneComes port old.device new
+      → ShowedLinkChangeOrNoDeviceAndNoneCame port old.device new
       → Contains evidence.link_changed port
   pub named_link_changed_had_change_or_no_device : Contains evidence.link_changed port
       → ReadyPortShowedLossOrHadPlugEvent port old new

@@ -83,12 +83,12 @@ pub record ServicesReadyPort (old : AbstractState) (evidence : Evidence) (steps 
 
 -- A service serves a port that was ready when it began. A tick and a reset are bound by what they answer; and no other
 -- call stops a port, or gets one stuck.
-abbrev pub HandlesIfServiceElseOnlyTickOrResetStops : {D : Type 0} → Port → AbstractCall D → AbstractState → Evidence
+abbrev pub ServicesOrOnlyTickOrResetStops : {D : Type 0} → Port → AbstractCall D → AbstractState → Evidence
     → List Step
     → AbstractState
     → Type 0
-HandlesIfServiceElseOnlyTickOrResetStops port Service old evidence steps new =
+ServicesOrOnlyTickOrResetStops port Service old evidence steps new =
     old.ports.state port ≡ Ready → ServicesReadyPort old evidence steps new port
-HandlesIfServiceElseOnlyTickOrResetStops port Tick old evidence steps new = Unit {0}
-HandlesIfServiceElseOnlyTickOrResetStops port Reset old evidence steps new = Unit {0}
-HandlesIfServiceElseOnlyTickOrResetStops port ask old evidence steps new = IsStoppedOrStuck evidence port → ⊥
+ServicesOrOnlyTickOrResetStops port Tick old evidence steps new = Unit {0}
+ServicesOrOnlyTickOrResetStops port Reset old evidence steps new = Unit {0}
+ServicesOrOnlyTickOrResetStops port ask old evidence steps new = IsStoppedOrStuck evidence port → ⊥

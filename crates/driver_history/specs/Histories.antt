@@ -17,11 +17,11 @@ use Rattle.adapter.specs.Device.{DevicePort, Device}
 use Rattle.adapter.specs.Rules.{IsOn}
 use Rattle.adapter.specs.declared.access.DeviceStep.{DeviceStep}
 use Rattle.refinement.specs.Driver.{TapeBacksSteps}
-use Rattle.refinement.specs.Errors.{IsFatalErrorOf, NoDiskComes, NoFatalErrors}
+use Rattle.refinement.specs.Errors.{IsFatalEntryOf, NoDiskComes, NoFatalErrors}
 use Rattle.refinement.specs.PortFacts.{RunsWell, IsFaultOf}
 use Rattle.refinement.specs.PreservedParts.{IsPlugEvent, NoPlugEvents}
 use Rattle.refinement.specs.Slots.{ServesRequest}
-use Rattle.block_machine.specs.Events.{AbstractCall, Submit, StoreAt, LoadAt, Service, Tick, Reset, RevokeOf, StepDevice as Told, AbstractCallResult, Submitted, Stored, Loaded, Replied, WasReset, WasRevoked, Stepped, AbstractState, TimesOutAtTick, IsIssuedIn, issues_id, abstract_after}
+use Rattle.block_machine.specs.Events.{AbstractCall, Submit, StoreAt, LoadAt, Service, Tick, Reset, RevokeOf, StepDevice, AbstractCallResult, Submitted, Stored, Loaded, Replied, WasReset, WasRevoked, Stepped, AbstractState, TimesOutAtTick, IsIssuedIn, issues_id, abstract_after}
 use Rattle.block_machine.specs.DueRequests.{IsDue}
 use Rattle.block_machine.specs.Histories.{JointState, JointEvent, joint_state_after}
 use Rattle.block_machine.specs.Histories as histories
@@ -32,10 +32,10 @@ use Rattle.block_machine.specs.Steps.{Step, Answer}
 use Rattle.block_machine.specs.declared.due.QueueMode.{QueueMode}
 use Rattle.block_machine.specs.declared.due.Unanswered.{Unanswered}
 use Rattle.identify.specs.declared.wanted.Wanted.{Wanted}
-use Rattle.host_boot.specs.Resets.{SetsHrAndLastReads, WritesHrFirst}
+use Rattle.host_boot.specs.Resets.{BeginsWithReset, SetsHrAndPollsWhileSet}
 use Rattle.error_recovery.specs.Evidence.{GainsSinceStart, ShowsFatal}
-use Rattle.driver_history.specs.Evidence.{TapeGainsEntry, ShowsLinkChange, ShowsFailure, BeganWithLinkChangeOrNoDeviceAndNoneComes, IsEvidenced}
-use Rattle.driver_history.specs.EvidenceHandling.{HandlesIfServiceElseOnlyTickOrResetStops, OnlyFailedPortsRequeueIfService}
+use Rattle.driver_history.specs.Evidence.{TapeGainsEntry, ShowsLinkChange, ShowsFailure, ShowedLinkChangeOrNoDeviceAndNoneCame, IsEvidenced}
+use Rattle.driver_history.specs.EvidenceHandling.{ServicesOrOnlyTickOrResetStops, OnlyFailedPortsRequeueIfService}
 use Rattle.driver_history.specs.PortInvariants.{DriverInvariant}
 use Rattle.driver_history.specs.AccessTrace.{ReadsMasksBeforeCmdWrite, ResetsLink, UsesPortsAndNotGhc, StaysInDriverFrames, UsesPortRegistersOf}
 
@@ -67,12 +67,13 @@ HasAeAndIe d = IsOn d × (d.ie ≡ true)
 -- is revoked, if its port is ready, and else there is no access. A service, a tick and a reset make accesses: what the
 -- driver stores and loads in them lies in its own frames, and of ports' registers they use those of served ports
 -- alone, a service of those that aren't dead, and a tick of those that are hung. Neither a service nor a tick writes
--- GHC. A reset that ends leaves the adapter on; of one that doesn't, no more is seen than that (how often HR was read
--- is the server's own contract). Each other call makes none, a refused one among them.
+-- GHC. In a reset HR is set first, and then GHC alone is read, each time with HR one: in one that ends until HR is 0,
+-- before all else, and it leaves the adapter on; in one that doesn't, at last with HR one too, and that is all (how
+-- often is the server's own contract). Each other call makes none, a refused one among them.
 abbrev pub ExplainsAccesses : AbstractState → AbstractCall DeviceStep → AbstractCallResult → List Access → Device
     → Device
     → Type 0
-ExplainsAccesses now (Told step) (Stepped true) accesses old new = (accesses ≡ []) × DoesOrFailsStep step old new
+ExplainsAccesses now (StepDevice step) (Stepped true) accesses old new = (accesses ≡ []) × DoesOrFailsStep step old new
 ExplainsAccesses now (Submit r) (Submitted (Ok id)) accesses old new =
     DoesAll accesses old new × ((row : GrantRow) × IsNamed now.machine.rows r row
     × All (StoresOrWritesSactOrCi row.port) accesses)
@@ -90,10 +91,10 @@ ExplainsAccesses now Tick (Replied replies) accesses old new = DoesAll accesses 
 ExplainsAccesses now Reset (WasReset (Some replies)) accesses old new =
     DoesAll accesses old new × All StaysInDriverFrames accesses
     × All (UsesPortRegistersOf (IsPortServed now.ports)) accesses
-    × WritesHrFirst accesses
+    × BeginsWithReset accesses
     × HasAeAndIe new
 ExplainsAccesses now Reset (WasReset None) accesses old new = DoesAll accesses old new
-    × SetsHrAndLastReads true accesses
+    × SetsHrAndPollsWhileSet true accesses
 ExplainsAccesses now ask said accesses old new = (accesses ≡ []) × (new ≡ old)
 
 -- ---- what is issued
@@ -227,7 +228,7 @@ BootsAnewWhereRequired Tick said accesses old ports new port =
     TimesOutAtTick old.abstract port → (ports.state port ≡ Dead) ⊎ ResetsLink port accesses
 BootsAnewWhereRequired Service said accesses old ports new port =
     (old.abstract.ports.state port ≡ Ready → ShowsFatal (old.device.port port.0)
-    ⊎ BeganWithLinkChangeOrNoDeviceAndNoneComes port old.device new
+    ⊎ ShowedLinkChangeOrNoDeviceAndNoneCame port old.device new
     → (ports.state port ≡ Dead) ⊎ ((ports.state port ≡ Absent) ⊎ ResetsLink port accesses))
     × (SamePort old.abstract.ports ports port
     ⊎ ((ports.state port ≡ Dead) ⊎ ((ports.state port ≡ Absent) ⊎ ResetsLink port accesses)))
@@ -243,7 +244,7 @@ pub record LosesNoPortError (evidence : Evidence) (old : JointState Device) (por
     (port : Port) : Type 0 where
   pub ready_errors_are_handled_or_shown : old.abstract.ports.state port ≡ Ready
       → ShowsFailure (old.device.port port.0)
-      ⊎ (TapeGainsEntry (IsFaultOf port.0) old.device new ⊎ TapeGainsEntry (IsFatalErrorOf port.0) old.device new)
+      ⊎ (TapeGainsEntry (IsFaultOf port.0) old.device new ⊎ TapeGainsEntry (IsFatalEntryOf port.0) old.device new)
       → IsStoppedOrStuck evidence port ⊎ ShowsFailure (new.port port.0)
   pub changes_are_handled_or_shown_unless_dead : IsServedAndNotDead old.abstract.ports port
       → ShowsLinkChange (old.device.port port.0)
@@ -252,7 +253,7 @@ pub record LosesNoPortError (evidence : Evidence) (old : JointState Device) (por
   pub ready_shows_fault_since_start : ports.state port ≡ Ready
       → GainsSinceStart (IsFaultOf port.0) port.0 old.device new → (new.port port.0).is 30 ≡ true
   pub ready_shows_fatal_since_start : ports.state port ≡ Ready
-      → GainsSinceStart (IsFatalErrorOf port.0) port.0 old.device new → ShowsFatal (new.port port.0)
+      → GainsSinceStart (IsFatalEntryOf port.0) port.0 old.device new → ShowsFatal (new.port port.0)
   pub ready_shows_plug_event_since_start : ports.state port ≡ Ready
       → GainsSinceStart (IsPlugEvent port.0) port.0 old.device new → (new.port port.0).serr_n ≡ true
 
@@ -263,7 +264,7 @@ abbrev pub RunsWellAnew : Evidence → List Access → JointState Device → Por
 RunsWellAnew evidence accesses old ports new port =
     IsStoppedOrStuck evidence port → ports.state port ≡ Ready → NoPlugEvents port.0 old.device new
     → (GainsSinceStart (IsFaultOf port.0) port.0 old.device new → ⊥)
-    → (GainsSinceStart (IsFatalErrorOf port.0) port.0 old.device new → ⊥) → ResetsLink port accesses
+    → (GainsSinceStart (IsFatalEntryOf port.0) port.0 old.device new → ⊥) → ResetsLink port accesses
     ⊎ ((old.device.port port.0).fresh ≡ true) → RunsWell (new.port port.0)
 
 -- ---- one port's part in a call, and the whole
@@ -279,7 +280,7 @@ pub record PortCorresponds (old : JointState Device) (h : JointEvent Device Devi
   pub boots_anew : BootsAnewWhereRequired h.event.call h.event.result accesses old h.event.ports h.device port
   pub loses_no_error : LosesNoPortError h.event.evidence old h.event.ports h.device port
   pub runs_well_anew : RunsWellAnew h.event.evidence accesses old h.event.ports h.device port
-  pub handles_evidence : HandlesIfServiceElseOnlyTickOrResetStops port h.event.call old.abstract
+  pub handles_evidence : ServicesOrOnlyTickOrResetStops port h.event.call old.abstract
       h.event.evidence h.event.steps
       (abstract_after old.abstract h.event)
 
@@ -302,14 +303,15 @@ pub record CallCorresponds (wanted : List Wanted) (old : JointState Device)
     abstract = abstract_after old.abstract h.event;
   })
 
--- What a new server leaves is what holds at each instant, with the adapter on. (Its book is empty, since the machine is
--- a start.)
-abbrev pub IsFirstInstant : List Wanted → JointState Device → Type 0
-IsFirstInstant wanted first = DriverInvariant wanted first × HasAeAndIe first.device
+-- What a new server leaves is what holds at each instant, with the adapter on and its IE set. (Its book is empty, since
+-- the machine is a start.)
+abbrev pub HasDriverInvariantAeAndIe : List Wanted → JointState Device → Type 0
+HasDriverInvariantAeAndIe wanted first = DriverInvariant wanted first × HasAeAndIe first.device
 
 -- calls one after another, from what a new server left
 abbrev pub IsDriverHistory : List Wanted → JointState Device → List (JointEvent Device DeviceStep) → Type 0
-IsDriverHistory wanted first past = histories.IsHistory (IsFirstInstant wanted) (CallCorresponds wanted) first past
+IsDriverHistory wanted first past =
+    histories.IsHistory (HasDriverInvariantAeAndIe wanted) (CallCorresponds wanted) first past
 
 -- Of each call of a history and each port it holds of these four: the state before the call, the call, the state after
 -- it, and the port.

@@ -15,15 +15,15 @@ use Rattle.refinement.specs.Fragments.{IsDrivenBy, SparesOtherPorts, OnlyDeviceC
 use Rattle.refinement.specs.Errors.{ErrorBitsRiseByErrors, KeepsSetBitsOfPxisAndSerrNX, NoDiskComes, NoFaults, NoFatalErrors}
 use Rattle.refinement.specs.PortFacts.{RunsWell, Undisturbed}
 use Rattle.refinement.specs.PreservedParts.{ControlsChangeOnlyByTheirWrites, LinkIsSameOrComesUp, NoPlugEvents, DoesNotWrite}
-use Rattle.refinement.specs.Vacant.{HasFirstFisIfShown, IsVacant}
+use Rattle.refinement.specs.Vacant.{HasFirstFisIfDet3, IsVacant}
 use Rattle.error_recovery.specs.Evidence.{ShowsFatal}
 use Rattle.port_boot.specs.States.{StaysRunningIfUndisturbed}
 use Rattle.port_control.specs.Engines.{EngineFalls, EngineSticks}
 use Rattle.adapter.specs.RegisterEffects.{PortRegisterWritten}
 use Rattle.adapter.specs.declared.access.DeviceStep.{DeviceStep}
 use Rattle.block_machine.specs.Confinement.{IsConfined, WasAccepted}
-use Rattle.block_machine.specs.Events.{AbstractState, CallRecord, EveryReadHoldsExpected, IsRun, abstract_after_all, steps_of}
-use Rattle.block_machine.specs.Expected.{AllStepsFaithful, IsInitial, IsLegal, after}
+use Rattle.block_machine.specs.Events.{AbstractState, CallRecord, EveryReadHoldsExpected, IsRun, abstract_after_all, steps_of, AllEnabled}
+use Rattle.block_machine.specs.Expected.{AllStepsFaithful, IsInitial, after}
 use Rattle.block_machine.specs.State.{Block, Machine, Pending}
 use Rattle.block_machine.specs.Steps.{IsInBookOrKept, Step, Touch}
 
@@ -103,9 +103,9 @@ pub record AccessLaws : Type 0 where
       × ((new.port port.0).notes.st_set_at ≡ length new.tape)
   pub vacant_port_stays_vacant_if_no_disk_comes : (port : Port) (access : Access) (old new : Device)
       → NoDiskComes port.0 old new → Does access old new → IsVacant (old.port port.0) → IsVacant (new.port port.0)
-  pub first_fis_if_shown_stays_if_no_disk_comes : (port : Port) (access : Access) (old new : Device)
+  pub first_fis_if_det_3_stays_if_no_disk_comes : (port : Port) (access : Access) (old new : Device)
       → NoDiskComes port.0 old new → Does access old new
-      → HasFirstFisIfShown (old.port port.0) → HasFirstFisIfShown (new.port port.0)
+      → HasFirstFisIfDet3 (old.port port.0) → HasFirstFisIfDet3 (new.port port.0)
   pub runs_on_after_accesses : (port : Port) (accesses : List Access) (old new : Device) → IsOn old
       → DoesAll accesses old new
       → All (DoesNotWrite Ghc) accesses → All (DoesNotWrite (Px port Sctl)) accesses
@@ -115,8 +115,8 @@ pub record AccessLaws : Type 0 where
 
 -- What laws say of runs of calls, and of the steps that they make one after another.
 pub record RunLaws : Type 0 where
-  pub run_steps_are_legal : (first : AbstractState) (run : List (CallRecord DeviceStep)) → IsRun first run
-      → IsInitial first.machine × IsLegal first.machine (steps_of run)
+  pub run_steps_are_enabled : (first : AbstractState) (run : List (CallRecord DeviceStep)) → IsRun first run
+      → IsInitial first.machine × AllEnabled first.machine (steps_of run)
       × ((abstract_after_all first run).machine ≡ after first.machine (steps_of run))
   pub touches_are_confined : (first : AbstractState) (run : List (CallRecord DeviceStep)) (late early : List Step)
       (e : Pending)
@@ -129,5 +129,5 @@ pub record RunLaws : Type 0 where
       → AllStepsFaithful (after m early) late
       → AllStepsFaithful m (late ++ early)
   pub holders_were_accepted : (start : Machine) (history : List Step) (e : Pending) → IsInitial start
-      → IsLegal start history
+      → AllEnabled start history
       → IsInBookOrKept (after start history) e → WasAccepted start history e.request

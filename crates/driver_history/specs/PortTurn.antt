@@ -10,9 +10,9 @@ use Rattle.block_machine.specs.Histories.{JointState}
 use Rattle.block_machine.specs.Ports.{Evidence, Ports}
 use Rattle.driver_history.specs.Histories.{IsForeignOrUnfit}
 
--- the access is of another port: of ports' registers it touches that one's alone, and of IS that one's bit
-abbrev pub IsOfOtherPort : Port → Access → Type 0
-IsOfOtherPort port access = (other : Port) × (port.0 ≢ other.0) × SparesOtherPorts other access
+-- the access keeps to another port: of ports' registers it touches that one's alone, and of IS that one's bit
+abbrev pub KeepsToAnotherPort : Port → Access → Type 0
+KeepsToAnotherPort port access = (other : Port) × (port.0 ≢ other.0) × SparesOtherPorts other access
 
 -- A call's accesses are those before the port's turn, those of the turn, and those after it. But for the turn's, they
 -- are of other ports.
@@ -25,8 +25,8 @@ pub record HasTurnIn (port : Port) (old new : Device) : Type 0 where
   pub leads_to_start : DoesAll before old start
   pub turn_leads_to_end : DoesAll turn start end
   pub leads_to_new : DoesAll later end new
-  pub earlier_are_of_others : All (IsOfOtherPort port) before
-  pub later_are_of_others : All (IsOfOtherPort port) later
+  pub earlier_are_of_others : All (KeepsToAnotherPort port) before
+  pub later_are_of_others : All (KeepsToAnotherPort port) later
 
 -- all its accesses
 abbrev pub call_accesses : {port : Port} {old new : Device} → HasTurnIn port old new → List Access

@@ -15,7 +15,7 @@ use adapter::DeviceStep;
 use adapter::laws::law_asked_steps_are_transitions;
 use block_machine::laws::law_rows_shrink_and_owners_stay;
 use durability::laws::law_flushed_writes_survive_replug;
-use port_boot::laws::law_a_port_runs_on;
+use port_boot::laws::law_undisturbed_port_runs_on_if_controls_stay;
 use refinement::laws::law_plug_events_match_disk_changes;
 use refinement::port_facts::{
     law_device_never_owns_frames_out_of_use, law_running_well_stays_if_undisturbed,
@@ -39,7 +39,7 @@ pub fn law_histories_reach_their_machines()
 
 /// Where the adapter's disks tell their sectors, each read of a history that was answered Ok has, at the end of the
 /// call that answered it, what was left.
-pub fn law_reads_hold_if_disks_tell()
+pub fn law_ok_reads_hold_expected_if_disks_tell()
     ensures { (wanted : List Wanted) (first : JointState Device) (past : List (JointEvent Device DeviceStep))
         → IsDriverHistory wanted first past → first.device.telling ≡ true
         → EveryReadHoldsExpected first.abstract (events_of past) }
@@ -62,7 +62,7 @@ pub fn law_replugs_keep_flushed_if_disks_tell()
 /// that is lent to that request then, in the direction of its operation; the request was accepted, when it broke no
 /// rule, and is issued or kept. Each other move stays in its port's scratch frame. And sectors are cleared by a trim
 /// alone that was accepted so, and is issued or kept: its own.
-pub fn law_moves_keep_to_their_places()
+pub fn law_device_moves_and_clears_are_confined()
     ensures { (wanted : List Wanted) (first : JointState Device) (past : List (JointEvent Device DeviceStep))
         (h : JointEvent Device DeviceStep)
         → IsDriverHistory wanted first (h ∷ past)
@@ -121,7 +121,7 @@ pub fn law_healthy_calls_leave_ports_well()
     law_plug_events_match_disk_changes();
     law_asked_steps_are_transitions();
     law_running_well_stays_if_undisturbed();
-    law_a_port_runs_on();
+    law_undisturbed_port_runs_on_if_controls_stay();
 }
 
 /// Each answer of a history rests on what the device did and showed.
@@ -189,13 +189,13 @@ pub fn law_timeouts_undo_issues()
 /// before. The port is left alone, with ST one, and each answer is Ok, or Revoked where a grant is revoked; a
 /// service answers exactly the issued requests whose bits are clear in the masks that it read; and a call issues
 /// exactly what is due.
-pub fn law_healthy_calls_go_well()
+pub fn law_healthy_calls_tell_no_fault_and_issue_due()
     ensures { OfPortsInCalls (λ old h new port. IsHealthyFor old h port → GoesWellFor old h port) }
 {
     law_plug_events_match_disk_changes();
     law_asked_steps_are_transitions();
     law_running_well_stays_if_undisturbed();
-    law_a_port_runs_on();
+    law_undisturbed_port_runs_on_if_controls_stay();
 }
 
 /// On a port that is ready at the end of a submit, a service, a tick, a reset or a revocation, exactly what is due was
@@ -210,7 +210,7 @@ pub fn law_due_are_issued()
 /// ports; of a ready port, and of one that is named as lost, no link may be due when the call begins. So it is with a
 /// fault that stood on the tape before the port was stopped, and with the last page of the log that its disk sent,
 /// where it sends none after the turn.
-pub fn law_a_turns_evidence_is_the_calls()
+pub fn law_turn_evidence_holds_for_call()
     ensures evidence { (port : Port) (old : JointState Device) (begun : AbstractState) (ended ports : Ports)
         (new : Device)
         (turn call : Evidence)

@@ -4,10 +4,10 @@ ghost use Rattle.std.specs.Prelude.{ℕ, true, false, ◌≡◌, ◌⊎◌, ◌�
 ghost use Rattle.ata_types.specs.{declared.Port.{Port}, declared.PortState.TheVariants.{Ready}};
 ghost use Rattle.hba_regs.specs.declared.reg.Reg.TheVariants.{Ghc};
 ghost use Rattle.adapter.specs.{Access.{Access, DoesAll}, Device.{Device}, Rules.{IsOn}, Steps.{Steps}, declared.access.DeviceStep.{DeviceStep}};
-ghost use Rattle.refinement.specs.{Fragments.{TapeGrows}, Errors.{IsFatalErrorOf, NoDiskComes}, PortFacts.{IsFaultOf, Undisturbed}, PreservedParts.{HasDet3IfDiskPresent, NoPlugEvents, DoesNotWrite}};
+ghost use Rattle.refinement.specs.{Fragments.{TapeGrows}, Errors.{IsFatalEntryOf, NoDiskComes}, PortFacts.{IsFaultOf, Undisturbed}, PreservedParts.{HasDet3IfDiskPresent, NoPlugEvents, DoesNotWrite}};
 ghost use Rattle.block_machine.specs.{Events.{AbstractState, AbstractCallResult, Service}, Histories.{JointEvent, JointState, joint_state_after}, Ports.{Evidence, IsStoppedOrStuck, Ports, SamePort}};
 ghost use Rattle.error_recovery.specs.Evidence.{GainsSinceStart};
-ghost use Rattle.driver_history.specs.{Claims.{HandlesShownFailure, HandlesShownLoss}, Evidence.{ShowsLinkChange, ShowsFailure, BeganWithLinkChangeOrNoDeviceAndNoneComes}, Histories.{BootsAnewWhereRequired, IsForeignOrUnfit, HasOnlyTaskFileError, LosesNoPortError, OfPortsInCalls, RunsWellAnew, ProbesDisk}, PortTurn.{ForeignOrUnfitShowingXEndsNoLinkDue, HasTurnIn, EvidenceAgreesOn, call_accesses}, AccessTrace.{WritesOneToNoTroubleBit, ResetsLink}};
+ghost use Rattle.driver_history.specs.{Claims.{HandlesShownFailure, HandlesShownLoss}, Evidence.{ShowsLinkChange, ShowsFailure, ShowedLinkChangeOrNoDeviceAndNoneCame}, Histories.{BootsAnewWhereRequired, IsForeignOrUnfit, HasOnlyTaskFileError, LosesNoPortError, OfPortsInCalls, RunsWellAnew, ProbesDisk}, PortTurn.{ForeignOrUnfitShowingXEndsNoLinkDue, HasTurnIn, EvidenceAgreesOn, call_accesses}, AccessTrace.{WritesOneToNoTroubleBit, ResetsLink}};
 ghost use Rattle.identify.specs.declared.wanted.Wanted.{Wanted};
 ghost use Rattle.port_control.specs.Engines.{Stops};
 
@@ -27,7 +27,7 @@ pub fn law_services_heed_shown_failures()
 /// disk is gone, or that the port is dead, and the port was stopped.
 pub fn law_services_heed_shown_losses()
     ensures { OfPortsInCalls (λ old h new port. h.event.call ≡ Service → old.abstract.ports.state port ≡ Ready
-        → BeganWithLinkChangeOrNoDeviceAndNoneComes port old.device h.device → HandlesShownLoss port old h) }
+        → ShowedLinkChangeOrNoDeviceAndNoneCame port old.device h.device → HandlesShownLoss port old h) }
 {}
 
 /// Accesses that leave the adapter on, and clear no bit that tells of a port's trouble, lose none of it; nor does the
@@ -60,7 +60,7 @@ pub fn law_a_fault_alone_in_a_call_is_alone_in_a_turn()
 /// showed a failure, or a change of its link, when it began, and was ready then, or is at its end. So it is with boots,
 /// where no link of a ready port is due when the call begins; and with a port that runs well anew, where ST of one that
 /// is left ready was set by the turn's end, and no link of it was due when the call began, or the turn reset it.
-pub fn law_a_turns_errors_are_the_calls()
+pub fn law_turn_error_handling_holds_for_call()
     ensures loses_no_error { (port : Port) (old : JointState Device) (begun : AbstractState) (ended ports : Ports)
         (new : Device)
         (turn call : Evidence) → IsOn old.device
@@ -97,7 +97,7 @@ pub fn law_a_turns_errors_are_the_calls()
 /// Where a port's turn in a call probes its disk, the call does, if no disk was in a port with one that isn't served
 /// when the call began, or a device showed; and if no link is due at the turn's end of one that showed X. That is so at
 /// the call's end, too.
-pub fn law_a_turn_that_probes_a_disk_is_the_calls()
+pub fn law_turn_disk_probe_holds_for_call()
     ensures probes { (port : Port) (old : JointState Device) (begun : AbstractState) (ended ports : Ports)
         (new : Device)
         → IsOn old.device → (t : HasTurnIn port old.device new) → IsOn t.end → SamePort ended ports port
@@ -125,7 +125,7 @@ pub fn law_untroubled_since_st_is_undisturbed()
         → (new.port port).notes.st_set_at
         ≤ length mid.tape
         → NoPlugEvents port old new → (GainsSinceStart (IsFaultOf port) port old new → ⊥)
-        → (GainsSinceStart (IsFatalErrorOf port) port old new → ⊥) → Undisturbed port mid new }
+        → (GainsSinceStart (IsFatalEntryOf port) port old new → ⊥) → Undisturbed port mid new }
 {
     law_prerequisites();
 }
@@ -135,11 +135,11 @@ pub fn law_untroubled_since_st_is_undisturbed()
 pub fn law_a_fatal_error_of_a_part_is_of_the_whole()
     ensures { (port : ℕ) (old start end new : Device) → TapeGrows old start → TapeGrows end new
         → (new.port port).notes.st_set_at ≡ (end.port port).notes.st_set_at
-        → GainsSinceStart (IsFatalErrorOf port) port start end → GainsSinceStart (IsFatalErrorOf port) port old new }
+        → GainsSinceStart (IsFatalEntryOf port) port start end → GainsSinceStart (IsFatalEntryOf port) port old new }
 {}
 
 /// Where accesses that leave the adapter on stopped a port, and its ST is one after them, it was set since they began.
-pub fn law_st_of_a_stopped_port_was_set_since()
+pub fn law_st_after_a_stop_was_set_since()
     ensures { (port : Port) (accesses : List Access) (old new : Device) → IsOn old → All (DoesNotWrite Ghc) accesses
         → DoesAll accesses old new → Stops port accesses → (new.port port.0).st ≡ true
         → length old.tape ≤ (new.port port.0).notes.st_set_at }

@@ -9,15 +9,15 @@ use Rattle.ata_types.specs.declared.request.Outcome.TheVariants.{Ok, DeviceError
 use Rattle.block_machine.specs.State.{Block, DiskBytes, Accepted, Pending, Machine, sector_of, block_written}
 use Rattle.block_machine.specs.DueRequests.{is_flush, changes_sectors}
 use Rattle.block_machine.specs.Steps.{Step, Accept, Issue, Touch, End, Age, WaitAgain, Answer, Release, Revoke, Unplug, PlugDisk, Store, Load, IsEnabled, MayStillMove, after_step, update_pending, newly_issued, touch, mark_ended, requeued, aged_pending, newly_accepted, put_sector, SameBytes, HoldsOrHeldSinceFlush}
-use Rattle.block_machine.specs.Expected.{after, IsLegal, IsInitial, IsAccept, IsTouch, HasTouched, plug_count}
+use Rattle.block_machine.specs.Expected.{after, IsInitial, IsAccept, IsTouch, HasTouched, plug_count}
 use Rattle.durability.specs.Durable.{AnswersOk, unplugs_disk_of, plugs_other_disk, WriteAcceptedSinceLastUnplug, WriteOkSinceLastUnplug, FlushAcceptedAfterOkWrite, FlushOkAfterOkWriteOnSameDisk, IsWrittenByOrAfterOnAnyDisk, ReplugFindsFlushedOrLater, EveryReplugFindsFlushedOrLater}
 use Rattle.block_machine.proofs.Members.{map_in, at_cases, without_in, append_in}
 use Rattle.block_machine.proofs.Sound.{Sound}
 use Rattle.block_machine.proofs.Keeps.{older_keeps, older_touched}
 use Rattle.block_machine.proofs.Trace.{Seen, seen_touch, lives_one, runs_lives, conflict_at}
 use Rattle.block_machine.proofs.Runs.{traced}
-use Rattle.block_machine.specs.Events.{AbstractState, CallRecord, IsRun, steps_of}
-use Rattle.block_machine.proofs.EventLemmas.{IsWhole, AllWhole, run_starts, run_legal, run_whole}
+use Rattle.block_machine.specs.Events.{AbstractState, CallRecord, IsRun, steps_of, AllEnabled}
+use Rattle.block_machine.proofs.EventLemmas.{IsWhole, AllWhole, run_starts, run_steps_are_enabled, run_whole}
 use Rattle.block_machine.specs.Histories.{joint_state_after}
 
 -- From this step on the bytes of the port's disk last: a flush of it is ended, or another disk is put in.
@@ -219,19 +219,19 @@ none_other m step port may here = false_from_ne_true _ (λ t. both_ways _ (other
 absent_here : (m : Machine) (port : Port) → m.present port ≡ true → m.present port ≡ false → ⊥
 absent_here m port a b = both_ways _ b a
 
-stage_step : (start : Machine) (step : Step) (past : List Step) (w : Accepted) (k : ℕ) → IsInitial start → IsLegal start (step ∷ past) → changes_sectors w.asked.op ≡ true
+stage_step : (start : Machine) (step : Step) (past : List Step) (w : Accepted) (k : ℕ) → IsInitial start → AllEnabled start (step ∷ past) → changes_sectors w.asked.op ≡ true
     → unplugs_disk_of w.port step ≡ false → Stage start past w k → Stage start (step ∷ past) w k
-stage_step start step past w k s legal writes out g = record {
-  here = stays_in (after start past) step w.port legal.1 out g.here;
-  inside = subst (λ (n : ℕ). k < n) (sym (sizes_stay (after start past) step w.port legal.1 (none_other (after start past) step w.port legal.1 g.here))) g.inside;
+stage_step start step past w k s enabled writes out g = record {
+  here = stays_in (after start past) step w.port enabled.1 out g.here;
+  inside = subst (λ (n : ℕ). k < n) (sym (sizes_stay (after start past) step w.port enabled.1 (none_other (after start past) step w.port enabled.1 g.here))) g.inside;
   disk = g.disk;
   touched = inr g.touched;
   since = ⊎_elim
       (λ (idle : IsIdle (after start past) step w.port k). since_same w k (step ∷ past) _ _ idle.same (since_more w k step past _ g.since))
       (λ (x : IsWritten (after start past) step w.port k ⊎ IsReplaced (after start past) step w.port). ⊎_elim
-      (λ (t : IsWritten (after start past) step w.port k). since_written (after start past) step past w k ((traced start past s legal.0).seen w k g.disk g.touched) writes t)
+      (λ (t : IsWritten (after start past) step w.port k). since_written (after start past) step past w k ((traced start past s enabled.0).seen w k g.disk g.touched) writes t)
       (λ (r : IsReplaced (after start past) step w.port). absurd (absent_here (after start past) w.port g.here r.absent)) x)
-      (effect (after start past) step w.port k legal.1);
+      (effect (after start past) step w.port k enabled.1);
 }
 
 -- the step is a touch of sector number i by this request
@@ -280,25 +280,25 @@ came m (Store client frame offset bytes) may s x i hx t = inl (x, hx, refl, t)
 came m (Load client frame offset bytes) may s x i hx t = inl (x, hx, refl, t)
 
 -- a writer that touches its sector number i now
-stage_now : (start : Machine) (step : Step) (past : List Step) (w : Accepted) (i : ℕ) → IsInitial start → IsLegal start (step ∷ past) → changes_sectors w.asked.op ≡ true → unplugs_disk_of w.port step ≡ false
+stage_now : (start : Machine) (step : Step) (past : List Step) (w : Accepted) (i : ℕ) → IsInitial start → AllEnabled start (step ∷ past) → changes_sectors w.asked.op ≡ true → unplugs_disk_of w.port step ≡ false
     → IsTouchAt step w i → Stage start (step ∷ past) w (w.asked.first.0 + i)
-stage_now start (Touch e n block) past w i s legal writes out t =
+stage_now start (Touch e n block) past w i s enabled writes out t =
     let k : ℕ = w.asked.first.0 + i in
     let touched : IsTouch (Touch e n block) w k = (t.0, ap (λ (x : ℕ). sector_of w x) t.1) in
-    let here : (after start past).present w.port ≡ true = ap (λ (j : Accepted). (after start past).present j.port) (sym t.0) ∙ legal.1.2 in
+    let here : (after start past).present w.port ≡ true = ap (λ (j : Accepted). (after start past).present j.port) (sym t.0) ∙ enabled.1.2 in
     record {
       here = here;
-      inside = subst (λ (x : ℕ). x < (after start past).sizes w.port) touched.1 (subst (λ (j : Accepted). sector_of j n < (after start past).sizes j.port) t.0 legal.1.3);
+      inside = subst (λ (x : ℕ). x < (after start past).sizes w.port) touched.1 (subst (λ (j : Accepted). sector_of j n < (after start past).sizes j.port) t.0 enabled.1.3);
       disk = plug_count w.port past;
       touched = inl (touched, refl);
       since = ⊎_elim
           (λ (idle : IsIdle (after start past) (Touch e n block) w.port k). absurd (idle.quiet w writes refl touched))
           (λ (x : IsWritten (after start past) (Touch e n block) w.port k ⊎ IsReplaced (after start past) (Touch e n block) w.port). ⊎_elim
-          (λ (q : IsWritten (after start past) (Touch e n block) w.port k). since_written (after start past) (Touch e n block) past w k (seen_touch (after start past) (Touch e n block) legal.1 (traced start past s legal.0).sound w k touched) writes q)
+          (λ (q : IsWritten (after start past) (Touch e n block) w.port k). since_written (after start past) (Touch e n block) past w k (seen_touch (after start past) (Touch e n block) enabled.1 (traced start past s enabled.0).sound w k touched) writes q)
           (λ (q : IsReplaced (after start past) (Touch e n block) w.port). absurd q.step_is) x)
-          (effect (after start past) (Touch e n block) w.port k legal.1);
+          (effect (after start past) (Touch e n block) w.port k enabled.1);
     }
-stage_now start _ past w i s legal writes out t = absurd t
+stage_now start _ past w i s enabled writes out t = absurd t
 
 answer_ok : (step : Step) (w : Accepted) → AnswersOk step w → (e : Pending) × (step ≡ Answer e Ok) × (e.request ≡ w)
 answer_ok (Answer e Ok) w t = (e, refl, t)
@@ -334,30 +334,30 @@ new_entry m step w may s t x hx same =
     (append_in m.book (newly_accepted w) x (subst (λ (y : Step). Contains (after_step m y).book x) e hx))
 
 -- Each sector that an accepted writer touched is at its stage, while no disk was taken out.
-accepted_stage : (start : Machine) (h : List Step) (w : Accepted) → IsInitial start → IsLegal start h → changes_sectors w.asked.op ≡ true → WriteAcceptedSinceLastUnplug w h
+accepted_stage : (start : Machine) (h : List Step) (w : Accepted) → IsInitial start → AllEnabled start h → changes_sectors w.asked.op ≡ true → WriteAcceptedSinceLastUnplug w h
     → (x : Pending) → Contains (after start h).book x → x.request ≡ w → (i : ℕ) → x.touched i ≡ true → Stage start h w (w.asked.first.0 + i)
-accepted_stage start [] w s legal writes a x hx same i t = absurd a
-accepted_stage start (step ∷ past) w s legal writes (inl a) x hx same i t =
-    let p = new_entry (after start past) step w legal.1 (traced start past s legal.0).sound a x hx same in
+accepted_stage start [] w s enabled writes a x hx same i t = absurd a
+accepted_stage start (step ∷ past) w s enabled writes (inl a) x hx same i t =
+    let p = new_entry (after start past) step w enabled.1 (traced start past s enabled.0).sound a x hx same in
     absurd (false≢true (subst (λ (y : Pending). y.touched i ≡ true) p t))
-accepted_stage start (step ∷ past) w s legal writes (inr a) x hx same i t = ⊎_elim
+accepted_stage start (step ∷ past) w s enabled writes (inr a) x hx same i t = ⊎_elim
     (λ (o : (o : Pending) × Contains (after start past).book o × (x.request ≡ o.request) × (o.touched i ≡ true)).
-    stage_step start step past w (w.asked.first.0 + i) s legal writes a.0 (accepted_stage start past w s legal.0 writes a.1 o.0 o.1 (sym o.2 ∙ same) i o.3))
-    (λ (q : IsTouchAt step x.request i). stage_now start step past w i s legal writes a.0 (subst (λ (j : Accepted). IsTouchAt step j i) same q))
-    (came (after start past) step legal.1 (traced start past s legal.0).sound x i hx t)
+    stage_step start step past w (w.asked.first.0 + i) s enabled writes a.0 (accepted_stage start past w s enabled.0 writes a.1 o.0 o.1 (sym o.2 ∙ same) i o.3))
+    (λ (q : IsTouchAt step x.request i). stage_now start step past w i s enabled writes a.0 (subst (λ (j : Accepted). IsTouchAt step j i) same q))
+    (came (after start past) step enabled.1 (traced start past s enabled.0).sound x i hx t)
 
-stored_stage : (start : Machine) (h : List Step) (w : Accepted) → IsInitial start → IsLegal start h → AllWhole h → changes_sectors w.asked.op ≡ true → WriteOkSinceLastUnplug w h → (i : ℕ) → i < w.asked.count → Stage start h w (w.asked.first.0 + i)
-stored_stage start [] w s legal whole writes a i lt = absurd a
-stored_stage start (step ∷ past) w s legal whole writes (inl a) i lt =
-    let e = ok_entry (after start past) step w legal.1 whole.1 a.0 in
-    stage_step start step past w (w.asked.first.0 + i) s legal writes (ok_out w.port step w a.0)
-    (accepted_stage start past w s legal.0 writes a.1 e.0 e.1 e.2 i (e.3 i lt))
-stored_stage start (step ∷ past) w s legal whole writes (inr a) i lt = stage_step start step past w (w.asked.first.0 + i) s legal writes a.0 (stored_stage start past w s legal.0 whole.0 writes a.1 i lt)
+stored_stage : (start : Machine) (h : List Step) (w : Accepted) → IsInitial start → AllEnabled start h → AllWhole h → changes_sectors w.asked.op ≡ true → WriteOkSinceLastUnplug w h → (i : ℕ) → i < w.asked.count → Stage start h w (w.asked.first.0 + i)
+stored_stage start [] w s enabled whole writes a i lt = absurd a
+stored_stage start (step ∷ past) w s enabled whole writes (inl a) i lt =
+    let e = ok_entry (after start past) step w enabled.1 whole.1 a.0 in
+    stage_step start step past w (w.asked.first.0 + i) s enabled writes (ok_out w.port step w a.0)
+    (accepted_stage start past w s enabled.0 writes a.1 e.0 e.1 e.2 i (e.3 i lt))
+stored_stage start (step ∷ past) w s enabled whole writes (inr a) i lt = stage_step start step past w (w.asked.first.0 + i) s enabled writes a.0 (stored_stage start past w s enabled.0 whole.0 writes a.1 i lt)
 
-asked_stage : (start : Machine) (h : List Step) (w flush : Accepted) → IsInitial start → IsLegal start h → AllWhole h → changes_sectors w.asked.op ≡ true → FlushAcceptedAfterOkWrite w flush h → (i : ℕ) → i < w.asked.count → Stage start h w (w.asked.first.0 + i)
-asked_stage start [] w flush s legal whole writes a i lt = absurd a
-asked_stage start (step ∷ past) w flush s legal whole writes (inl a) i lt = stage_step start step past w (w.asked.first.0 + i) s legal writes (accept_out w.port step flush a.0) (stored_stage start past w s legal.0 whole.0 writes a.1 i lt)
-asked_stage start (step ∷ past) w flush s legal whole writes (inr a) i lt = stage_step start step past w (w.asked.first.0 + i) s legal writes a.0 (asked_stage start past w flush s legal.0 whole.0 writes a.1 i lt)
+asked_stage : (start : Machine) (h : List Step) (w flush : Accepted) → IsInitial start → AllEnabled start h → AllWhole h → changes_sectors w.asked.op ≡ true → FlushAcceptedAfterOkWrite w flush h → (i : ℕ) → i < w.asked.count → Stage start h w (w.asked.first.0 + i)
+asked_stage start [] w flush s enabled whole writes a i lt = absurd a
+asked_stage start (step ∷ past) w flush s enabled whole writes (inl a) i lt = stage_step start step past w (w.asked.first.0 + i) s enabled writes (accept_out w.port step flush a.0) (stored_stage start past w s enabled.0 whole.0 writes a.1 i lt)
+asked_stage start (step ∷ past) w flush s enabled whole writes (inr a) i lt = stage_step start step past w (w.asked.first.0 + i) s enabled writes a.0 (asked_stage start past w flush s enabled.0 whole.0 writes a.1 i lt)
 
 -- Every block that the sector held since the last flush is w's or a later one.
 record Lasts (start : Machine) (h : List Step) (w : Accepted) (k : ℕ) : Type 0 where
@@ -383,10 +383,10 @@ same_disk start past (PlugDisk p i n d) port k id size disk may back other insid
     (subst (λ (x : Port). HeldSince start x k (d k) past) t.0 (back named' k (omega (arith, large, inside))))
 same_disk start past _ port k id size disk may back other inside t = absurd t
 
-lasts_step : (start : Machine) (step : Step) (past : List Step) (w : Accepted) (k : ℕ) → IsInitial start → IsLegal start (step ∷ past) → changes_sectors w.asked.op ≡ true
+lasts_step : (start : Machine) (step : Step) (past : List Step) (w : Accepted) (k : ℕ) → IsInitial start → AllEnabled start (step ∷ past) → changes_sectors w.asked.op ≡ true
     → ComesBack start past step → plugs_other_disk (after start past) w.port step ≡ false → Lasts start past w k → Lasts start (step ∷ past) w k
-lasts_step start step past w k s legal writes back other g = record {
-  inside = subst (λ (n : ℕ). k < n) (sym (sizes_stay (after start past) step w.port legal.1 other)) g.inside;
+lasts_step start step past w k s enabled writes back other g = record {
+  inside = subst (λ (n : ℕ). k < n) (sym (sizes_stay (after start past) step w.port enabled.1 other)) g.inside;
   disk = g.disk;
   touched = inr g.touched;
   since = λ block held. ⊎_elim
@@ -399,10 +399,10 @@ lasts_step start step past w k s legal writes back other g = record {
     current = ⊎_elim
         (λ (idle : IsIdle (after start past) step w.port k). since_same w k (step ∷ past) _ _ idle.same (since_more w k step past _ (g.since _ (held_now start w.port k past))))
         (λ (x : IsWritten (after start past) step w.port k ⊎ IsReplaced (after start past) step w.port). ⊎_elim
-        (λ (t : IsWritten (after start past) step w.port k). since_written (after start past) step past w k ((traced start past s legal.0).seen w k g.disk g.touched) writes t)
+        (λ (t : IsWritten (after start past) step w.port k). since_written (after start past) step past w k ((traced start past s enabled.0).seen w k g.disk g.touched) writes t)
         (λ (r : IsReplaced (after start past) step w.port). since_same w k (step ∷ past) _ (r.disk k) (ap (λ (d : DiskBytes). d k) r.is)
-        (since_more w k step past (r.disk k) (g.since (r.disk k) (same_disk start past step w.port k r.id r.size r.disk legal.1 back other g.inside r.step_is)))) x)
-        (effect (after start past) step w.port k legal.1)
+        (since_more w k step past (r.disk k) (g.since (r.disk k) (same_disk start past step w.port k r.id r.size r.disk enabled.1 back other g.inside r.step_is)))) x)
+        (effect (after start past) step w.port k enabled.1)
 
 abbrev IsEnd : Step → Accepted → Type 0
 IsEnd (End e) request = e.request ≡ request
@@ -462,47 +462,47 @@ lasts_end start (End e) past w flush k port op t g = record {
 }
 lasts_end start _ past w flush k port op t g = absurd t
 
-asked_lasts : (start : Machine) (h : List Step) (w flush : Accepted) → IsInitial start → IsLegal start h → AllWhole h → IsVolatile start h → changes_sectors w.asked.op ≡ true → flush.port ≡ w.port → flush.asked.op ≡ Flush
+asked_lasts : (start : Machine) (h : List Step) (w flush : Accepted) → IsInitial start → AllEnabled start h → AllWhole h → IsVolatile start h → changes_sectors w.asked.op ≡ true → flush.port ≡ w.port → flush.asked.op ≡ Flush
     → FlushAcceptedAfterOkWrite w flush h → (x : Pending) → Contains (after start h).book x → x.request ≡ flush → x.ended ≡ true → (i : ℕ) → i < w.asked.count → Lasts start h w (w.asked.first.0 + i)
-asked_lasts start [] w flush s legal whole back writes port op a x hx same t i lt = absurd a
-asked_lasts start (step ∷ past) w flush s legal whole back writes port op (inl a) x hx same t i lt =
-    let p = new_entry (after start past) step flush legal.1 (traced start past s legal.0).sound a.0 x hx same in
+asked_lasts start [] w flush s enabled whole back writes port op a x hx same t i lt = absurd a
+asked_lasts start (step ∷ past) w flush s enabled whole back writes port op (inl a) x hx same t i lt =
+    let p = new_entry (after start past) step flush enabled.1 (traced start past s enabled.0).sound a.0 x hx same in
     absurd (false≢true (subst (λ (y : Pending). y.ended ≡ true) p t))
-asked_lasts start (step ∷ past) w flush s legal whole back writes port op (inr a) x hx same t i lt = ⊎_elim
+asked_lasts start (step ∷ past) w flush s enabled whole back writes port op (inr a) x hx same t i lt = ⊎_elim
     (λ (o : (o : Pending) × Contains (after start past).book o × (x.request ≡ o.request) × (o.ended ≡ true)).
-    lasts_step start step past w (w.asked.first.0 + i) s legal writes back.1
-    (none_other (after start past) step w.port legal.1 (asked_stage start past w flush s legal.0 whole.0 writes a.1 i lt).here)
-    (asked_lasts start past w flush s legal.0 whole.0 back.0 writes port op a.1 o.0 o.1 (sym o.2 ∙ same) o.3 i lt))
+    lasts_step start step past w (w.asked.first.0 + i) s enabled writes back.1
+    (none_other (after start past) step w.port enabled.1 (asked_stage start past w flush s enabled.0 whole.0 writes a.1 i lt).here)
+    (asked_lasts start past w flush s enabled.0 whole.0 back.0 writes port op a.1 o.0 o.1 (sym o.2 ∙ same) o.3 i lt))
     (λ (q : IsEnd step x.request). lasts_end start step past w flush (w.asked.first.0 + i) port op (subst (λ (j : Accepted). IsEnd step j) same q)
-    (stage_step start step past w (w.asked.first.0 + i) s legal writes a.0 (asked_stage start past w flush s legal.0 whole.0 writes a.1 i lt)))
-    (ended (after start past) step legal.1 (traced start past s legal.0).sound x hx t)
+    (stage_step start step past w (w.asked.first.0 + i) s enabled writes a.0 (asked_stage start past w flush s enabled.0 whole.0 writes a.1 i lt)))
+    (ended (after start past) step enabled.1 (traced start past s enabled.0).sound x hx t)
 
 ok_other : (m : Machine) (port : Port) (step : Step) (w : Accepted) → AnswersOk step w → plugs_other_disk m port step ≡ false
 ok_other m port step w ok = let r = answer_ok step w ok in ap (plugs_other_disk m port) r.1
 
-flushed_lasts : (start : Machine) (h : List Step) (w flush : Accepted) → IsInitial start → IsLegal start h → AllWhole h → IsVolatile start h → changes_sectors w.asked.op ≡ true → flush.port ≡ w.port → flush.asked.op ≡ Flush
+flushed_lasts : (start : Machine) (h : List Step) (w flush : Accepted) → IsInitial start → AllEnabled start h → AllWhole h → IsVolatile start h → changes_sectors w.asked.op ≡ true → flush.port ≡ w.port → flush.asked.op ≡ Flush
     → FlushOkAfterOkWriteOnSameDisk start w flush h → (i : ℕ) → i < w.asked.count → Lasts start h w (w.asked.first.0 + i)
-flushed_lasts start [] w flush s legal whole back writes port op a i lt = absurd a
-flushed_lasts start (step ∷ past) w flush s legal whole back writes port op (inl a) i lt =
-    let e = ok_entry (after start past) step flush legal.1 whole.1 a.0 in
-    lasts_step start step past w (w.asked.first.0 + i) s legal writes back.1 (ok_other (after start past) w.port step flush a.0)
-    (asked_lasts start past w flush s legal.0 whole.0 back.0 writes port op a.1 e.0 e.1 e.2 e.4 i lt)
-flushed_lasts start (step ∷ past) w flush s legal whole back writes port op (inr a) i lt =
-    lasts_step start step past w (w.asked.first.0 + i) s legal writes back.1 a.0 (flushed_lasts start past w flush s legal.0 whole.0 back.0 writes port op a.1 i lt)
+flushed_lasts start [] w flush s enabled whole back writes port op a i lt = absurd a
+flushed_lasts start (step ∷ past) w flush s enabled whole back writes port op (inl a) i lt =
+    let e = ok_entry (after start past) step flush enabled.1 whole.1 a.0 in
+    lasts_step start step past w (w.asked.first.0 + i) s enabled writes back.1 (ok_other (after start past) w.port step flush a.0)
+    (asked_lasts start past w flush s enabled.0 whole.0 back.0 writes port op a.1 e.0 e.1 e.2 e.4 i lt)
+flushed_lasts start (step ∷ past) w flush s enabled whole back writes port op (inr a) i lt =
+    lasts_step start step past w (w.asked.first.0 + i) s enabled writes back.1 a.0 (flushed_lasts start past w flush s enabled.0 whole.0 back.0 writes port op a.1 i lt)
 
 -- a disk that comes back has the writes that were flushed
-finds : (start : Machine) (past : List Step) (step : Step) → IsInitial start → IsLegal start (step ∷ past) → AllWhole past → IsVolatile start (step ∷ past) → ReplugFindsFlushedOrLater start past step
-finds start past (PlugDisk port id size disk) s legal whole back = λ same w flush here f i lt.
-    let lasts = flushed_lasts start past w flush s legal.0 whole back.0 f.op_changes_sectors f.flush_port_is f.flush_is f.flush_is_ok_after_write i lt in
+finds : (start : Machine) (past : List Step) (step : Step) → IsInitial start → AllEnabled start (step ∷ past) → AllWhole past → IsVolatile start (step ∷ past) → ReplugFindsFlushedOrLater start past step
+finds start past (PlugDisk port id size disk) s enabled whole back = λ same w flush here f i lt.
+    let lasts = flushed_lasts start past w flush s enabled.0 whole back.0 f.op_changes_sectors f.flush_port_is f.flush_is f.flush_is_ok_after_write i lt in
     let inside : sector_of w i < (after start past).sizes port = subst (λ (p : Port). sector_of w i < (after start past).sizes p) here lasts.inside in
-    let large = legal.1.1 same in
+    let large = enabled.1.1 same in
     lasts.since (disk (sector_of w i)) (subst (λ (p : Port). HeldSince start p (sector_of w i) (disk (sector_of w i)) past) (sym here) (back.1 same (sector_of w i) (omega (arith, inside, large))))
-finds start past _ s legal whole back = tt
+finds start past _ s enabled whole back = tt
 
-pub law_flushed_writes_survive_replug : (start : Machine) (h : List Step) → IsInitial start → IsLegal start h → AllWhole h → IsVolatile start h → EveryReplugFindsFlushedOrLater start h
-law_flushed_writes_survive_replug start [] s legal whole back = tt
-law_flushed_writes_survive_replug start (step ∷ past) s legal whole back = (law_flushed_writes_survive_replug start past s legal.0 whole.0 back.0, finds start past step s legal whole.0 back)
+pub law_flushed_writes_survive_replug : (start : Machine) (h : List Step) → IsInitial start → AllEnabled start h → AllWhole h → IsVolatile start h → EveryReplugFindsFlushedOrLater start h
+law_flushed_writes_survive_replug start [] s enabled whole back = tt
+law_flushed_writes_survive_replug start (step ∷ past) s enabled whole back = (law_flushed_writes_survive_replug start past s enabled.0 whole.0 back.0, finds start past step s enabled whole.0 back)
 
 -- a disk that comes back in a run has the writes that were flushed
 pub run_finds : {D : Type 0} (first : AbstractState) (run : List (CallRecord D)) → IsRun first run → IsVolatile first.machine (steps_of run) → EveryReplugFindsFlushedOrLater first.machine (steps_of run)
-run_finds first run r back = law_flushed_writes_survive_replug first.machine (steps_of run) (run_starts first run r) (run_legal first run r) (run_whole first run r) back
+run_finds first run r back = law_flushed_writes_survive_replug first.machine (steps_of run) (run_starts first run r) (run_steps_are_enabled first run r) (run_whole first run r) back

@@ -17,7 +17,7 @@ use Rattle.adapter.specs.Steps.{device_after}
 use Rattle.adapter.specs.Steps.DeviceTransition.{Fatal, Fall}
 use Rattle.refinement.specs.Relation.{port_at}
 use Rattle.refinement.specs.Fragments.{AnySlotStates, SomeMachineAgrees, ReadsPortOrWrites, IsSimulatedAlong}
-use Rattle.refinement.specs.Driver.{SetsStOnlyIfStOrFreeAndFreOnlyInPlace, KeepsOtherCmdBits}
+use Rattle.refinement.specs.Driver.{StAndFreBitsMayBeWritten, KeepsOtherCmdBits}
 use Rattle.refinement.specs.PreservedParts.{DoesNotWrite}
 use Rattle.refinement.specs.Slots.{Free, Serves, SlotState, SlotStates, set_slot_state}
 use Rattle.refinement.specs.ReadWitness.{FirstReadWitness, first_id, first_slot_states}
@@ -80,7 +80,7 @@ as_read (suc k) ne = ap (λ (b : ℕ). b == 1) (bit_at-suc 0xc010 k ∙ sym (bit
 written_back : KeepsOtherCmdBits false true 0xc011 0xc010
 written_back = record { start = refl; receive = refl; others = λ place low start receive. as_read place start }
 
-leaves : (uses : SlotStates) → SetsStOnlyIfStOrFreeAndFreOnlyInPlace uses 0 0xc010 (commanded.port 0)
+leaves : (uses : SlotStates) → StAndFreBitsMayBeWritten uses 0 0xc010 (commanded.port 0)
 unfolding changed
 leaves uses = record { start = λ set. absurd (false≢true set); receive = λ set. (omega arith, refl) }
 

@@ -10,10 +10,10 @@ use Rattle.adapter.specs.Device.Halt.{LogOnly, NotHalted}
 use Rattle.adapter.specs.Steps.{halt_after_start}
 use Rattle.adapter.specs.declared.tape.Entry.{Entry}
 use Rattle.refinement.specs.Fragments.{TapeGrows, NoCommandIsIssuedOrTaken}
-use Rattle.refinement.specs.Errors.{IsFatalErrorOf, NoFatalErrors}
+use Rattle.refinement.specs.Errors.{IsFatalEntryOf, NoFatalErrors}
 use Rattle.refinement.specs.PortFacts.{RecordsFaults, IsFaultOf, IsHaltedPlainOrQueued}
 use Rattle.refinement.specs.PreservedParts.{IsPlugEvent}
-use Rattle.refinement.specs.Slots.{IsOver}
+use Rattle.adapter.specs.OneCommand.{SlotHasNoCommand}
 use Rattle.disk_page.specs.PageRequests.{LeavesPortWhileAsking}
 use Rattle.port_control.specs.Ports.{RunsInPlaceWithoutCommands}
 use Rattle.error_recovery.specs.Evidence.{GainsSinceStart, ShowsFatal, HidesNoTrouble}
@@ -78,7 +78,7 @@ fatal_unless_clear p not = by (p.is 27) (p.is 28) (p.is 29) refl refl refl
 shows_trouble : (port : Port) (old start new : Device) → (new.port port.0).notes.st_set_at ≡ length start.tape → Asks port start new → HidesNoTrouble port.0 old new
 shows_trouble port old start new set a = record {
   fault_is_shown = λ g. set_unless_clear ((new.port port.0).is 30) (λ clear. let n = (a.fault clear).1 in gained_since (IsFaultOf port.0) port.0 old start new set n.new_entries n.tape_is n.no_such_entry g);
-  fatal_is_shown = λ g. fatal_unless_clear (new.port port.0) (λ clear. let n = (a.fatal clear).1 in gained_since (IsFatalErrorOf port.0) port.0 old start new set n.new_entries n.tape_is n.no_such_entry g);
+  fatal_is_shown = λ g. fatal_unless_clear (new.port port.0) (λ clear. let n = (a.fatal clear).1 in gained_since (IsFatalEntryOf port.0) port.0 old start new set n.new_entries n.tape_is n.no_such_entry g);
   plug_is_shown = λ g. set_unless_clear (new.port port.0).serr_n (λ clear. let n = (a.disk clear).1 in gained_since (IsPlugEvent port.0) port.0 old start new set n.new_entries n.tape_is n.no_such_entry g);
 }
 
@@ -91,7 +91,7 @@ since_set port old at new grows set =
     let n = ap (λ (es : List Entry). length es) grows.1 ∙ length-append old.tape grows.0 in omega (arith, n, set)
 
 -- a port that runs with no command, and had its log read
-pub asked_running : (laws : Laws) (port : ℕ) (start new : Device) → RunsInPlaceWithoutCommands port (start.port port) → LeavesPortWhileAsking port start new → IsOver (new.port port) 0 → RunsInPlaceWithoutCommands port (new.port port)
+pub asked_running : (laws : Laws) (port : ℕ) (start new : Device) → RunsInPlaceWithoutCommands port (start.port port) → LeavesPortWhileAsking port start new → SlotHasNoCommand (new.port port) 0 → RunsInPlaceWithoutCommands port (new.port port)
 asked_running laws port start new runs l over =
     let none = laws.asking_leaves_no_command port start new l (no_command port (start.port port) runs) over in
     record {
@@ -129,10 +129,10 @@ module _ (laws : Laws) (port : Port) (outstanding : ℕ) (queued : Bool) (before
           let e : LogOnly ≡ NotHalted = ap halt_after_start (sym log) ∙ w.start_ends_halt in absurd cc;
       hides_no_trouble = record {
         fault_is_shown = λ g. absurd (nothing_came (IsFaultOf port.0) g);
-        fatal_is_shown = λ g. absurd (nothing_came (IsFatalErrorOf port.0) g);
+        fatal_is_shown = λ g. absurd (nothing_came (IsFatalEntryOf port.0) g);
         plug_is_shown = λ g. absurd (nothing_came (IsPlugEvent port.0) g);
       };
-      port_runs_well = λ none calm linked plain.
+      runs_well_if_linked_without_plug_or_fatal = λ none calm linked plain.
           let n = plugs_in_parts laws port.0 old d new first.grows then.grows none in
           let up = laws.linked_plain_port_is_up (d.port port.0) (first.linked n.0 linked) (r.stops_and_clears.plain_port_stays_plain (plain is)) in
           laws.started_quiet_port_runs_well (new.port port.0) (s.port_is_started up n.1)
@@ -146,7 +146,7 @@ module _ (laws : Laws) (port : Port) (outstanding : ℕ) (queued : Bool) (before
   -- ---- whose log was read
 
   module _ (start new : Device) (s : StartsAgain port d start) (then : Goes port d start) (l : LeavesPortWhileAsking port.0 start new) (a : Asks port start new) (later : Goes port start new)
-      (over : IsOver (new.port port.0) 0) (running : (new.port port.0).halt ≡ NotHalted) where
+      (over : SlotHasNoCommand (new.port port.0) 0) (running : (new.port port.0).halt ≡ NotHalted) where
     runs : RunsInPlaceWithoutCommands port.0 (new.port port.0)
     runs = asked_running laws port.0 start new s.runs l over
 
@@ -181,13 +181,13 @@ module _ (laws : Laws) (port : Port) (outstanding : ℕ) (queued : Bool) (before
       plain_port_stays_plain = λ off. absurd (true≢false (sym is ∙ off));
       is_not_log_only = λ plain log. let e : LogOnly ≡ NotHalted = sym log ∙ running in absurd cc;
       hides_no_trouble = shows_trouble port old start new (ap (λ (n : Notes). n.st_set_at) l.other_notes_are_kept ∙ s.tape_is_as_at_st_set) a;
-      port_runs_well = λ none calm linked plain.
+      runs_well_if_linked_without_plug_or_fatal = λ none calm linked plain.
           let n = plugs_in_parts laws port.0 old d new first.grows (laws.tape.growth_is_transitive d start new then.grows later.grows) none in
           let m = plugs_in_parts laws port.0 d start new then.grows later.grows n.1 in
           let unbroken : NoFatalErrors port.0 start new = record {
             new_entries = later.grows.0;
             tape_is = later.grows.1;
-            no_such_entry = none_since (IsFatalErrorOf port.0) port.0 old start new (laws.tape.growth_is_transitive old d start first.grows then.grows) (ap (λ (n : Notes). n.st_set_at) l.other_notes_are_kept ∙ s.tape_is_as_at_st_set) calm [] later.grows.0 later.grows.1;
+            no_such_entry = none_since (IsFatalEntryOf port.0) port.0 old start new (laws.tape.growth_is_transitive old d start first.grows then.grows) (ap (λ (n : Notes). n.st_set_at) l.other_notes_are_kept ∙ s.tape_is_as_at_st_set) calm [] later.grows.0 later.grows.1;
           } in
           let c = later.changes (then.undue undue) in
           laws.runs_well (new.port port.0) (a.runs m.1 unbroken (s.link_stays_up_without_plug_events (first.linked n.0 linked) m.0)) running unflagged

@@ -10,7 +10,7 @@ use Rattle.adapter.specs.declared.tape.Entry.{Entry}
 use Rattle.adapter.specs.declared.tape.Entry.TheVariants as entry
 use Rattle.adapter.specs.declared.tape.Fault as tape_fault
 use Rattle.adapter.specs.declared.tape.Move as tape_move
-use Rattle.refinement.specs.Errors.{IsFatalErrorOf}
+use Rattle.refinement.specs.Errors.{IsFatalEntryOf}
 use Rattle.refinement.specs.PortFacts.{IsFaultOf}
 use Rattle.refinement.specs.PreservedParts.{IsPlugEvent, DoesNotWrite}
 use Rattle.refinement.specs.Slots.{IsMove}
@@ -68,5 +68,5 @@ pub record ShowsFatal (p : DevicePort) : Type 0 where
 -- came by N.
 pub record HidesNoTrouble (port : ℕ) (old new : Device) : Type 0 where
   pub fault_is_shown : GainsSinceStart (IsFaultOf port) port old new → (new.port port).is 30 ≡ true
-  pub fatal_is_shown : GainsSinceStart (IsFatalErrorOf port) port old new → ShowsFatal (new.port port)
+  pub fatal_is_shown : GainsSinceStart (IsFatalEntryOf port) port old new → ShowsFatal (new.port port)
   pub plug_is_shown : GainsSinceStart (IsPlugEvent port) port old new → (new.port port).serr_n ≡ true

@@ -23,9 +23,10 @@ use Rattle.refinement.specs.Errors.{ErrorBitsRiseByErrors, NoFaults, NoFatalErro
 use Rattle.refinement.specs.PortFacts.{IsHaltedPlainOrQueued, IsEngineStopped, RecordsFaultsIfSt, RunsWell, ShowsFault, ShowsNoTrouble}
 use Rattle.refinement.specs.GivingUp.{with_all_parked}
 use Rattle.refinement.specs.PreservedParts.{ControlsChangeOnlyByTheirWrites, NoPlugEvents, SameAdapter, DoesNotWrite}
-use Rattle.refinement.specs.PortNotes.{ReadingNotesChangeByReadOrSctlWriteOnly}
+use Rattle.refinement.specs.PortNotes.{NotesChangeOnlyByReadOrSctlWrite}
 use Rattle.refinement.specs.HaltRecovery.{IsLinked, RunsLinked, WorksOnUnqueuedCommandsOnly}
-use Rattle.refinement.specs.Slots.{Free, IsOver, Own, SlotStates, set_slot_state}
+use Rattle.adapter.specs.OneCommand.{SlotHasNoCommand}
+use Rattle.refinement.specs.Slots.{Free, Own, SlotStates, set_slot_state}
 use Rattle.refinement.specs.StartedPort.{WritesCmdOnlyWithStSet, IsStarted, IsUpForStart}
 use Rattle.command_table.specs.TableStores.{IsSlotStateFree}
 use Rattle.disk_page.specs.PageRequests.{IsSlot0CiOrPageMemoryAccess, LeavesPortWhileAsking, WaitsForSlot0InVain}
@@ -86,7 +87,7 @@ pub record Laws : Type 0 where
   pub access_controls : (port : Port) (access : Access) (old new : Device) → old.hr ≡ false → Does access old new
       → ControlsChangeOnlyByTheirWrites access port (old.port port.0) (new.port port.0)
   pub access_notes : (port : Port) (access : Access) (old new : Device) → Does access old new
-      → ReadingNotesChangeByReadOrSctlWriteOnly access port (old.port port.0).notes (new.port port.0).notes
+      → NotesChangeOnlyByReadOrSctlWrite access port (old.port port.0).notes (new.port port.0).notes
   pub read_keeps_fault_record : (port : ℕ) (r : Reg) (v : ℕ) (old new : Device) → Reads r v old new
       → RecordsFaultsIfSt old.tape (old.port port) port → RecordsFaultsIfSt new.tape (new.port port) port
   -- errors
@@ -151,7 +152,7 @@ pub record Laws : Type 0 where
       → SparesOtherPorts port access
   pub asking_leaves_no_command : (port : ℕ) (old new : Device) → LeavesPortWhileAsking port old new
       → NoCommandIsIssuedOrTaken (old.port port)
-      → IsOver (new.port port) 0 → NoCommandIsIssuedOrTaken (new.port port)
+      → SlotHasNoCommand (new.port port) 0 → NoCommandIsIssuedOrTaken (new.port port)
   -- what is told of engines, and of waits
   pub failing_sticks : (port : Port) (accesses : List Access) → FailsToStop port accesses → EngineSticks port accesses
   pub falls_with_later_accesses : (early late : List Access) (start running : ℕ) (port : Port)

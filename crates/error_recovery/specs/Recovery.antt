@@ -16,7 +16,7 @@ use Rattle.adapter.specs.declared.command.Operation.TheVariants.{Identify, ReadL
 use Rattle.adapter.specs.declared.tape.Fault as tape_fault
 use Rattle.refinement.specs.Acts.{AnySlots, ActsByDeviceAlone, DriverSlots, AccessesAreSimulatedByActs}
 use Rattle.refinement.specs.Fragments.{SomeMachineAgreesWith, ReadsPortOrWrites, GainsNoMove}
-use Rattle.refinement.specs.Errors.{IsFatalErrorOf}
+use Rattle.refinement.specs.Errors.{IsFatalEntryOf}
 use Rattle.refinement.specs.PortFacts.{RecordsFaults, IsHaltedPlainOrQueued, RunsWell}
 use Rattle.refinement.specs.GivingUp.{slots_with_all_parked}
 use Rattle.refinement.specs.PreservedParts.{NoPlugEvents, DoesNotWrite}
@@ -189,7 +189,8 @@ pub record RunsAgain (queued : Bool) (port : ℕ) (old new : Device) : Type 0 wh
       → WorksOnUnqueuedCommandsOnly (new.port port)
   pub is_not_log_only : (queued ≡ false → WorksOnUnqueuedCommandsOnly (old.port port)) → (new.port port).halt ≢ LogOnly
   pub hides_no_trouble : HidesNoTrouble port old new
-  pub port_runs_well : NoPlugEvents port old new → (GainsSinceStart (IsFatalErrorOf port) port old new → ⊥)
+  pub runs_well_if_linked_without_plug_or_fatal : NoPlugEvents port old new
+      → (GainsSinceStart (IsFatalEntryOf port) port old new → ⊥)
       → IsLinked (old.port port)
       → (queued ≡ false → WorksOnUnqueuedCommandsOnly (old.port port)) → RunsWell (new.port port)
 

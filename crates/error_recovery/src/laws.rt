@@ -9,8 +9,8 @@ ghost use Rattle.error_recovery.specs.{Evidence.{BringsLastLogPage, HasFailed, S
 use super::prerequisites::law_prerequisites;
 use adapter::laws::law_accesses_compose;
 use refinement::laws::{
-    law_a_first_read_agrees, law_setting_changes_one_slot, law_two_queued_reads_agree,
-    law_writing_cmd_is_permitted,
+    law_first_read_example_agrees, law_pxcmd_st_and_fre_writes_are_permitted,
+    law_setting_changes_one_slot, law_two_queued_reads_example_agrees,
 };
 use refinement::recovery_witnesses::law_a_command_may_have_failed;
 
@@ -18,8 +18,8 @@ use refinement::recovery_witnesses::law_a_command_may_have_failed;
 /// (`SparesOtherPorts`) is so of each of its own. They write no register of the adapter's own, and of the port's none
 /// but PxCMD, PxSERR, PxIS and PxCI: neither PxSCTL nor PxIE nor PxSACT. What they load and store lies in the driver's
 /// frames.
-pub fn law_recovery_is_of_its_port()
-    ensures of_its_port { (port : Port) (access : Access) → IsRecoveryAccess port access
+pub fn law_recovery_accesses_spare_others()
+    ensures spares_other_ports { (port : Port) (access : Access) → IsRecoveryAccess port access
         → SparesOtherPorts port access }
     ensures ghc_is_unwritten { (port : Port) (access : Access) → IsRecoveryAccess port access
         → DoesNotWrite Ghc access }
@@ -39,7 +39,7 @@ pub fn law_recovery_is_of_its_port()
 
 /// What stands behind a fault in a part of a call stands behind it in the whole: a fault on the tape, where PxCMD
 /// wasn't written before the part either; and the page of the log, where no other came after the part.
-pub fn law_what_stands_behind_a_fault_stays()
+pub fn law_fault_evidence_of_a_part_holds_for_call()
     ensures failed { (port : Port) (early part late : List Access) (start old new end : Device) (fault : Fault)
         → IsOn start → All (DoesNotWrite Ghc) early → All (DoesNotWrite (Px port Cmd)) early
         → DoesAll early start old → DoesAll late new end → HasFailed port part old new fault
@@ -58,24 +58,24 @@ pub fn law_fatal_bits_are_all_clear_or_shown()
 {}
 
 /// What `recover` asks can be met: there is a port with a plain read that failed, and one with a queued read that did.
-pub fn law_a_port_may_be_recovered()
+pub fn law_recover_preconditions_can_be_met()
     ensures plain { MayRecoverWitness false }
     ensures queued { MayRecoverWitness true }
 {
     law_a_command_may_have_failed();
-    law_a_first_read_agrees();
-    law_two_queued_reads_agree();
+    law_first_read_example_agrees();
+    law_two_queued_reads_example_agrees();
     law_setting_changes_one_slot();
     law_prerequisites();
 }
 
 /// What `stop_for_reset` asks can be met, and what it promises: there is a port that a fatal error has broken while a
 /// read is issued, and three accesses stop it.
-pub fn law_a_port_may_be_stopped()
+pub fn law_stop_for_reset_contract_can_be_met()
     ensures { StopWitness }
 {
-    law_a_first_read_agrees();
-    law_writing_cmd_is_permitted();
+    law_first_read_example_agrees();
+    law_pxcmd_st_and_fre_writes_are_permitted();
     law_setting_changes_one_slot();
     law_prerequisites();
 }

@@ -1,25 +1,31 @@
 // What laws of the crates below say of this crate's accesses, for its proofs. Nothing comes of calling it.
 ghost use Rattle.error_recovery.specs.Laws.{Laws};
 
-use adapter::laws::law_port_register_accesses;
-use disk_page::laws::{law_asking_is_of_one_port, law_what_is_told_of_waits_stays};
-use port_control::laws::law_what_is_told_of_engines_stays;
+use adapter::laws::law_port_access_is_steps_then_port_effect;
+use disk_page::laws::{
+    law_page_request_spares_other_ports, law_slot_0_wait_in_vain_shows_in_longer_trace,
+};
+use port_control::laws::law_engine_evidence_shows_in_longer_traces;
 use refinement::access_kinds::{
     law_fragment_prerequisites, law_port_register_accesses_are_of_port,
 };
 use refinement::fragments::{
     law_other_ports_are_untouched, law_port_without_command_gains_no_move, law_tape_prerequisites,
 };
-use refinement::giving_up::{law_fault_is_outstanding, law_slots_are_given_up};
+use refinement::giving_up::{
+    law_giving_up_stopped_port_slots_agrees, law_slot_in_use_or_faulted_is_outstanding,
+};
 use refinement::laws::law_setting_changes_one_slot;
 use refinement::port_facts::{
-    law_adapter_stays, law_clear_error_bits_stay_clear, law_controls_stay, law_errors_are_shown,
-    law_fault_is_found, law_faults_are_recorded, law_notes_stay, law_running_well_is_found,
-    law_serr_n_shows_plug_events,
+    law_adapter_stays_the_same_and_switched_on, law_clear_error_bits_stay_clear,
+    law_clear_pxis_error_bits_mean_no_error, law_noted_reads_change_only_by_read_or_sctl,
+    law_port_controls_stay_until_written, law_serr_n_clear_means_no_plug_event,
+    law_started_port_without_trouble_runs_well, law_tape_and_tfd_keep_faults_since_st,
+    law_tfes_read_set_means_fault_halts_port,
 };
 use refinement::recovering::{
-    law_faults_show_before_the_end, law_link_stays_online, law_plain_work_stays,
-    law_running_goes_on,
+    law_link_stays_online, law_port_runs_on_without_fatal_or_plug,
+    law_port_stays_unqueued_until_sact_written, law_unqueued_ci_read_clear_means_tfes_clear,
 };
 use std::marker::Brand;
 
@@ -27,29 +33,29 @@ use std::marker::Brand;
 pub fn law_prerequisites()
     ensures { Laws }
 {
-    law_port_register_accesses();
-    law_adapter_stays();
+    law_port_access_is_steps_then_port_effect();
+    law_adapter_stays_the_same_and_switched_on();
     law_clear_error_bits_stay_clear();
-    law_controls_stay();
-    law_errors_are_shown();
-    law_fault_is_found();
-    law_faults_are_recorded();
-    law_notes_stay();
-    law_serr_n_shows_plug_events();
-    law_running_well_is_found();
-    law_fault_is_outstanding();
-    law_slots_are_given_up();
+    law_port_controls_stay_until_written();
+    law_clear_pxis_error_bits_mean_no_error();
+    law_tfes_read_set_means_fault_halts_port();
+    law_tape_and_tfd_keep_faults_since_st();
+    law_noted_reads_change_only_by_read_or_sctl();
+    law_serr_n_clear_means_no_plug_event();
+    law_started_port_without_trouble_runs_well();
+    law_slot_in_use_or_faulted_is_outstanding();
+    law_giving_up_stopped_port_slots_agrees();
     law_fragment_prerequisites::<Brand>();
     law_port_register_accesses_are_of_port::<Brand>();
     law_setting_changes_one_slot();
-    law_plain_work_stays();
-    law_faults_show_before_the_end();
+    law_port_stays_unqueued_until_sact_written();
+    law_unqueued_ci_read_clear_means_tfes_clear();
     law_link_stays_online();
-    law_running_goes_on();
+    law_port_runs_on_without_fatal_or_plug();
     law_other_ports_are_untouched();
     law_tape_prerequisites();
     law_port_without_command_gains_no_move();
-    law_asking_is_of_one_port();
-    law_what_is_told_of_waits_stays();
-    law_what_is_told_of_engines_stays();
+    law_page_request_spares_other_ports();
+    law_slot_0_wait_in_vain_shows_in_longer_trace();
+    law_engine_evidence_shows_in_longer_traces();
 }

@@ -5,7 +5,7 @@ use Rattle.hba_regs.specs.declared.reg.PortReg.TheVariants.{Clb, Clbu, Fb, Fbu, 
 use Rattle.hba_regs.specs.declared.reg.Reg.{Reg}
 use Rattle.hba_regs.specs.declared.reg.Reg.TheVariants.{Cap, Ghc, Pi, Vs, Px}
 use Rattle.follow.specs.declared.differences.KnownDifference.{KnownDifference}
-use Rattle.follow.specs.declared.differences.KnownDifference.TheVariants.{OtherCapabilities, FurtherPorts, AlwaysAhci, InterruptCauses, StatusWithoutFault, FailedSlots, UntakenSlots}
+use Rattle.follow.specs.declared.differences.KnownDifference.TheVariants.{OtherCapabilities, FurtherPorts, AlwaysAhci, InterruptCauses, StatusWithoutFault, FailedSlots, SactOfUntakenSlots}
 
 -- the bits of a port's register that `PortShows` of the crate `adapter` names (of an address, once it was written)
 abbrev pub modelled_port_bits : PortReg → ℕ
@@ -25,13 +25,13 @@ modelled_port_bits Fb = 0xffffffff
 modelled_port_bits Fbu = 0xffffffff
 
 -- those of any register that `Shows` names, but for IS, whose bits follow causes that are known to differ
-abbrev pub named_bits : Reg → ℕ
-named_bits Cap = 0xffffffff
-named_bits Pi = 0xffffffff
-named_bits Vs = 0xffffffff
-named_bits Ghc = 0x80000003
-named_bits (Px port r) = modelled_port_bits r
-named_bits _ = 0
+abbrev pub modelled_bits : Reg → ℕ
+modelled_bits Cap = 0xffffffff
+modelled_bits Pi = 0xffffffff
+modelled_bits Vs = 0xffffffff
+modelled_bits Ghc = 0x80000003
+modelled_bits (Px port r) = modelled_port_bits r
+modelled_bits _ = 0
 
 -- the bits of a known difference, where these slots of its port are known to differ
 abbrev pub difference_bits : KnownDifference → ℕ → ℕ
@@ -41,7 +41,7 @@ difference_bits AlwaysAhci slots = 0x80000000
 difference_bits InterruptCauses slots = 0xb
 difference_bits StatusWithoutFault slots = if nat_eq slots 0 then 0xff77 else 0
 difference_bits FailedSlots slots = slots
-difference_bits UntakenSlots slots = slots
+difference_bits SactOfUntakenSlots slots = slots
 
 -- the known difference that a register may show
 abbrev pub difference_of : Reg → Option KnownDifference
@@ -51,7 +51,7 @@ difference_of Ghc = Some AlwaysAhci
 difference_of (Px port Is) = Some InterruptCauses
 difference_of (Px port Tfd) = Some StatusWithoutFault
 difference_of (Px port Ci) = Some FailedSlots
-difference_of (Px port Sact) = Some UntakenSlots
+difference_of (Px port Sact) = Some SactOfUntakenSlots
 difference_of _ = None
 
 -- these bits of 32 but for those
@@ -61,7 +61,7 @@ bits_without bits (Some known) slots = bit_and bits (2 ^ 32 - 1 - difference_bit
 
 -- what is compared: the bits that the definitions name, but for the known difference
 abbrev pub compared_bits : Reg → ℕ → ℕ
-compared_bits r slots = bits_without (named_bits r) (difference_of r) slots
+compared_bits r slots = bits_without (modelled_bits r) (difference_of r) slots
 
 -- two values of a register agree, where these slots of its port are known to differ
 abbrev pub MatchesUpToKnownDifferences : Reg → (slots model_value peer_value : ℕ) → Type 0
@@ -76,7 +76,7 @@ difference_index AlwaysAhci = 2
 difference_index InterruptCauses = 3
 difference_index StatusWithoutFault = 4
 difference_index FailedSlots = 5
-difference_index UntakenSlots = 6
+difference_index SactOfUntakenSlots = 6
 
 -- the one that a register may show, where two values differ by its bits, of those that the definitions name
 abbrev pub difference_if_shown : Option KnownDifference → (named slots shown said : ℕ) → Option KnownDifference
@@ -88,4 +88,4 @@ difference_if_shown (Some known) named slots shown said =
 
 -- the known difference that two values of a register show
 abbrev pub shown_difference : Reg → (slots shown said : ℕ) → Option KnownDifference
-shown_difference r slots shown said = difference_if_shown (difference_of r) (named_bits r) slots shown said
+shown_difference r slots shown said = difference_if_shown (difference_of r) (modelled_bits r) slots shown said

@@ -1,6 +1,6 @@
 // Which bits of a register are compared, and which differences are known.
 ghost use Rattle.std.specs.Prelude.{◌≡◌, ◌↔◌, ◌<◌, IsTrue, false, slice_index_or, slice_set, true};
-ghost use Rattle.follow.specs.ComparedBits.{MatchesUpToKnownDifferences, difference_bits, compared_bits, difference_of, named_bits, modelled_port_bits, difference_index, shown_difference};
+ghost use Rattle.follow.specs.ComparedBits.{MatchesUpToKnownDifferences, difference_bits, compared_bits, difference_of, modelled_bits, modelled_port_bits, difference_index, shown_difference};
 
 use hba_regs::{PortReg, Reg};
 use std::fmt;
@@ -10,8 +10,8 @@ const KNOWN: usize = 7;
 
 /// A difference between the model and adapters that are about. Of the bits that the definitions name they are all that
 /// is passed over; of memory, a page of IDENTIFY DEVICE that reads the same. The server is told the model's bits. Of
-/// most of these it makes nothing; by those of `FailedSlots` and `UntakenSlots` it takes a request for done, so that an
-/// adapter without a model beside it has to show them as the model does.
+/// most of these it makes nothing; by those of `FailedSlots` and `SactOfUntakenSlots` it takes a request for done, so
+/// that an adapter without a model beside it has to show them as the model does.
 #[derive(Clone, Copy, Debug, PartialEq, Eq)]
 pub enum KnownDifference {
     /// CAP but for NCS and SNCQ: NP and what else an adapter can do. The server reads NCS, bits 12:8, and SNCQ, bit 30,
@@ -36,7 +36,7 @@ pub enum KnownDifference {
     /// PxSACT of a slot that was issued, and not taken, when a queued command failed: an adapter may do its command all
     /// the same, and leave its bit of PxCI set. The server takes a slot for done only where both bits are clear, and
     /// stops the port then.
-    UntakenSlots,
+    SactOfUntakenSlots,
 }
 
 impl KnownDifference {
@@ -48,7 +48,7 @@ impl KnownDifference {
         KnownDifference::InterruptCauses,
         KnownDifference::StatusWithoutFault,
         KnownDifference::FailedSlots,
-        KnownDifference::UntakenSlots,
+        KnownDifference::SactOfUntakenSlots,
     ];
 
     /// Its place among them.
@@ -63,7 +63,7 @@ impl KnownDifference {
             KnownDifference::InterruptCauses => 3,
             KnownDifference::StatusWithoutFault => 4,
             KnownDifference::FailedSlots => 5,
-            KnownDifference::UntakenSlots => 6,
+            KnownDifference::SactOfUntakenSlots => 6,
         }
     }
 
@@ -78,7 +78,7 @@ impl KnownDifference {
             KnownDifference::InterruptCauses => 0x0000_000b,
             KnownDifference::StatusWithoutFault if slots == 0 => 0x0000_ff77,
             KnownDifference::StatusWithoutFault => 0,
-            KnownDifference::FailedSlots | KnownDifference::UntakenSlots => slots,
+            KnownDifference::FailedSlots | KnownDifference::SactOfUntakenSlots => slots,
         }
     }
 
@@ -93,7 +93,7 @@ impl KnownDifference {
             Reg::Px(_, PortReg::Is) => Some(KnownDifference::InterruptCauses),
             Reg::Px(_, PortReg::Tfd) => Some(KnownDifference::StatusWithoutFault),
             Reg::Px(_, PortReg::Ci) => Some(KnownDifference::FailedSlots),
-            Reg::Px(_, PortReg::Sact) => Some(KnownDifference::UntakenSlots),
+            Reg::Px(_, PortReg::Sact) => Some(KnownDifference::SactOfUntakenSlots),
             _ => None,
         }
     }
@@ -117,8 +117,8 @@ fn modelled_port_bits(r: PortReg) -> u32
 
 /// The bits of a register that the definitions name. IS isn't compared: a port's bit follows DHRS, PSS and SDBS, too,
 /// which are known to differ, and the server never reads it.
-fn named(r: Reg) -> u32
-    ensures { result ≡ named_bits r }
+fn modelled_bits(r: Reg) -> u32
+    ensures { result ≡ modelled_bits r }
 {
     match r {
         Reg::Cap | Reg::Pi | Reg::Vs => u32::MAX,
@@ -133,8 +133,8 @@ fn compared(r: Reg, slots: u32) -> u32
     ensures { result ≡ compared_bits r slots }
 {
     match KnownDifference::of(r) {
-        Some(known) => named(r) & !known.bits(slots),
-        None => named(r),
+        Some(known) => modelled_bits(r) & !known.bits(slots),
+        None => modelled_bits(r),
     }
 }
 
@@ -152,7 +152,7 @@ pub fn shown_difference_of(r: Reg, slots: u32, shown: u32, said: u32) -> Option<
     ensures { result ≡ shown_difference r slots shown said }
 {
     let known = KnownDifference::of(r)?;
-    let bits = named(r) & known.bits(slots);
+    let bits = modelled_bits(r) & known.bits(slots);
     if shown & bits == said & bits {
         return None;
     }

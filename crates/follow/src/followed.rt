@@ -32,7 +32,7 @@ const SWITCHES: u32 = 1 << 4 | 1;
 
 /// How many accesses were made on both, and how many looks at the peer alone.
 #[derive(Clone, Copy, Debug, PartialEq, Eq)]
-pub struct AccessCounts {
+pub struct AccessAndLookCounts {
     pub accesses: u64,
     pub looks: u64,
 }
@@ -100,7 +100,7 @@ pub struct Followed<A, P> {
     /// The known differences that were met.
     met_differences: MetDifferences,
     divergence: Option<Divergence>,
-    counts: AccessCounts,
+    counts: AccessAndLookCounts,
 }
 
 impl<A: Inspectable, P: Peer> Followed<A, P> {
@@ -118,7 +118,7 @@ impl<A: Inspectable, P: Peer> Followed<A, P> {
             said: 0,
             met_differences: MetDifferences::NONE,
             divergence: None,
-            counts: AccessCounts {
+            counts: AccessAndLookCounts {
                 accesses: 0,
                 looks: 0,
             },
@@ -148,7 +148,7 @@ impl<A: Inspectable, P: Peer> Followed<A, P> {
     }
 
     /// How many accesses were made.
-    pub fn counts(&self) -> AccessCounts
+    pub fn counts(&self) -> AccessAndLookCounts
         ensures { result ≡ self.now.counts }
     {
         self.counts

@@ -11,7 +11,7 @@ use Rattle.adapter.specs.Access.Access.{Reading, Writing}
 use Rattle.adapter.specs.Device.{Device}
 use Rattle.refinement.specs.Fragments.{AnySlotStates, IsSimulatedAlong}
 use Rattle.refinement.specs.PreservedParts.{SameAdapter}
-use Rattle.host_boot.specs.Resets.{ReadsGlobalControl, SetsHrAndLastReads, IsResetAccess, Resets, ResetStaysPending}
+use Rattle.host_boot.specs.Resets.{ReadsHrSet, SetsHrAndPollsWhileSet, IsResetAccess, Resets, ResetStaysPending}
 use Rattle.host_boot.specs.Laws.{Laws}
 use Rattle.host_boot.specs.Laws.AccessPurpose.{Resetting}
 use Rattle.host_boot.proofs.Stretching.{told_both, told_more}
@@ -20,9 +20,9 @@ use Rattle.host_boot.proofs.Stretching.{told_both, told_more}
 pub record AsksAgain (n : ℕ) (accesses : List Access) : Type 0 where
   pub asked : List Access
   pub here : accesses ≡ Writing Ghc 0x80000001 ∷ asked
-  pub only : All ReadsGlobalControl asked
+  pub only : All ReadsHrSet asked
   pub long : length asked ≡ n
-  pub last : 0 < n → SetsHrAndLastReads true accesses
+  pub last : 0 < n → SetsHrAndPollsWhileSet true accesses
 
 -- the reset is pending after so many readings
 pub record IsResetting (start : Device) (n : ℕ) (d : Device) : Type 0 where
@@ -31,15 +31,15 @@ pub record IsResetting (start : Device) (n : ℕ) (d : Device) : Type 0 where
   pub same : SameAdapter start d
 
 asks_none : (accesses : List Access) → accesses ≡ Writing Ghc 0x80000001 ∷ [] → AsksAgain 0 accesses
-asks_none accesses is = record { asked = []; here = is; only = All-nil ReadsGlobalControl; long = refl; last = λ none. absurd (omega (arith, none)) }
+asks_none accesses is = record { asked = []; here = is; only = All-nil ReadsHrSet; long = refl; last = λ none. absurd (omega (arith, none)) }
 
 -- one more reading
 module _ (n v : ℕ) (early late : List Access) (a : AsksAgain n early) (is : late ≡ Reading Ghc v ∷ []) where
   joined : early ++ late ≡ Writing Ghc 0x80000001 ∷ (a.asked ++ Reading Ghc v ∷ [])
   joined = ap (λ (l : List Access). l ++ late) a.here ∙ ap (λ (l : List Access). Writing Ghc 0x80000001 ∷ (a.asked ++ l)) is
 
-  asks_shown : (hr : Bool) → bit v 0 ≡ hr → SetsHrAndLastReads hr (early ++ late)
-  asks_shown hr shows = record { polls = a.asked; last_ghc = v; accesses_are = joined; only_reads_ghc = a.only; hr_is = shows }
+  asks_shown : (hr : Bool) → bit v 0 ≡ hr → SetsHrAndPollsWhileSet hr (early ++ late)
+  asks_shown hr shows = record { polls = a.asked; last_ghc = v; accesses_are = joined; polls_show_hr = a.only; hr_is = shows }
 
   asked_few : n < MOST_READINGS → length (early ++ late) ≤ MOST_READINGS + 1
   asked_few few =
@@ -50,7 +50,7 @@ module _ (n v : ℕ) (early late : List Access) (a : AsksAgain n early) (is : la
   asks_more shows = record {
     asked = a.asked ++ Reading Ghc v ∷ [];
     here = joined;
-    only = All-append ReadsGlobalControl a.asked (Reading Ghc v ∷ []) a.only (All-cons ReadsGlobalControl (Reading Ghc v) [] tt (All-nil ReadsGlobalControl));
+    only = All-append ReadsHrSet a.asked (Reading Ghc v ∷ []) a.only (All-cons ReadsHrSet (Reading Ghc v) [] shows (All-nil ReadsHrSet));
     long = length-append a.asked (Reading Ghc v ∷ []) ∙ ap (λ (k : ℕ). k + 1) a.long;
     last = λ some. asks_shown true shows;
   }
@@ -84,7 +84,7 @@ module _ (laws : Laws) (start : Device) where
 
     pub resetting_ends : n < MOST_READINGS → bit v 0 ≡ false → Resets start e
     resetting_ends few clear =
-        let told = with_reading (λ accesses. SetsHrAndLastReads false accesses × (length accesses ≤ 65))
+        let told = with_reading (λ accesses. SetsHrAndPollsWhileSet false accesses × (length accesses ≤ 65))
         (λ early late a is. (asks_shown n v early late a is false clear, asked_few n v early late a is few)) in
         record { followed = told.is_simulated; awaited = told.accesses_are_such.0; count_is_allowed = told.accesses_are_such.1; idle = laws.ended_reset_is_idle v d e w.pending call clear; adapter_is_kept = same }
 

@@ -65,7 +65,7 @@ module _ (laws : Laws) where
 
   through_well : (port : Port) (info : DiskInfo) (old new : Device) → StopsAndBootsOrDoesNothing port (Ready info) old new → Undisturbed port.0 old new → RunsWell (new.port port.0)
   through_well port info old new (stopped, stop, boot, ready, news) calm =
-      news.port_runs_well (calm_in_parts laws port.0 old stopped new (tape_over laws (SparesOtherPorts port) old stopped (stop_driven laws port old stopped stop)) (tape_over laws (IsBootAccess port) stopped new boot) calm).1
+      news.runs_well_if_undisturbed (calm_in_parts laws port.0 old stopped new (tape_over laws (SparesOtherPorts port) old stopped (stop_driven laws port old stopped stop)) (tape_over laws (IsBootAccess port) stopped new boot) calm).1
 
   -- of ports one after another
   go_driven : (n first : ℕ) (ports : List ProbeResult) (old new : Device) → n ≤ first → BootsEachServedPortOrSticks first ports old new → IsDrivenBy (IsOfFrom n) old new

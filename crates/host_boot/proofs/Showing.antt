@@ -16,7 +16,7 @@ use Rattle.adapter.specs.Rules.{IsOn}
 use Rattle.refinement.specs.Fragments.{ReadsPortOrWrites, IsDrivenBy, SparesOtherPorts}
 use Rattle.refinement.specs.PreservedParts.{HasDet3IfDiskPresent, DoesNotWrite}
 use Rattle.disk_page.specs.PageRequests.{IsSlot0CiOrPageMemoryAccess}
-use Rattle.port_control.specs.Ports.{FindsLinkAndClearsErrors, FindsSignature, HasLink, IsPlacingRegister, SeesResetFault, IsVainReading, ReadsUntil, ReadsInVain, ShowsIdle, SendsComresetThen, IsCommandRegister}
+use Rattle.port_control.specs.Ports.{FindsLinkAndClearsErrors, FindsSignature, HasLink, IsCmdOrBaseRegister, SeesResetFault, IsVainReading, ReadsUntil, ReadsInVain, ShowsIdle, SendsComresetThen, IsCommandRegister}
 use Rattle.port_control.specs.declared.PortFault.{PortFault}
 use Rattle.port_control.specs.declared.PortFault.TheVariants.{NoDevice, Busy, EngineStuck, NotAta}
 use Rattle.port_boot.specs.States.{EndsBeforeStart, EndsAfterStart, IsStateOfFault}
@@ -105,7 +105,7 @@ module _ (laws : Laws) where
         (by_then laws (by_one (SparesOtherPorts port) (Writing (Px port Sctl) 1) old w.sent refl w.sends) (by_one (SparesOtherPorts port) (Writing (Px port Sctl) 0) w.sent w.ended refl w.ends))
         (laws.one_port_spares_ghc port) on
 
-    placing_on : (old new : Device) → IsOn old → IsDrivenBy (ReadsPortOrWrites IsPlacingRegister port) old new → IsOn new
+    placing_on : (old new : Device) → IsOn old → IsDrivenBy (ReadsPortOrWrites IsCmdOrBaseRegister port) old new → IsOn new
     placing_on old new on driven = on_over laws (SparesOtherPorts port) old new (placing_driven laws port old new driven) (laws.one_port_spares_ghc port) on
 
     early_shown : (state : PortState) (old new : Device) → state ≢ Absent → IsOn old → EndsBeforeStart port state old new → Shown new

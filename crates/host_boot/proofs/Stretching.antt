@@ -10,7 +10,7 @@ use Rattle.refinement.specs.Fragments.{AnyAccess, TapeGrows, ReadsPortOrWrites, 
 use Rattle.refinement.specs.PortFacts.{Undisturbed}
 use Rattle.refinement.specs.PreservedParts.{SameAdapter, DoesNotWrite}
 use Rattle.refinement.specs.Slots.{SlotStates}
-use Rattle.port_control.specs.Ports.{IsPlacingRegister, IsCommandRegister}
+use Rattle.port_control.specs.Ports.{IsCmdOrBaseRegister, IsCommandRegister}
 use Rattle.host_boot.specs.Laws.{Laws, AccessPurpose, slot_uses_for, accesses_for}
 
 -- ---- accesses of one kind
@@ -61,8 +61,8 @@ module _ (laws : Laws) where
   pub stop_driven : (port : Port) (old new : Device) → IsDrivenBy (ReadsPortOrWrites IsCommandRegister port) old new → IsDrivenBy (SparesOtherPorts port) old new
   stop_driven port old new = driven_as (ReadsPortOrWrites IsCommandRegister port) (SparesOtherPorts port) old new (λ access is. (laws.cmd_access_is_of_port port access is).0)
 
-  pub placing_driven : (port : Port) (old new : Device) → IsDrivenBy (ReadsPortOrWrites IsPlacingRegister port) old new → IsDrivenBy (SparesOtherPorts port) old new
-  placing_driven port old new = driven_as (ReadsPortOrWrites IsPlacingRegister port) (SparesOtherPorts port) old new (λ access is. (laws.placing_access_is_of_port port access is).0)
+  pub placing_driven : (port : Port) (old new : Device) → IsDrivenBy (ReadsPortOrWrites IsCmdOrBaseRegister port) old new → IsDrivenBy (SparesOtherPorts port) old new
+  placing_driven port old new = driven_as (ReadsPortOrWrites IsCmdOrBaseRegister port) (SparesOtherPorts port) old new (λ access is. (laws.placing_access_is_of_port port access is).0)
 
   -- ---- stretches that are followed
 

@@ -20,9 +20,9 @@ use Rattle.adapter.specs.Rules.{IsOn}
 use Rattle.adapter.specs.declared.command.Operation.{Operation}
 use Rattle.adapter.specs.declared.command.Operation.TheVariants.{Identify}
 use Rattle.refinement.specs.Relation.{port_at}
-use Rattle.refinement.specs.Fragments.{AnySlotStates, SomeMachineAgrees, IsDrivenBy, IsSimulated, IsSimulatedChangingUses, SparesOtherPorts, IsSimulatedAlongChangingUses, SameSlotStates, OnlyDeviceChangesPort, NoneWrites, GainsNoMove, AllByDeviceAndPortsKeepSlotsIfKindWritesNoCiSact}
+use Rattle.refinement.specs.Fragments.{AnySlotStates, SomeMachineAgrees, IsDrivenBy, IsSimulated, IsSimulatedChangingUses, SparesOtherPorts, IsSimulatedAlongChangingUses, SameSlotStates, OnlyDeviceChangesPort, NoneWrites, GainsNoMove, AreByDeviceAndKeepUnwrittenSlots}
 use Rattle.refinement.specs.Driver.{AllFree}
-use Rattle.refinement.specs.Halting.{NotLogOnlyAndQueuedHaltHasTakenCommandIfSt}
+use Rattle.refinement.specs.Halting.{HaltFitsTakenCommandsIfSt}
 use Rattle.refinement.specs.PreservedParts.{SameAdapter, DoesNotWrite}
 use Rattle.refinement.specs.Slots.{Free, Own, SlotStates, set_slot_state}
 use Rattle.identify.specs.declared.wanted.Wanted.{Wanted}
@@ -85,7 +85,7 @@ module _ (laws : Laws) where
   still_halts May Fits next uses q old new spares fits f a wanted found stands halts info is =
       let slots : DriverSlots = record { slot_states = uses; awaiting_disposition = a.parked } in
       let c = f.acts_reach slots a.machine a.reached a.driver_relation fits in
-      let then : NotLogOnlyAndQueuedHaltHasTakenCommandIfSt (new.port q) =
+      let then : HaltFitsTakenCommandsIfSt (new.port q) =
       laws.halt_of_taken_stays_over_acts (port_at q) c.acts (driver_state_of_slots slots old) (driver_state_of_slots (record slots { slot_states = next uses }) new) a.machine a.reached a.driver_relation c.acts_are_done
       (subst (All (DoesNotWrite (Px (port_at q) Cmd))) (sym c.accesses_match_acts) (All-weaker May (DoesNotWrite (Px (port_at q) Cmd)) spares f.is_driven.accesses f.is_driven.accesses_are_of_kind)) (λ _. halts info is) in
       then (subst (λ (x : ProbeResult). BacksProbeResult wanted x q new) is stands).1.runs.st_is_set
@@ -96,7 +96,7 @@ module _ (laws : Laws) where
     goes_on old new a = record {
       is_driven = a.is_driven;
       acts_reach = λ s m reached x is.
-          subst (λ (u : SlotStates). ActsReach a.is_driven.accesses (driver_state_of_slots s old) m (driver_state_of_slots (record s { slot_states = u }) new) (AllByDeviceAndPortsKeepSlotsIfKindWritesNoCiSact (IsTakeOverAccess wanted) s.slot_states)) is (a.acts_reach s m reached x tt);
+          subst (λ (u : SlotStates). ActsReach a.is_driven.accesses (driver_state_of_slots s old) m (driver_state_of_slots (record s { slot_states = u }) new) (AreByDeviceAndKeepUnwrittenSlots (IsTakeOverAccess wanted) s.slot_states)) is (a.acts_reach s m reached x tt);
     }
 
     -- and then others, with what is told of both

@@ -16,7 +16,7 @@ use Rattle.port_control.specs.Engines.{FailsToStop, EngineFalls, EngineSticks, S
 use Rattle.refinement.specs.Slots.{Free, SlotState, SlotStates, set_slot_state}
 use Rattle.hba_regs.specs.declared.reg.Reg.TheVariants.{Ghc, Px}
 use Rattle.refinement.specs.Acts.{Act, AreActsDone, accesses_of}
-use Rattle.refinement.specs.Halting.{NotLogOnlyAndQueuedHaltHasTakenCommandIfSt}
+use Rattle.refinement.specs.Halting.{HaltFitsTakenCommandsIfSt}
 use Rattle.refinement.specs.PreservedParts.{HasDet3IfDiskPresent, SameAdapter, DoesNotWrite}
 use Rattle.block_machine.specs.Histories.{IsReachable}
 use Rattle.block_machine.specs.State.{Machine}
@@ -26,7 +26,7 @@ use Rattle.host_boot.specs.Reboots.{IsCapPiOrBootAccess}
 use Rattle.host_boot.specs.Resets.{IsResetAccess}
 use Rattle.host_boot.specs.TakeOver.{ReadsCapOrPiOrSetsAe, IsTakeOverAccess, ReadsCapOrPi}
 use Rattle.adapter.specs.Rules.{IsOn}
-use Rattle.port_control.specs.Ports.{IsSerrOrIs, IsPlacingRegister, IsCommandRegister}
+use Rattle.port_control.specs.Ports.{IsSerrOrIs, IsCmdOrBaseRegister, IsCommandRegister}
 use Rattle.adapter.specs.KeptBySteps.{KeepsOverSteps}
 use Rattle.hba_regs.specs.declared.reg.PortReg.{PortReg}
 use Rattle.adapter.specs.Access.Access.{Writing}
@@ -158,7 +158,7 @@ pub record Laws : Type 0 where
   pub cmd_access_is_of_port : (port : Port) (access : Access) → ReadsPortOrWrites IsCommandRegister port access
       → SparesOtherPorts port access
       × DoesNotWrite (Px port Sctl) access
-  pub placing_access_is_of_port : (port : Port) (access : Access) → ReadsPortOrWrites IsPlacingRegister port access
+  pub placing_access_is_of_port : (port : Port) (access : Access) → ReadsPortOrWrites IsCmdOrBaseRegister port access
       → SparesOtherPorts port access
       × DoesNotWrite (Px port Sctl) access
   pub failed_stop_sticks : (port : Port) (accesses : List Access) → FailsToStop port accesses
@@ -194,7 +194,7 @@ pub record Laws : Type 0 where
       → IsReachable m
       → DriverRelation m k
       → AreActsDone acts k m later → All (DoesNotWrite (Px port Cmd)) (accesses_of acts)
-      → NotLogOnlyAndQueuedHaltHasTakenCommandIfSt (k.device.port port.0)
-      → NotLogOnlyAndQueuedHaltHasTakenCommandIfSt (later.device.port port.0)
+      → HaltFitsTakenCommandsIfSt (k.device.port port.0)
+      → HaltFitsTakenCommandsIfSt (later.device.port port.0)
   -- this crate's kinds of accesses
   pub fragments : FragmentLaws AccessPurpose accesses_for slot_uses_for

@@ -11,10 +11,10 @@ use Rattle.refinement.specs.PreservedParts.{SameAdapter}
 
 -- ---- accesses
 
--- GHC is read
-abbrev pub ReadsGlobalControl : Access → Type 0
-ReadsGlobalControl (Reading Ghc v) = Unit {0}
-ReadsGlobalControl access = ⊥
+-- GHC is read with HR one: the reset isn't done
+abbrev pub ReadsHrSet : Access → Type 0
+ReadsHrSet (Reading Ghc v) = bit v 0 ≡ true
+ReadsHrSet access = ⊥
 
 -- GHC is read, or written with AE and HR
 abbrev pub IsResetAccess : Access → Type 0
@@ -22,18 +22,20 @@ IsResetAccess (Reading Ghc v) = Unit {0}
 IsResetAccess (Writing Ghc v) = v ≡ 0x80000001
 IsResetAccess access = ⊥
 
--- The adapter was reset first of all.
-pub record WritesHrFirst (accesses : List Access) : Type 0 where
-  pub rest : List Access
-  pub accesses_are : accesses ≡ Writing Ghc 0x80000001 ∷ rest
-
--- HR was set, and then GHC alone was read, at last with HR as it is here.
-pub record SetsHrAndLastReads (hr : Bool) (accesses : List Access) : Type 0 where
+-- HR was set, and then GHC alone was read: each time but the last with HR one, and the last time with HR as given.
+pub record SetsHrAndPollsWhileSet (hr : Bool) (accesses : List Access) : Type 0 where
   pub polls : List Access
   pub last_ghc : ℕ
   pub accesses_are : accesses ≡ Writing Ghc 0x80000001 ∷ (polls ++ Reading Ghc last_ghc ∷ [])
-  pub only_reads_ghc : All ReadsGlobalControl polls
+  pub polls_show_hr : All ReadsHrSet polls
   pub hr_is : bit last_ghc 0 ≡ hr
+
+-- First of all the adapter was reset: HR was set, and GHC was read until HR was 0.
+pub record BeginsWithReset (accesses : List Access) : Type 0 where
+  pub reset_accesses : List Access
+  pub rest : List Access
+  pub accesses_are : accesses ≡ reset_accesses ++ rest
+  pub hr_is_awaited : SetsHrAndPollsWhileSet false reset_accesses
 
 -- ---- the whole
 
@@ -41,16 +43,16 @@ pub record SetsHrAndLastReads (hr : Bool) (accesses : List Access) : Type 0 wher
 -- command any more. A machine that agreed followed, by steps of the device alone.
 pub record Resets (old new : Device) : Type 0 where
   pub followed : IsSimulated IsResetAccess AnySlotStates old new
-  pub awaited : SetsHrAndLastReads false followed.is_driven.accesses
+  pub awaited : SetsHrAndPollsWhileSet false followed.is_driven.accesses
   pub count_is_allowed : length followed.is_driven.accesses ≤ 65
   pub idle : IsIdle new
   pub adapter_is_kept : SameAdapter old new
 
--- The adapter didn't end its reset: GHC was read 64 times, at last with HR one, and it is one still. A machine that
+-- The adapter didn't end its reset: GHC was read 64 times, each time with HR one, and it is one still. A machine that
 -- agreed followed.
 pub record ResetStaysPending (old new : Device) : Type 0 where
   pub followed : IsSimulated IsResetAccess AnySlotStates old new
-  pub awaited : SetsHrAndLastReads true followed.is_driven.accesses
+  pub awaited : SetsHrAndPollsWhileSet true followed.is_driven.accesses
   pub count_is : length followed.is_driven.accesses ≡ 65
   pub hr_is_set : new.hr ≡ true
   pub adapter_is_kept : SameAdapter old new

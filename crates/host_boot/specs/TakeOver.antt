@@ -16,7 +16,7 @@ use Rattle.adapter.specs.declared.command.Operation.TheVariants.{Identify}
 use Rattle.refinement.specs.Relation.{port_at}
 use Rattle.refinement.specs.Fragments.{SomeMachineAgreesWith, SomeMachineAgrees, ReadsPortOrWrites, IsDrivenBy, IsSimulatedChangingUses, SameSlotStates, OnlyDeviceChangesPort}
 use Rattle.refinement.specs.Driver.{AllFree}
-use Rattle.refinement.specs.Halting.{NotLogOnlyAndQueuedHaltHasTakenCommand}
+use Rattle.refinement.specs.Halting.{HaltFitsTakenCommands}
 use Rattle.refinement.specs.PreservedParts.{SameAdapter}
 use Rattle.refinement.specs.Slots.{Free, Own, SlotStates}
 use Rattle.identify.specs.Wanted.{serial_of}
@@ -80,7 +80,7 @@ WroteSctlUnlessUnservedOrDead _ port since d = since ≤ (d.port port).notes.sct
 -- what halts a port that was found ready is of a command that is taken
 abbrev pub ReadyQueuedHaltIsOfTaken : ProbeResult → ℕ → Device → Type 0
 ReadyQueuedHaltIsOfTaken found port d = (info : DiskInfo) → found ≡ Ready info
-    → NotLogOnlyAndQueuedHaltHasTakenCommand (d.port port)
+    → HaltFitsTakenCommands (d.port port)
 
 -- What accesses tell of the engines of a port that was found to be this: both fell, as was read after each was cleared.
 -- Of a dead port 64 readings in a row showed one that runs still; and one that isn't served wasn't stopped.

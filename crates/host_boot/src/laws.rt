@@ -12,7 +12,7 @@ use super::prerequisites::law_prerequisites;
 /// What stands behind what a port was found to be still stands as long as the port isn't booted anew. A boot begins it.
 /// It goes on where the adapter is the same, enough is left of the port, and its disk sends no page of IDENTIFY DEVICE,
 /// which a dead port's may.
-pub fn law_what_was_found_still_stands()
+pub fn law_probe_result_backed_until_next_port_boot()
     ensures begins { (wanted : Wanted) (found : ProbeResult) (port : ℕ) (d : Device)
         → BacksProbeResult wanted found port d
         → StillBacksProbeResult wanted found port d }
@@ -25,7 +25,7 @@ pub fn law_what_was_found_still_stands()
 }
 
 /// Over steps of the device, while no reset is pending, only the device changes ports; and the adapter is what it was.
-pub fn law_only_device_changes_ports_outside_reset()
+pub fn law_device_steps_keep_controls_and_notes()
     ensures only_device_changes_ports { (old new : Device) → old.hr ≡ false → Steps old new
         → OnlyDeviceChangesPorts old new }
     ensures adapter_is_kept { (old new : Device) → Steps old new → SameAdapter old new }
@@ -37,7 +37,7 @@ pub fn law_only_device_changes_ports_outside_reset()
 /// has its command list in its place, with ST set; where nothing went wrong on it in the whole taking over, it runs
 /// well; and whatever went wrong, its faults since ST was set are on record; and a disk is in, if it shows one. A port
 /// that was found unfit or foreign shows a device, or has no disk in.
-pub fn law_what_was_taken_over_may_be_served()
+pub fn law_taken_over_ports_are_as_their_state_says()
     ensures served_port_exists { (wanted : List Wanted) (host : Host) (port : ℕ) (old new : Device)
         → TakesOver wanted host old new
         → port < 4 → probe_result_of host.ports port ≢ Unserved → HasPort new port }
@@ -57,7 +57,7 @@ pub fn law_what_was_taken_over_may_be_served()
         (old new : Device) → IsIdle old
         → TakesOver wanted host old new → FoundUnusableDevice state → probe_result_of host.ports port ≡ Unready state
         → HasDet3IfDiskPresent (new.port port) }
-    ensures disk_is_in_if_shown { (wanted : List Wanted) (host : Host) (port : ℕ) (info : DiskInfo) (old new : Device)
+    ensures disk_is_in_if_det_3 { (wanted : List Wanted) (host : Host) (port : ℕ) (info : DiskInfo) (old new : Device)
         → IsIdle old
         → TakesOver wanted host old new → probe_result_of host.ports port ≡ Ready info
         → ShownDiskIsIn (new.port port) }

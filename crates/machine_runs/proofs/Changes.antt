@@ -9,7 +9,8 @@ use Rattle.ata_types.specs.declared.refusal.MemFault.TheVariants as fault
 use Rattle.block_machine.specs.DueRequests.{changes_sectors}
 use Rattle.block_machine.specs.State.{Block, DiskBytes, Memory, Machine, nth_frame, sector_of, is_reader, block_written}
 use Rattle.block_machine.specs.Steps.{Step, Touch, PlugDisk, Store, after_step, put_bytes, put_sector, disks_after_touch}
-use Rattle.block_machine.specs.Expected.{after, IsLegal, IsInitial}
+use Rattle.block_machine.specs.Events.{AllEnabled}
+use Rattle.block_machine.specs.Expected.{after, IsInitial}
 use Rattle.block_machine.specs.Confinement.{MayChangeByte, MayChangeSector}
 use Rattle.block_machine.proofs.Trace.{runs_lives}
 use Rattle.block_machine.proofs.Reading.{open_unlent}
@@ -33,9 +34,9 @@ put_there f g offset n b bytes memory ne = go ((g.0 == f.0) && (leb offset b && 
         (sym (ap (λ (n : ℕ). record { 0 = n }) (eqb-true g.0 f.0 p.0)), leb-true offset b q.0, ltb-true b (offset + n) q.1)
     go false t = absurd (ne (cond-false ((g.0 == f.0) && (leb offset b && ltb b (offset + n))) (bytes (b - offset)) (memory g b) t))
 
-pub law_bytes_change_by_touch_or_store : (start : Machine) (h : List Step) (step : Step) (f : Frame) (b : ℕ) → IsInitial start → IsLegal start (step ∷ h)
+pub law_frame_bytes_change_only_by_touch_or_store : (start : Machine) (h : List Step) (step : Step) (f : Frame) (b : ℕ) → IsInitial start → AllEnabled start (step ∷ h)
     → (after start (step ∷ h)).memory f b ≢ (after start h).memory f b → MayChangeByte (after start h) step f b
-law_bytes_change_by_touch_or_store start h (Touch e i block) f b s legal ne = by (is_reader e.request.asked.op) refl
+law_frame_bytes_change_only_by_touch_or_store start h (Touch e i block) f b s enabled ne = by (is_reader e.request.asked.op) refl
   where
     by : (t : Bool) → is_reader e.request.asked.op ≡ t → MayChangeByte (after start h) (Touch e i block) f b
     by false t = absurd (ne (ap (λ (x : Memory). x f b)
@@ -43,20 +44,20 @@ law_bytes_change_by_touch_or_store start h (Touch e i block) f b s legal ne = by
     by true t =
         let put = cond-true (is_reader e.request.asked.op) (put_bytes (nth_frame e.request.asked.frames.items (i / 8)) (512 * (i % 8)) 512 block (after start h).memory) (after start h).memory t in
         let there = put_there (nth_frame e.request.asked.frames.items (i / 8)) f (512 * (i % 8)) 512 b block (after start h).memory (λ same. ne (ap (λ (x : Memory). x f b) put ∙ same)) in
-        let sound = (traced start h s legal.0).sound in
-        let l = runs_lives (after start h) e legal.1.0 in
+        let sound = (traced start h s enabled.0).sound in
+        let l = runs_lives (after start h) e enabled.1.0 in
         let room = sound.room e l t in
-        let lt = legal.1.1 in
+        let lt = enabled.1.1 in
         (reads_only e.request.asked.op t, there.0, ap (after start h).lent (sym there.0) ∙ sound.lent e l (i / 8) (omega (arith, room, lt)), there.1, there.2)
-law_bytes_change_by_touch_or_store start h (Store client frame offset bytes) f b s legal ne =
+law_frame_bytes_change_only_by_touch_or_store start h (Store client frame offset bytes) f b s enabled ne =
     let there = put_there frame f offset (length bytes) b (slice_index bytes) (after start h).memory ne in (
       there.0,
-      ap (after start h).owner (sym there.0) ∙ owned ((after start h).owner frame) client (legal.1 fault.FrameForeign),
-      ap (after start h).lent (sym there.0) ∙ open_unlent (after start h) client frame offset (length bytes) legal.1,
+      ap (after start h).owner (sym there.0) ∙ owned ((after start h).owner frame) client (enabled.1 fault.FrameForeign),
+      ap (after start h).lent (sym there.0) ∙ open_unlent (after start h) client frame offset (length bytes) enabled.1,
       there.1,
       there.2,
     )
-law_bytes_change_by_touch_or_store start h _ f b s legal ne = ne refl
+law_frame_bytes_change_only_by_touch_or_store start h _ f b s enabled ne = ne refl
 
 pub law_sectors_change_by_touch_or_plug : (m : Machine) (step : Step) (port : Port) (k b : ℕ) → (after_step m step).disk_bytes port k b ≢ m.disk_bytes port k b → MayChangeSector step port k
 law_sectors_change_by_touch_or_plug m (Touch e i block) port k b ne = by (changes_sectors e.request.asked.op) refl

@@ -13,7 +13,7 @@ use Rattle.block_machine.specs.Ports.{Evidence}
 use Rattle.block_machine.specs.State.{Accepted, Pending, unanswered}
 use Rattle.block_machine.specs.Steps.{Accept, Issue, Answer, newly_accepted, newly_issued}
 use Rattle.block_machine.specs.Events.{Submit, Service, Submitted, Replied, CallRecord, Happens, RepliesMatch, IsLowerByPortThenId, reply_of, abstract_after_all, admission_context_of}
-use Rattle.machine_runs.specs.ExampleRuns.{StoppedAndStuckPortAnswersPortDead}
+use Rattle.machine_runs.specs.ExampleRuns.{PortStuckInBootAnswersPortDead}
 use Rattle.block_machine.proofs.Members.{contains_none, contains_here, contains_there, contains_cases}
 use Rattle.block_machine.proofs.Setting.{port, frame, empty_starts, acceptable, granted}
 use Rattle.machine_runs.proofs.Scene.{mode, id, call, one_sector, ports_in, first, shows_none, changed_here, IsQuiet, row_zero, write_at, new, none_waits, none_unplugged, ports_fit, none_dead, none_ended}
@@ -104,7 +104,7 @@ happens3 = record {
     dies : (p : Port) → Contains (port ∷ []) p → (ports_in Dead).state p ≡ Dead
     dies p h = ap (ports_in Dead).state (only port p h)
 
-pub dies_in_a_service : StoppedAndStuckPortAnswersPortDead
+pub dies_in_a_service : PortStuckInBootAnswersPortDead
 dies_in_a_service = record {
   initial_state = first;
   earlier_calls = run2;

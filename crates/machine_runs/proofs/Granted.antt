@@ -15,7 +15,7 @@ use Rattle.block_machine.specs.Steps.{Step, Accept, Issue, Touch, End, Age, Wait
 use Rattle.block_machine.specs.Expected.{after}
 use Rattle.block_machine.specs.Events.{AbstractState, AbstractCall, RevokeOf, AbstractCallResult, WasRevoked, CallRecord, AllEnabled, AreStepsOfCall, ResultMatchesSteps, IsByDevice, IsRun, IsByServer, abstract_after_all, steps_of}
 use Rattle.block_machine.proofs.Accepts.{law_accepted_is_granted}
-use Rattle.block_machine.proofs.EventLemmas.{moment_is, run_legal, run_starts}
+use Rattle.block_machine.proofs.EventLemmas.{moment_is, run_steps_are_enabled, run_starts}
 use Rattle.block_machine.proofs.Keeps.{keeps, older_issued}
 use Rattle.block_machine.proofs.Members.{append_in, at_cases, contains_cases, contains_here, contains_none, contains_there, map_in, without_in}
 use Rattle.block_machine.proofs.Runs.{nobody, traced}
@@ -191,5 +191,5 @@ granted_event ask said old evidence steps ports a s may b g e h waits = granted_
 pub law_what_waits_has_its_grant : {D : Type 0} (first : AbstractState) (run : List (CallRecord D)) (e : Pending) → IsRun first run → Contains (abstract_after_all first run).machine.book e → e.issued ≡ false → HasGrant (abstract_after_all first run).machine e
 law_what_waits_has_its_grant first [] e r h waits = absurd (nobody first.machine r.0 e (inl h))
 law_what_waits_has_its_grant first (event ∷ past) e r h waits =
-    let sound = subst Sound (sym (moment_is first past)) (traced first.machine (steps_of past) (run_starts first past r.0) (run_legal first past r.0)).sound in
+    let sound = subst Sound (sym (moment_is first past)) (traced first.machine (steps_of past) (run_starts first past r.0) (run_steps_are_enabled first past r.0)).sound in
     granted_event event.call event.result (abstract_after_all first past) event.evidence event.steps event.ports r.1.result_matches_steps sound r.1.steps_are_enabled r.1.steps_are_of_call (λ x i w. law_what_waits_has_its_grant first past x r.0 i w) e h waits

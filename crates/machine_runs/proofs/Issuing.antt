@@ -11,17 +11,17 @@ use Rattle.ata_types.specs.declared.request.Outcome.TheVariants.{Aborted, Ok}
 use Rattle.block_machine.specs.Ports.{Ports, Evidence}
 use Rattle.block_machine.specs.State.{Accepted, Pending, Machine}
 use Rattle.block_machine.specs.Steps.{Step, Accept, Issue, Touch, End, Age, WaitAgain, Answer, Release, Revoke, Unplug, PlugDisk, Store, Load, IsEnabled, after_step, update_pending, newly_issued, touch, mark_ended, requeued, aged_pending}
-use Rattle.block_machine.specs.Expected.{after, IsLegal, IsInitial}
+use Rattle.block_machine.specs.Expected.{after, IsInitial}
 use Rattle.block_machine.specs.Confinement.{KeepsLimitsAndHoldsOwnFrames}
-use Rattle.block_machine.specs.Events.{AbstractState, CallRecord, AnswersAndWaitsLawful, EveryReadHoldsExpected, IsLawfulAnswer, IsRun, issues_id, abstract_after_all, steps_of}
+use Rattle.block_machine.specs.Events.{AbstractState, CallRecord, AnswersAndWaitsLawful, EveryReadHoldsExpected, IsLawfulAnswer, IsRun, issues_id, abstract_after_all, steps_of, AllEnabled}
 use Rattle.block_machine.proofs.Members.{contains_none, contains_here, contains_there, contains_cases, map_in, into_map, at_cases, without_in, append_in}
 use Rattle.block_machine.proofs.Keeps.{older_keeps, older_issued}
-use Rattle.block_machine.proofs.Limits.{law_limits_hold, older_issues}
+use Rattle.block_machine.proofs.Limits.{law_request_limits_hold_and_frames_are_lent, older_issues}
 use Rattle.block_machine.proofs.Sound.{Sound}
 use Rattle.block_machine.proofs.Runs.{traced, nobody}
 use Rattle.block_machine.proofs.Counting.{count_cons, count_append, issued_not_due}
 use Rattle.machine_runs.specs.AnswerOrigins.{CallAnswersOk, requeues_id}
-use Rattle.block_machine.proofs.EventLemmas.{moment_is, run_starts, run_legal, step_of_run}
+use Rattle.block_machine.proofs.EventLemmas.{moment_is, run_starts, run_steps_are_enabled, step_of_run}
 use Rattle.machine_runs.proofs.Once.{law_answered_was_accepted}
 use Rattle.machine_runs.proofs.Touching.{law_ok_was_touched, law_ok_was_ended}
 
@@ -150,13 +150,13 @@ counted_step m (PlugDisk p i size disk) id n may s limits c = counted_on m (afte
 counted_step m (Store k f o b) id n may s limits c = counted_on m (after_step m (Store k f o b)) id n refl (λ e h. came_same issues_newest_first m e e h refl) c
 counted_step m (Load k f o b) id n may s limits c = counted_on m (after_step m (Load k f o b)) id n refl (λ e h. came_same issues_newest_first m e e h refl) c
 
-counted : (start : Machine) (h : List Step) (id : RequestId) → IsInitial start → IsLegal start h → IsCounted (after start h) id (count_by (issues_id id) h)
-counted start [] id s legal = record { most = omega arith; none = λ le. refl; here = λ e h same. absurd (nobody start s e (inl h)) }
-counted start (step ∷ past) id s legal = subst (IsCounted (after start (step ∷ past)) id) (sym (count_cons (issues_id id) step past))
-    (counted_step (after start past) step id (count_by (issues_id id) past) legal.1 (traced start past s legal.0).sound (law_limits_hold start (step ∷ past) s legal) (counted start past id s legal.0))
+counted : (start : Machine) (h : List Step) (id : RequestId) → IsInitial start → AllEnabled start h → IsCounted (after start h) id (count_by (issues_id id) h)
+counted start [] id s enabled = record { most = omega arith; none = λ le. refl; here = λ e h same. absurd (nobody start s e (inl h)) }
+counted start (step ∷ past) id s enabled = subst (IsCounted (after start (step ∷ past)) id) (sym (count_cons (issues_id id) step past))
+    (counted_step (after start past) step id (count_by (issues_id id) past) enabled.1 (traced start past s enabled.0).sound (law_request_limits_hold_and_frames_are_lent start (step ∷ past) s enabled) (counted start past id s enabled.0))
 
-pub law_issued_four_at_most : {D : Type 0} (first : AbstractState) (run : List (CallRecord D)) (id : RequestId) → IsRun first run → count_by (issues_id id) (steps_of run) ≤ 4
-law_issued_four_at_most first run id r = (counted first.machine (steps_of run) id (run_starts first run r) (run_legal first run r)).most
+pub law_issued_four_times_at_most : {D : Type 0} (first : AbstractState) (run : List (CallRecord D)) (id : RequestId) → IsRun first run → count_by (issues_id id) (steps_of run) ≤ 4
+law_issued_four_times_at_most first run id r = (counted first.machine (steps_of run) id (run_starts first run r) (run_steps_are_enabled first run r)).most
 
 -- An id that is still to come was neither issued nor made to wait again; and its unanswered request was issued once more where it is issued, and
 -- else as often as it was made to wait again.
@@ -250,17 +250,17 @@ balanced_step m (PlugDisk p i size disk) id issues waits may s b = balanced_on m
 balanced_step m (Store k f o x) id issues waits may s b = balanced_on m (after_step m (Store k f o x)) id issues waits refl (λ e h. came_same issued_of m e e h refl) b
 balanced_step m (Load k f o x) id issues waits may s b = balanced_on m (after_step m (Load k f o x)) id issues waits refl (λ e h. came_same issued_of m e e h refl) b
 
-balanced : (start : Machine) (h : List Step) (id : RequestId) → IsInitial start → IsLegal start h → IsBalanced (after start h) id (count_by (issues_id id) h) (count_by (requeues_id id) h)
-balanced start [] id s legal = record { none = λ le. (refl, refl); here = λ e h same. absurd (nobody start s e (inl h)) }
-balanced start (step ∷ past) id s legal =
+balanced : (start : Machine) (h : List Step) (id : RequestId) → IsInitial start → AllEnabled start h → IsBalanced (after start h) id (count_by (issues_id id) h) (count_by (requeues_id id) h)
+balanced start [] id s enabled = record { none = λ le. (refl, refl); here = λ e h same. absurd (nobody start s e (inl h)) }
+balanced start (step ∷ past) id s enabled =
     subst (IsBalanced (after start (step ∷ past)) id (count_by (issues_id id) (step ∷ past))) (sym (count_cons (requeues_id id) step past))
     (subst (λ (n : ℕ). IsBalanced (after start (step ∷ past)) id n (cond (requeues_id id step) 1 0 + count_by (requeues_id id) past)) (sym (count_cons (issues_id id) step past))
-    (balanced_step (after start past) step id (count_by (issues_id id) past) (count_by (requeues_id id) past) legal.1 (traced start past s legal.0).sound (balanced start past id s legal.0)))
+    (balanced_step (after start past) step id (count_by (issues_id id) past) (count_by (requeues_id id) past) enabled.1 (traced start past s enabled.0).sound (balanced start past id s enabled.0)))
 
-pub law_issues_are_counted : (start : Machine) (history : List Step) (e : Pending) → IsInitial start → IsLegal start history → Contains (after start history).book e
+pub law_issues_are_counted : (start : Machine) (history : List Step) (e : Pending) → IsInitial start → AllEnabled start history → Contains (after start history).book e
     → (count_by (issues_id e.request.id) history ≡ e.issue_count) × (count_by (issues_id e.request.id) history ≡ count_by (requeues_id e.request.id) history + cond e.issued 1 0)
-law_issues_are_counted start history e starts legal here =
-    ((counted start history e.request.id starts legal).here e here refl, (balanced start history e.request.id starts legal).here e here refl)
+law_issues_are_counted start history e starts enabled here =
+    ((counted start history e.request.id starts enabled).here e here refl, (balanced start history e.request.id starts enabled).here e here refl)
 
 -- a step of a run is one of a call's
 abort_of_run : {D : Type 0} (first : AbstractState) (run : List (CallRecord D)) (e : Pending) → IsRun first run → Contains (steps_of run) (Answer e Aborted) → e.issue_count ≡ 4
@@ -281,7 +281,7 @@ aborted_after_four first run late early e r split =
     let four = abort_of_run first run e r (subst (λ (xs : List Step). Contains xs (Answer e Aborted)) (sym split) (in_middle late (Answer e Aborted) early)) in
     let u = step_of_run first run late (Answer e Aborted) early r split in
     let count = (counted first.machine early e.request.id (run_starts first run r) u.0).here e u.1.0 refl in
-    let most = law_issued_four_at_most first run e.request.id r in
+    let most = law_issued_four_times_at_most first run e.request.id r in
     let all : count_by issues (steps_of run) ≡ count_by issues (late ++ Answer e Aborted ∷ early) = ap (count_by issues) split in
     omega (arith, four, count, most, all, count_append issues late (Answer e Aborted ∷ early), count_cons issues (Answer e Aborted) early)
 
@@ -290,7 +290,7 @@ pub one_of_run : {D : Type 0} (first : AbstractState) (run : List (CallRecord D)
     → a.request.id.0 ≡ b.request.id.0 → a ≡ b
 one_of_run first run a b r h k same =
     let there : (x : Pending) → Contains (abstract_after_all first run).machine.book x → Contains (after first.machine (steps_of run)).book x = λ x i. subst (λ (m : Machine). Contains m.book x) (moment_is first run) i in
-    (traced first.machine (steps_of run) (run_starts first run r) (run_legal first run r)).sound.one a b (there a h) (there b k) same
+    (traced first.machine (steps_of run) (run_starts first run r) (run_steps_are_enabled first run r)).sound.one a b (there a h) (there b k) same
 
 pub counted_more : {X : Type 0} (p : X → Bool) (x : X) (xs : List X) → count_by p (x ∷ xs) ≡ cond (p x) 1 0 + count_by p xs
 counted_more p x xs = count_cons p x xs

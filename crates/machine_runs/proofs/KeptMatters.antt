@@ -2,6 +2,7 @@
 -- one touches the sector after it, and a read finds the kept one's bytes.
 use Rattle.std.proofs.Common.{◌≡◌, ◌≢◌, ◌⊎◌, ℕ, ◌+◌, ◌-◌, ◌<◌, ◌≤◌, ◌^◌, true, false, ◌||◌, ◌==◌, List, [], ◌∷◌, slice_get, Some, None, inl, inr, refl, sym, ap, ◌∙◌, subst, arith, eq-eqb}
 use Rattle.std.proofs.lemmas.Bool.{or_left, false≢true}
+use Rattle.std.proofs.lemmas.List.Elements.{All-contains, All-nil}
 use Rattle.std.proofs.lemmas.Option.{get_or_from_slice_get}
 use Rattle.std.specs.List.{Contains}
 use Rattle.ata_types.specs.declared.PortState.TheVariants.{Ready}
@@ -139,6 +140,9 @@ wrong h = go (h.sectors_are_expected 0 (omega arith)).1
 here : (e : Pending) → Contains (e ∷ []) e
 here e = (0, omega arith, refl)
 
+nowhere : (e : Pending) → Contains [] e → ⊥
+nowhere e none = All-contains (λ _. ⊥) [] e (All-nil (λ _. ⊥)) none
+
 one_touched : (i : ℕ) → i < 1 → ((i == 0) || false) ≡ true
 one_touched i lt = or_left _ _ (eq-eqb i 0 (omega arith))
 
@@ -146,7 +150,7 @@ mine : Contains two_rows (row 0)
 mine = (0, omega arith, refl)
 
 loose : AllEnabledWithoutKeptRule start history
-loose = ((((((((((((tt, new start 1 Write (write_fits start 1 refl refl refl refl (omega arith)) refl refl refl), (here (newly_accepted (one_sector 1 Write)), record { is_in_book = (0, omega arith, refl); waits_and_nothing_blocks = refl; slot_is_left = λ _. omega arith }, granted 0 mine refl)), (here one, tt)), new (after start first_part) 2 Write (write_fits (after start first_part) 2 refl refl refl refl (omega arith)) refl refl refl), (here (newly_accepted (one_sector 2 Write)), record { is_in_book = (0, omega arith, refl); waits_and_nothing_blocks = refl; slot_is_left = λ _. omega arith }, granted 0 mine refl)), (inl (here two, refl), omega arith, refl, omega arith, λ _ b lt. refl)), (inr (here one), omega arith, refl, omega arith, λ _ b lt. refl)), (inl (here (touch 0 two), refl), one_touched, refl)), (here (mark_ended (touch 0 two)), tt)), new (after start second_part) 3 Read (read_fits (after start second_part) 3 refl refl refl refl (omega arith)) refl refl refl), (here (newly_accepted (one_sector 3 Read)), record { is_in_book = (0, omega arith, refl); waits_and_nothing_blocks = refl; slot_is_left = λ _. omega arith }, granted 0 mine refl)), (inl (here read, refl), omega arith, refl, omega arith, λ e. absurd (false≢true (sym (ap is_reader e)))))
+loose = ((((((((((((tt, new start 1 Write (write_fits start 1 refl refl refl refl (omega arith)) refl refl refl), (here (newly_accepted (one_sector 1 Write)), record { is_in_book = (0, omega arith, refl); waits_and_nothing_blocks = refl; slot_is_left = λ _. omega arith }, λ e none. absurd (nowhere e none), granted 0 mine refl)), (here one, tt)), new (after start first_part) 2 Write (write_fits (after start first_part) 2 refl refl refl refl (omega arith)) refl refl refl), (here (newly_accepted (one_sector 2 Write)), record { is_in_book = (0, omega arith, refl); waits_and_nothing_blocks = refl; slot_is_left = λ _. omega arith }, λ e none. absurd (nowhere e none), granted 0 mine refl)), (inl (here two, refl), omega arith, refl, omega arith, λ _ b lt. refl)), (inr (here one), omega arith, refl, omega arith, λ _ b lt. refl)), (inl (here (touch 0 two), refl), one_touched, refl)), (here (mark_ended (touch 0 two)), tt)), new (after start second_part) 3 Read (read_fits (after start second_part) 3 refl refl refl refl (omega arith)) refl refl refl), (here (newly_accepted (one_sector 3 Read)), record { is_in_book = (0, omega arith, refl); waits_and_nothing_blocks = refl; slot_is_left = λ _. omega arith }, λ e none. absurd (nowhere e none), granted 0 mine refl)), (inl (here read, refl), omega arith, refl, omega arith, λ e. absurd (false≢true (sym (ap is_reader e)))))
 
 pub goes_wrong : ReadsWrongWithoutKeptRule
 goes_wrong = record {

@@ -10,7 +10,7 @@ use Rattle.ata_types.specs.declared.request.Reply.{Reply}
 use Rattle.block_machine.specs.Ports.{Ports, Evidence}
 use Rattle.block_machine.specs.State.{Accepted, Pending, Machine}
 use Rattle.block_machine.specs.Steps.{Step, Accept, Answer, IsEnabled, after_step}
-use Rattle.block_machine.specs.Expected.{after, IsLegal, IsInitial}
+use Rattle.block_machine.specs.Expected.{after, IsInitial}
 use Rattle.block_machine.specs.Confinement.{WasAccepted}
 use Rattle.block_machine.specs.Events.{AbstractState, AbstractCall, Submit, Service, Tick, Reset, RevokeOf, AbstractCallResult, Submitted, Replied, WasReset, WasRevoked, CallRecord, AllEnabled, AreStepsOfCall, RepliesMatch, ResultMatchesSteps, IsRun, accepts_id, answers_id, accepts_of, answers_of, reply_of, replies_of, all_replies, gives_id, WasGivenId, abstract_after_all, steps_of}
 use Rattle.block_machine.proofs.Members.{contains_none, contains_here, contains_there, contains_cases, map_in, without_in, append_in}
@@ -20,7 +20,7 @@ use Rattle.block_machine.proofs.Accepts.{living_accepted}
 use Rattle.block_machine.proofs.Counting.{count_cons, count_append, count_map}
 use Rattle.machine_runs.specs.AnswerOrigins.{WasUnansweredBefore, WasSubmittedAndGivenId}
 use Rattle.machine_runs.proofs.CallSteps.{Came, came, Since, IsAccepted, since, is_submit, none_accepted, all_fit, accepted_asked}
-use Rattle.block_machine.proofs.EventLemmas.{run_starts, run_legal, step_of_run}
+use Rattle.block_machine.proofs.EventLemmas.{run_starts, run_steps_are_enabled, step_of_run}
 
 -- How often an id was accepted: not yet where it is still to come, and once at most.
 record IsFresh (m : Machine) (id : RequestId) (n : ℕ) : Type 0 where
@@ -41,13 +41,13 @@ fresh_step m (Accept r) id n may f = go (r.id.0 == id.0) refl
     go false e = let most = f.most in record { most = omega (arith, most); none = λ le. let zero = f.none (omega (arith, le)) in omega (arith, zero) }
 fresh_step m step id n may f = let most = f.most in record { most = omega (arith, most); none = λ le. let zero = f.none le in omega (arith, zero) }
 
-fresh : (start : Machine) (h : List Step) (id : RequestId) → IsInitial start → IsLegal start h → IsFresh (after start h) id (count_by (accepts_id id) h)
-fresh start [] id s legal = record { most = omega arith; none = λ le. refl }
-fresh start (step ∷ past) id s legal = subst (IsFresh (after start (step ∷ past)) id) (sym (count_cons (accepts_id id) step past))
-    (fresh_step (after start past) step id (count_by (accepts_id id) past) legal.1 (fresh start past id s legal.0))
+fresh : (start : Machine) (h : List Step) (id : RequestId) → IsInitial start → AllEnabled start h → IsFresh (after start h) id (count_by (accepts_id id) h)
+fresh start [] id s enabled = record { most = omega arith; none = λ le. refl }
+fresh start (step ∷ past) id s enabled = subst (IsFresh (after start (step ∷ past)) id) (sym (count_cons (accepts_id id) step past))
+    (fresh_step (after start past) step id (count_by (accepts_id id) past) enabled.1 (fresh start past id s enabled.0))
 
 pub law_accepted_at_most_once : {D : Type 0} (first : AbstractState) (run : List (CallRecord D)) (id : RequestId) → IsRun first run → count_by (accepts_id id) (steps_of run) ≤ 1
-law_accepted_at_most_once first run id r = (fresh first.machine (steps_of run) id (run_starts first run r) (run_legal first run r)).most
+law_accepted_at_most_once first run id r = (fresh first.machine (steps_of run) id (run_starts first run r) (run_steps_are_enabled first run r)).most
 
 -- How often an id was answered: not yet where it is still to come, or unanswered, and once at most.
 record IsUntold (m : Machine) (id : RequestId) (n : ℕ) : Type 0 where
@@ -93,13 +93,13 @@ untold_step m step id n may s f =
           (came m step x i);
     }
 
-untold : (start : Machine) (h : List Step) (id : RequestId) → IsInitial start → IsLegal start h → IsUntold (after start h) id (count_by (answers_id id) h)
-untold start [] id s legal = record { most = omega arith; none = λ le. refl; here = λ e i q. refl }
-untold start (step ∷ past) id s legal = subst (IsUntold (after start (step ∷ past)) id) (sym (count_cons (answers_id id) step past))
-    (untold_step (after start past) step id (count_by (answers_id id) past) legal.1 (traced start past s legal.0).sound (untold start past id s legal.0))
+untold : (start : Machine) (h : List Step) (id : RequestId) → IsInitial start → AllEnabled start h → IsUntold (after start h) id (count_by (answers_id id) h)
+untold start [] id s enabled = record { most = omega arith; none = λ le. refl; here = λ e i q. refl }
+untold start (step ∷ past) id s enabled = subst (IsUntold (after start (step ∷ past)) id) (sym (count_cons (answers_id id) step past))
+    (untold_step (after start past) step id (count_by (answers_id id) past) enabled.1 (traced start past s enabled.0).sound (untold start past id s enabled.0))
 
 pub law_answered_at_most_once : {D : Type 0} (first : AbstractState) (run : List (CallRecord D)) (id : RequestId) → IsRun first run → count_by (answers_id id) (steps_of run) ≤ 1
-law_answered_at_most_once first run id r = (untold first.machine (steps_of run) id (run_starts first run r) (run_legal first run r)).most
+law_answered_at_most_once first run id r = (untold first.machine (steps_of run) id (run_starts first run r) (run_steps_are_enabled first run r)).most
 
 pub law_answered_was_accepted : {D : Type 0} (first : AbstractState) (run : List (CallRecord D)) (late early : List Step) (e : Pending) (outcome : Outcome) → IsRun first run
     → steps_of run ≡ late ++ Answer e outcome ∷ early → WasAccepted first.machine early e.request
@@ -281,8 +281,8 @@ law_replied_was_asked first past event reply r h = ⊎_elim
     (λ e. absurd (contains_none reply (subst (λ (xs : List Reply). Contains xs reply) e h)))
     (told_or_none event.call event.result (abstract_after_all first past) event.evidence event.steps _ r.1.result_matches_steps)
 
-pub law_replied_was_given : {D : Type 0} (first : AbstractState) (past : List (CallRecord D)) (event : CallRecord D) (reply : Reply) → IsRun first (event ∷ past) → Contains (replies_of event.result) reply
+pub law_replied_id_was_given_to_its_client : {D : Type 0} (first : AbstractState) (past : List (CallRecord D)) (event : CallRecord D) (reply : Reply) → IsRun first (event ∷ past) → Contains (replies_of event.result) reply
     → WasGivenId reply.id reply.client past
-law_replied_was_given first past event reply r h =
+law_replied_id_was_given_to_its_client first past event reply r h =
     let told = law_replied_was_asked first past event reply r h in
     subst (λ (c : ClientId). WasGivenId reply.id c past) told.3 (subst (λ (id : RequestId). WasGivenId id told.0.request.asked.client past) told.2 (asked_given told.0.request past told.4))

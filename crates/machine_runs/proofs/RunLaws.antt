@@ -170,13 +170,13 @@ placed_event ask said old evidence steps new was e fit here placed (Ticks r ages
 placed_event ask said old evidence steps new was e fit here placed (Resets t releases ports) = inl (emptied_ready new e here (ports e.request.port).0)
 placed_event ask said old evidence steps new was e fit here placed (Sticks t ports keep) = inr (((ports e.request.port).1 (placed_served old.ports e.request.port was fit placed)).0, keep)
 
-pub law_unanswered_on_ready_or_stuck : {D : Type 0} (first : AbstractState) (run : List (CallRecord D)) (e : Pending) → IsRun first run → Contains (abstract_after_all first run).machine.book e
+pub law_unanswered_has_ready_port_or_stuck_reset : {D : Type 0} (first : AbstractState) (run : List (CallRecord D)) (e : Pending) → IsRun first run → Contains (abstract_after_all first run).machine.book e
     → ((abstract_after_all first run).ports.state e.request.port ≡ Ready) ⊎ (((abstract_after_all first run).ports.state e.request.port ≡ Dead) × LastServiceOrResetIsStuckReset run)
-law_unanswered_on_ready_or_stuck first [] e r h = absurd (nobody first.machine r.0 e (inl h))
-law_unanswered_on_ready_or_stuck first (event ∷ past) e r h = ⊎_elim
+law_unanswered_has_ready_port_or_stuck_reset first [] e r h = absurd (nobody first.machine r.0 e (inl h))
+law_unanswered_has_ready_port_or_stuck_reset first (event ∷ past) e r h = ⊎_elim
     (λ (s : Since (abstract_after_all first past).machine event.steps e). placed_event event.call event.result (abstract_after_all first past) event.evidence event.steps (abstract_after_all first (event ∷ past)) (LastServiceOrResetIsStuckReset past) e
     (run_fit first past r.0) h
-    (subst (λ (x : Accepted). IsPlaced (abstract_after_all first past).ports x.port (LastServiceOrResetIsStuckReset past)) s.same (law_unanswered_on_ready_or_stuck first past s.old r.0 s.here))
+    (subst (λ (x : Accepted). IsPlaced (abstract_after_all first past).ports x.port (LastServiceOrResetIsStuckReset past)) s.same (law_unanswered_has_ready_port_or_stuck_reset first past s.old r.0 s.here))
     (kind event.call event.result (abstract_after_all first past) event.evidence event.steps (abstract_after_all first (event ∷ past)) (LastServiceOrResetIsStuckReset past) r.1.result_matches_steps))
     (λ (a : IsAccepted event.steps e). let w = welcomes (abstract_after_all first past) event r.1 e.request a.0 in inl ((w.same e.request.port).1 ∙ w.ready))
     (since (abstract_after_all first past).machine event.steps e h)

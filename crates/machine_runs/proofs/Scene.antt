@@ -28,7 +28,7 @@ use Rattle.block_machine.specs.DueRequests.{NoneDue, is_flush}
 use Rattle.block_machine.specs.State.{Accepted, Pending, Machine, block_of, unanswered}
 use Rattle.block_machine.specs.Steps.{Step, Touch, End, Answer, newly_accepted, newly_issued, touch, mark_ended, MayAccept}
 use Rattle.block_machine.specs.Ports.{Ports, Evidence, PortsWellFormed, SamePort, IsStoppedOrStuck, MayBecome, IsServiced}
-use Rattle.block_machine.specs.Events.{AbstractState, AbstractCall, AbstractCallResult, CallRecord, ShowsDisk, TimesOutAtTick, AnswersOkWhatHadEnded, UnpluggedOutcomeEmptiesPort, UnpluggedOutcomeExcludesDeadAndSameSerialAndSize, AnswersService, RepliesMatch, admission_context_of, answers_of, reply_of}
+use Rattle.block_machine.specs.Events.{AbstractState, AbstractCall, AbstractCallResult, CallRecord, ShowsDisk, TimesOutAtTick, AnswersOkWhatHadEnded, UnpluggedOutcomeEmptiesPort, UnpluggedExcludesDeadAndSameDisk, AnswersService, RepliesMatch, admission_context_of, answers_of, reply_of}
 use Rattle.block_machine.proofs.Members.{contains_none, contains_here, contains_cases, append_in, none_of}
 use Rattle.block_machine.proofs.Counting.{issued_not_due}
 use Rattle.block_machine.proofs.Setting.{client, on, port, frame, row, two_rows, request, empty, its_row, is_trim, IsFit, acceptable}
@@ -331,7 +331,7 @@ none_unplugged steps m none = record {
   none_is_told_dead = λ e other h i. never_unplugged steps none e h;
 }
 
-pub finds_none : (steps : List Step) (old new : Ports) → list_any is_unplugged steps ≡ false → UnpluggedOutcomeExcludesDeadAndSameSerialAndSize steps old new
+pub finds_none : (steps : List Step) (old new : Ports) → list_any is_unplugged steps ≡ false → UnpluggedExcludesDeadAndSameDisk steps old new
 finds_none steps old new none e h = never_unplugged steps none e h
 
 -- the step tells that a port is dead

@@ -4,7 +4,8 @@ use Rattle.std.proofs.lemmas.Bool.{or_left, and_parts, cond-false, false_from_ne
 use Rattle.block_machine.specs.DueRequests.{changes_sectors}
 use Rattle.block_machine.specs.State.{Block, Accepted, Pending, Machine, sector_of, block_written}
 use Rattle.block_machine.specs.Steps.{Step, Touch, IsEnabled, IsInBookOrKept}
-use Rattle.block_machine.specs.Expected.{after, IsLegal, IsInitial, IsTouch, touches_sector, HasTouched, plug_count, disk_number_read, IsLastWrittenOrPluggedIn, IsExpectedBlock}
+use Rattle.block_machine.specs.Events.{AllEnabled}
+use Rattle.block_machine.specs.Expected.{after, IsInitial, IsTouch, touches_sector, HasTouched, plug_count, disk_number_read, IsLastWrittenOrPluggedIn, IsExpectedBlock}
 use Rattle.block_machine.proofs.Trace.{Seen, runs_lives, conflict_at, read_number, last_from}
 use Rattle.block_machine.proofs.Runs.{traced}
 
@@ -25,15 +26,15 @@ no_earlier m (Touch e i block) may r k seen w writes here less t =
     (conflict_at e.request r k here_e (or_left _ _ writes_e) (omega (arith, at)) (omega (arith, at, may.1)) seen.from seen.to)
 no_earlier m _ may r k seen w writes here less t = absurd t
 
-pub law_expected_stays_once_read_is_answered : (start : Machine) (h : List Step) (step : Step) (read : Accepted) (k n : ℕ) (block : Block) → IsInitial start → IsLegal start (step ∷ h)
+pub law_expected_stays_once_read_is_answered : (start : Machine) (h : List Step) (step : Step) (read : Accepted) (k n : ℕ) (block : Block) → IsInitial start → AllEnabled start (step ∷ h)
     → HasTouched read k n h → ((e : Pending) → IsInBookOrKept (after start h) e → e.request.id ≢ read.id) → IsExpectedBlock start h read k block → IsExpectedBlock start (step ∷ h) read k block
-law_expected_stays_once_read_is_answered start h step read k n block s legal touched gone left =
+law_expected_stays_once_read_is_answered start h step read k n block s enabled touched gone left =
     let m = after start h in
-    let seen = (traced start h s legal.0).seen read k n touched in
-    let same : disk_number_read read k (step ∷ h) ≡ disk_number_read read k h = cond-false (touches_sector read.id k step) (plug_count read.port h) (disk_number_read read k h) (no_touch m step legal.1 read k gone) in
+    let seen = (traced start h s enabled.0).seen read k n touched in
+    let same : disk_number_read read k (step ∷ h) ≡ disk_number_read read k h = cond-false (touches_sector read.id k step) (plug_count read.port h) (disk_number_read read k h) (no_touch m step enabled.1 read k gone) in
     subst (λ (x : ℕ). IsLastWrittenOrPluggedIn start read.port k x read.id.0 (step ∷ h) block) (sym same)
     (last_from start read.port k (disk_number_read read k h) read.id.0 read.id.0 step h block (read_number read k h)
-    (no_earlier m step legal.1 read k seen) (λ w o. o.earlier) (λ w o. o.earlier) left)
+    (no_earlier m step enabled.1 read k seen) (λ w o. o.earlier) (λ w o. o.earlier) left)
 
 -- Left is one block: requests that touched and have one id are one.
 
@@ -41,24 +42,24 @@ meets : {m : Machine} {x : Accepted} {j : ℕ} {w : Accepted} (k : ℕ) (step : 
 meets {m} k (Touch e i block) may t s id = sym t.0 ∙ s.one e (runs_lives m e may.0) (ap (λ (y : Accepted). y.id.0) t.0 ∙ id)
 meets k _ may t s id = absurd t
 
-touched_one : (start : Machine) (h : List Step) → IsInitial start → IsLegal start h → (w x : Accepted) (k n j o : ℕ) → HasTouched w k n h → HasTouched x j o h → w.id.0 ≡ x.id.0 → w ≡ x
-touched_one start [] s legal w x k n j o a b id = absurd a
-touched_one start (step ∷ past) s legal w x k n j o (inl a) (inl b) id = both step a.0 b.0
+touched_one : (start : Machine) (h : List Step) → IsInitial start → AllEnabled start h → (w x : Accepted) (k n j o : ℕ) → HasTouched w k n h → HasTouched x j o h → w.id.0 ≡ x.id.0 → w ≡ x
+touched_one start [] s enabled w x k n j o a b id = absurd a
+touched_one start (step ∷ past) s enabled w x k n j o (inl a) (inl b) id = both step a.0 b.0
   where
     both : (y : Step) → IsTouch y w k → IsTouch y x j → w ≡ x
     both (Touch e i block) p q = sym p.0 ∙ q.0
     both _ p q = absurd p
-touched_one start (step ∷ past) s legal w x k n j o (inl a) (inr b) id = meets k step legal.1 a.0 ((traced start past s legal.0).seen x j o b) id
-touched_one start (step ∷ past) s legal w x k n j o (inr a) (inl b) id = sym (meets j step legal.1 b.0 ((traced start past s legal.0).seen w k n a) (sym id))
-touched_one start (step ∷ past) s legal w x k n j o (inr a) (inr b) id = touched_one start past s legal.0 w x k n j o a b id
+touched_one start (step ∷ past) s enabled w x k n j o (inl a) (inr b) id = meets k step enabled.1 a.0 ((traced start past s enabled.0).seen x j o b) id
+touched_one start (step ∷ past) s enabled w x k n j o (inr a) (inl b) id = sym (meets j step enabled.1 b.0 ((traced start past s enabled.0).seen w k n a) (sym id))
+touched_one start (step ∷ past) s enabled w x k n j o (inr a) (inr b) id = touched_one start past s enabled.0 w x k n j o a b id
 
--- on a history that is legal, Left is one block
-pub law_expected_is_unique : (start : Machine) (h : List Step) (read : Accepted) (k : ℕ) (a b : Block) → IsInitial start → IsLegal start h → IsExpectedBlock start h read k a → IsExpectedBlock start h read k b → a ≡ b
-law_expected_is_unique start h read k a b s legal (inl p) (inl q) =
+-- on a history that is enabled, Left is one block
+pub law_expected_is_unique : (start : Machine) (h : List Step) (read : Accepted) (k : ℕ) (a b : Block) → IsInitial start → AllEnabled start h → IsExpectedBlock start h read k a → IsExpectedBlock start h read k b → a ≡ b
+law_expected_is_unique start h read k a b s enabled (inl p) (inl q) =
     let le = p.2 q.0 q.1 in
     let ge = q.2 p.0 p.1 in
-    let same : p.0 ≡ q.0 = touched_one start h s legal p.0 q.0 k _ k _ p.1.touched q.1.touched (omega (arith, le, ge)) in
+    let same : p.0 ≡ q.0 = touched_one start h s enabled p.0 q.0 k _ k _ p.1.touched q.1.touched (omega (arith, le, ge)) in
     p.3 ∙ ap (λ (w : Accepted). block_written w.asked.op w.blocks_at_acceptance (k - w.asked.first.0)) same ∙ sym q.3
-law_expected_is_unique start h read k a b s legal (inl p) (inr q) = absurd (q.0 p.0 p.1)
-law_expected_is_unique start h read k a b s legal (inr p) (inl q) = absurd (p.0 q.0 q.1)
-law_expected_is_unique start h read k a b s legal (inr p) (inr q) = p.1 ∙ sym q.1
+law_expected_is_unique start h read k a b s enabled (inl p) (inr q) = absurd (q.0 p.0 p.1)
+law_expected_is_unique start h read k a b s enabled (inr p) (inl q) = absurd (p.0 q.0 q.1)
+law_expected_is_unique start h read k a b s enabled (inr p) (inr q) = p.1 ∙ sym q.1

@@ -7,8 +7,8 @@ use Rattle.ata_types.specs.declared.request.Outcome.TheVariants.{Ok}
 use Rattle.block_machine.specs.State.{Accepted, Pending, Machine, sector_of, newly_unanswered}
 use Rattle.block_machine.specs.Steps.{Step, Accept, Issue, Touch, End, Age, WaitAgain, Answer, Release, Revoke, Unplug, PlugDisk, Store, Load, IsInBookOrKept, IsEnabled, MayStillMove, after_step, newly_issued, touch, mark_ended, requeued, newly_accepted}
 use Rattle.block_machine.specs.DueRequests.{conflict_by_flush_or_overlap}
-use Rattle.block_machine.specs.Expected.{after, IsLegal, IsInitial, IsIssue, IsTouch, IsEnd, HasTouchedSinceIssue, HasEndedSinceIssue}
-use Rattle.block_machine.specs.Events.{AbstractState, CallRecord, IsRun, steps_of}
+use Rattle.block_machine.specs.Expected.{after, IsInitial, IsIssue, IsTouch, IsEnd, HasTouchedSinceIssue, HasEndedSinceIssue}
+use Rattle.block_machine.specs.Events.{AbstractState, CallRecord, IsRun, steps_of, AllEnabled}
 use Rattle.block_machine.proofs.Members.{map_in, at_cases, without_in, append_in}
 use Rattle.block_machine.proofs.Sound.{Sound}
 use Rattle.block_machine.proofs.Keeps.{older_keeps, older_touched, older_ended}
@@ -112,11 +112,11 @@ pub record IsTraced (h : List Step) (e : Pending) : Type 0 where
   pub touched : (k : ℕ) → e.touched k ≡ true → HasTouchedSinceIssue e.request (sector_of e.request k) h
   pub ended : e.ended ≡ true → HasEndedSinceIssue e.request h
 
-pub traced_marks : (start : Machine) (h : List Step) → IsInitial start → IsLegal start h → (e : Pending) → Contains (after start h).book e → IsTraced h e
-traced_marks start [] s legal e i = absurd (nobody start s e (inl i))
-traced_marks start (step ∷ past) s legal e i = ⊎_elim
+pub traced_marks : (start : Machine) (h : List Step) → IsInitial start → AllEnabled start h → (e : Pending) → Contains (after start h).book e → IsTraced h e
+traced_marks start [] s enabled e i = absurd (nobody start s e (inl i))
+traced_marks start (step ∷ past) s enabled e i = ⊎_elim
     (λ (c : Marks (after start past) step e).
-    let before = traced_marks start past s legal.0 c.old c.here in
+    let before = traced_marks start past s enabled.0 c.old c.here in
     record {
       touched = λ k t. ⊎_elim
           (λ old. inr (c.not_issued, subst (λ (r : Accepted). HasTouchedSinceIssue r (sector_of r k) past) c.same (before.touched k old)))
@@ -131,7 +131,7 @@ traced_marks start (step ∷ past) s legal e i = ⊎_elim
       touched = λ k t. absurd (false≢true (sym (u.0 k) ∙ t));
       ended = λ t. absurd (false≢true (sym u.1 ∙ t));
     })
-    (marks (after start past) step legal.1 (traced start past s legal.0).sound e i)
+    (marks (after start past) step enabled.1 (traced start past s enabled.0).sound e i)
 
 pub law_ok_was_touched : {D : Type 0} (first : AbstractState) (run : List (CallRecord D)) (late early : List Step) (e : Pending) → IsRun first run → steps_of run ≡ late ++ Answer e Ok ∷ early
     → (i : ℕ) → i < e.request.asked.count → HasTouchedSinceIssue e.request (sector_of e.request i) early
@@ -146,6 +146,6 @@ law_ok_was_ended first run late early e r split =
     (traced_marks first.machine early (run_starts first run r) u.0 e u.1.0).ended u.2.1
 
 -- a request isn't moved while an earlier one that conflicts with it is there
-pub take_turns : (start : Machine) (history : List Step) (earlier later : Pending) → IsInitial start → IsLegal start history → IsInBookOrKept (after start history) earlier → MayStillMove (after start history) later
+pub take_turns : (start : Machine) (history : List Step) (earlier later : Pending) → IsInitial start → AllEnabled start history → IsInBookOrKept (after start history) earlier → MayStillMove (after start history) later
     → earlier.request.id.0 < later.request.id.0 → conflict_by_flush_or_overlap (newly_unanswered earlier.request) (newly_unanswered later.request) ≡ true → ⊥
-take_turns start history earlier later starts legal living may before conflicts = (traced start history starts legal).sound.order later earlier may living before conflicts
+take_turns start history earlier later starts enabled living may before conflicts = (traced start history starts enabled).sound.order later earlier may living before conflicts

@@ -1,5 +1,5 @@
 -- What runs are that show that the laws speak of something.
-use Rattle.std.specs.Prelude.{◌≡◌, ◌≢◌, ◌⊎◌, ◌<◌, true, false, List, [], ◌∷◌, ◌++◌, map, Contains, Some, None}
+use Rattle.std.specs.Prelude.{◌≡◌, ◌≢◌, ◌⊎◌, ◌<◌, true, false, List, [], ◌∷◌, ◌++◌, Contains, Some, None}
 use Rattle.ata_types.specs.declared.Port.{Port}
 use Rattle.ata_types.specs.declared.PortState.TheVariants.{Absent, Ready, Dead}
 use Rattle.ata_types.specs.declared.request.Frame.{Frame}
@@ -7,8 +7,8 @@ use Rattle.ata_types.specs.declared.request.Op.TheVariants.{Read, Write, Flush}
 use Rattle.ata_types.specs.declared.request.Outcome.TheVariants.{Ok, DeviceError, Aborted, Unplugged, PortDead}
 use Rattle.block_machine.specs.declared.due.QueueMode.{QueueMode}
 use Rattle.block_machine.specs.State.{DiskBytes, Memory, Accepted, Pending, Machine, block_of, sector_of, unanswered}
-use Rattle.block_machine.specs.DueRequests.{IsDue, conflict_by_flush_or_overlap}
-use Rattle.block_machine.specs.Steps.{Step, Issue, WaitAgain, Answer, Unplug, PlugDisk, HasGrant, IsEnabled, AllTouched, SameBytes}
+use Rattle.block_machine.specs.DueRequests.{conflict_by_flush_or_overlap}
+use Rattle.block_machine.specs.Steps.{Step, Issue, WaitAgain, Answer, Unplug, PlugDisk, IsEnabled, AllTouched, SameBytes}
 use Rattle.block_machine.specs.Expected.{after, IsInitial, AllStepsFaithful, HoldsExpected, StepIsFaithful}
 use Rattle.durability.specs.Durable.{IsFlushed}
 use Rattle.block_machine.specs.Events.{AbstractState, CallRecord, Service, Tick, Reset, StepDevice, Replied, WasReset, IsRun, accepts_of, reply_of, steps_of, abstract_after_all}
@@ -289,7 +289,7 @@ pub record ResetsReissueThenAbort : Type 0 where
 
 -- In a run of calls two requests are issued on a port that meets a fatal error. A service stops it and boots it, and it
 -- gets stuck in that. So the requests are answered PortDead, and their frames stay lent.
-pub record StoppedAndStuckPortAnswersPortDead : Type 0 where
+pub record PortStuckInBootAnswersPortDead : Type 0 where
   pub initial_state : AbstractState
   pub earlier_calls : List (CallRecord (Unit {0}))
   pub service : CallRecord (Unit {0})
@@ -313,10 +313,10 @@ pub record StoppedAndStuckPortAnswersPortDead : Type 0 where
   pub lent : (abstract_after_all initial_state (service ∷ earlier_calls)).machine.lent frame
       ≡ Some second_request.request.id
 
--- The machine without the rule that nothing is issued while a kept request is left on the port.
+-- The machine without the rule that nothing is issued while a kept request is left on the port: an issue is judged as
+-- if none were kept.
 abbrev pub IsEnabledWithoutKeptRule : Machine → Step → Type 0
-IsEnabledWithoutKeptRule m (Issue mode e) = Contains m.book e × IsDue mode (map unanswered m.book) (unanswered e)
-    × HasGrant m e
+IsEnabledWithoutKeptRule m (Issue mode e) = IsEnabled (record m { kept = [] }) (Issue mode e)
 IsEnabledWithoutKeptRule m step = IsEnabled m step
 
 -- each step of the history came when it might there

@@ -4,15 +4,15 @@
 
 ghost use Rattle.std.specs.Prelude.{◌≡◌, ◌≢◌, ◌⊎◌, ◌+◌, ◌<◌, ◌≤◌, ◌==◌, ℕ, false, true, List, ◌∷◌, ◌++◌, cond, count_by, Contains};
 ghost use Rattle.ata_types.specs.{declared.Port.{Port}, declared.PortState.TheVariants.{Ready, Dead}, declared.request.Frame.{Frame}, declared.request.RequestId.{RequestId}, declared.request.Op.TheVariants.{Flush}, declared.request.Outcome.{Outcome}, declared.request.Outcome.TheVariants.{Ok, Aborted}, declared.request.Reply.{Reply}, declared.grant.GrantRow.{GrantRow}};
-ghost use Rattle.block_machine.specs.{DueRequests.{conflict_by_flush_or_overlap}, State.{Block, Accepted, Pending, Machine, sector_of, newly_unanswered}, Steps.{Step, Answer, HasGrant, after_step, IsInBookOrKept, MayStillMove}, Expected.{IsInitial, IsLegal, HasTouched, HasTouchedSinceIssue, HasEndedSinceIssue, IsExpectedBlock, after, bytes_when_plugged, disk_number_read}, Confinement.{GrantsNoWriteOrTrim, WasAccepted, MayChangeByte, MayChangeSector}};
-ghost use Rattle.block_machine.specs.Events.{AbstractState, CallRecord, NoneDueWhereReady, Happens, EveryReadHoldsExpected, IsLawfulAnswer, IsRun, LastServiceOrResetIsStuckReset, accepts_id, answers_id, issues_id, gives_id, replies_of, all_replies, WasGivenId, abstract_after_all, steps_of};
-ghost use Rattle.machine_runs.specs.{AnswerOrigins.{SubmitsAndIsGivenId, WasUnansweredBefore, CallAnswersOk, WasSubmittedAndGivenId, requeues_id}, RevocationRuns.{RevokesWhileIssued}, ExampleRuns.{FindsFlushedOrLater, WaitsItsTurn, ResetReleasesFrameOfDeadPort, ServiceHandlesTwoFailedPorts, TickAnswersEnded, TickFindsUnplugged, ResetsReissueThenAbort, StoppedAndStuckPortAnswersPortDead, ReadsWrongWithoutKeptRule}};
+ghost use Rattle.block_machine.specs.{DueRequests.{conflict_by_flush_or_overlap}, State.{Block, Accepted, Pending, Machine, sector_of, newly_unanswered}, Steps.{Step, Answer, HasGrant, after_step, IsInBookOrKept, MayStillMove}, Expected.{IsInitial, HasTouched, HasTouchedSinceIssue, HasEndedSinceIssue, IsExpectedBlock, after, bytes_when_plugged, disk_number_read}, Confinement.{GrantsNoWriteOrTrim, WasAccepted, MayChangeByte, MayChangeSector}};
+ghost use Rattle.block_machine.specs.Events.{AbstractState, AllEnabled, CallRecord, NoneDueWhereReady, Happens, EveryReadHoldsExpected, IsLawfulAnswer, IsRun, LastServiceOrResetIsStuckReset, accepts_id, answers_id, issues_id, gives_id, replies_of, all_replies, WasGivenId, abstract_after_all, steps_of};
+ghost use Rattle.machine_runs.specs.{AnswerOrigins.{SubmitsAndIsGivenId, WasUnansweredBefore, CallAnswersOk, WasSubmittedAndGivenId, requeues_id}, RevocationRuns.{RevokesWhileIssued}, ExampleRuns.{FindsFlushedOrLater, WaitsItsTurn, ResetReleasesFrameOfDeadPort, ServiceHandlesTwoFailedPorts, TickAnswersEnded, TickFindsUnplugged, ResetsReissueThenAbort, PortStuckInBootAnswersPortDead, ReadsWrongWithoutKeptRule}};
 
 /// Where no grant lets its client write or trim, what is left on a sector for a read is what the disk that it found
 /// there held when it was put in.
-pub fn law_read_only_grants_expect_plugged_bytes()
+pub fn law_expected_is_plugged_if_no_write_or_trim()
     ensures { (start : Machine) (history : List Step) (read : Accepted) (sector : ℕ) (block : Block)
-        → IsInitial start → IsLegal start history
+        → IsInitial start → AllEnabled start history
         → ((row : GrantRow) → Contains start.rows row → GrantsNoWriteOrTrim row)
         → IsExpectedBlock start history read sector block
         → block ≡ bytes_when_plugged start read.port (disk_number_read read sector history) history sector }
@@ -22,7 +22,7 @@ pub fn law_read_only_grants_expect_plugged_bytes()
 pub fn law_expected_is_unique()
     ensures { (start : Machine) (history : List Step) (read : Accepted) (sector : ℕ)
         (one other : Block)
-        → IsInitial start → IsLegal start history → IsExpectedBlock start history read sector one
+        → IsInitial start → AllEnabled start history → IsExpectedBlock start history read sector one
         → IsExpectedBlock start history read sector other → one ≡ other }
 {}
 
@@ -31,13 +31,14 @@ pub fn law_expected_is_unique()
 pub fn law_expected_stays_once_read_is_answered()
     ensures { (start : Machine) (history : List Step) (step : Step) (read : Accepted)
         (sector disk : ℕ) (block : Block)
-        → IsInitial start → IsLegal start (step ∷ history) → HasTouched read sector disk history
+        → IsInitial start → AllEnabled start (step ∷ history) → HasTouched read sector disk history
         → ((e : Pending) → IsInBookOrKept (after start history) e → e.request.id ≢ read.id)
         → IsExpectedBlock start history read sector block → IsExpectedBlock start (step ∷ history) read sector block }
 {}
 
-/// A run exists in which ticks, a reset that is stuck, and one that ends do what they have to.
-pub fn law_a_reset_run_exists()
+/// A run exists in which a third tick issues a request again, a reset is stuck, a service answers the request PortDead,
+/// and a later reset, which ends, gives its frame back.
+pub fn law_a_run_where_reset_frees_kept_frame_exists()
     ensures { ResetReleasesFrameOfDeadPort }
 {}
 
@@ -81,7 +82,7 @@ pub fn law_replied_at_most_once<D>()
 {}
 
 /// Each reply of a call tells a client of an id that an earlier submit of that client gave.
-pub fn law_replied_was_given<D>()
+pub fn law_replied_id_was_given_to_its_client<D>()
     ensures { (first : AbstractState) (past : List (CallRecord D)) (event : CallRecord D) (reply : Reply)
         → IsRun first (event ∷ past) → Contains (replies_of event.result) reply
         → WasGivenId reply.id reply.client past }
@@ -145,7 +146,7 @@ pub fn law_ports_die_only_when_stuck<D>()
 {}
 
 /// Over every run a request is issued four times at most, and one that is answered Aborted was issued four times.
-pub fn law_issued_four_at_most<D>()
+pub fn law_issued_four_times_at_most<D>()
     ensures four_at_most { (first : AbstractState) (run : List (CallRecord D)) (id : RequestId) → IsRun first run
         → count_by (issues_id id) (steps_of run) ≤ 4 }
     ensures aborted { (first : AbstractState) (run : List (CallRecord D)) (late early : List Step) (e : Pending)
@@ -163,7 +164,7 @@ pub fn law_ok_was_ended<D>()
 /// After every history an unanswered request was issued as often as it says: where it is issued, once more than it was
 /// made to wait again, and else as often.
 pub fn law_issues_are_counted()
-    ensures { (start : Machine) (history : List Step) (e : Pending) → IsInitial start → IsLegal start history
+    ensures { (start : Machine) (history : List Step) (e : Pending) → IsInitial start → AllEnabled start history
         → Contains (after start history).book e
         → (count_by (issues_id e.request.id) history ≡ e.issue_count)
         × (count_by (issues_id e.request.id) history ≡ count_by (requeues_id e.request.id) history + cond e.issued 1
@@ -189,9 +190,9 @@ pub fn law_ages_are_bounded<D>()
         → Contains (abstract_after_all first run).machine.book e → e.issued ≡ true → e.age ≤ 2 }
 {}
 
-/// At each moment of a run an unanswered request is on a port that is ready, or on one that is dead since a reset that
-/// was stuck.
-pub fn law_unanswered_on_ready_or_stuck<D>()
+/// At each moment of a run an unanswered request is on a port that is ready, or on one that is dead, where a reset was
+/// stuck and no service, and no reset that ended, came since.
+pub fn law_unanswered_has_ready_port_or_stuck_reset<D>()
     ensures { (first : AbstractState) (run : List (CallRecord D)) (e : Pending) → IsRun first run
         → Contains (abstract_after_all first run).machine.book e
         → ((abstract_after_all first run).ports.state e.request.port ≡ Ready)
@@ -213,10 +214,11 @@ pub fn law_kept_only_where_dead<D>()
         → (abstract_after_all first run).ports.state e.request.port ≡ Dead }
 {}
 
-/// A byte of a client's frame changes by a touch of a read that the frame is lent to, or by its owner's store.
-pub fn law_bytes_change_by_touch_or_store()
+/// A byte of a frame changes only by a touch of a read that the frame is lent to, or by its owner's store while it is
+/// lent to none.
+pub fn law_frame_bytes_change_only_by_touch_or_store()
     ensures { (start : Machine) (history : List Step) (step : Step) (frame : Frame) (place : ℕ)
-        → IsInitial start → IsLegal start (step ∷ history)
+        → IsInitial start → AllEnabled start (step ∷ history)
         → (after start (step ∷ history)).memory frame place ≢ (after start history).memory frame place
         → MayChangeByte (after start history) step frame place }
 {}
@@ -233,7 +235,7 @@ pub fn law_sectors_change_by_touch_or_plug()
 /// a write accepted after the trim has written.
 pub fn law_conflicting_requests_take_turns()
     ensures { (start : Machine) (history : List Step) (earlier later : Pending) → IsInitial start
-        → IsLegal start history
+        → AllEnabled start history
         → IsInBookOrKept (after start history) earlier → MayStillMove (after start history) later
         → earlier.request.id.0 < later.request.id.0
         → conflict_by_flush_or_overlap (newly_unanswered earlier.request) (newly_unanswered later.request) ≡ true
@@ -252,7 +254,7 @@ pub fn law_a_replug_run_exists()
 {}
 
 /// A run exists in which a request waits for another, and is issued by the call that answers that one.
-pub fn law_a_waiting_run_exists()
+pub fn law_a_run_with_a_waiting_request_exists()
     ensures { WaitsItsTurn }
 {}
 
@@ -271,30 +273,30 @@ pub fn law_a_revoking_run_exists()
 
 /// A run exists in which two ports serve requests, the one fails and the other loses its disk, and a fault, an
 /// unplugged request, one that is issued anew and one that is aborted are told as they have to be.
-pub fn law_a_run_with_errors_exists()
+pub fn law_a_run_with_two_failed_ports_exists()
     ensures { ServiceHandlesTwoFailedPorts }
 {}
 
 /// A run exists in which a tick answers a request that had ended.
-pub fn law_a_tick_answers_in_a_run()
+pub fn law_a_run_where_tick_tells_ended_ok_exists()
     ensures { TickAnswersEnded }
 {}
 
 /// A run exists in which a tick finds a port hung whose disk was taken out, and tells its requests Unplugged, issued or
 /// not.
-pub fn law_an_unplugged_run_exists()
+pub fn law_a_run_where_tick_finds_disk_gone_exists()
     ensures { TickFindsUnplugged }
 {}
 
 /// A run exists in which resets issue a request anew, abort it after its fourth issue, and issue one that waited for
 /// it.
-pub fn law_a_four_resets_run_exists()
+pub fn law_a_run_where_fourth_reset_aborts_exists()
     ensures { ResetsReissueThenAbort }
 {}
 
 /// A run exists in which a port meets a fatal error, is stopped by a service, and gets stuck in its boot.
 pub fn law_a_run_with_dead_port_exists()
-    ensures { StoppedAndStuckPortAnswersPortDead }
+    ensures { PortStuckInBootAnswersPortDead }
 {}
 
 /// Without the rule on kept requests a read may go wrong.

@@ -70,7 +70,7 @@ fn print_said<W: io::Write>(out: &mut W, said: &CallResult<()>, replies: &[Reply
         }
         CallResult::Replied(()) => print_replies(out, replies),
         CallResult::WasReset(Ok(())) | CallResult::WasRevoked(Ok(())) => print_done(out, replies),
-        CallResult::WasReset(Err(_)) => Answer::Stuck.print(out),
+        CallResult::WasReset(Err(_)) => Answer::AdapterStuck.print(out),
         CallResult::WasRevoked(Err(_)) => Answer::Refused(Refusal::Rule(Rule::NoGrant)).print(out),
         CallResult::State(state) => Answer::State(*state).print(out),
         CallResult::Stepped(did) => Answer::Stepped(*did).print(out),

@@ -12,9 +12,9 @@ use Rattle.refinement.specs.Fragments.{AnySlotStates, ReadsPortOrWrites, IsSimul
 use Rattle.refinement.specs.Driver.{AllFree}
 use Rattle.refinement.specs.Slots.{SlotStates}
 use Rattle.refinement.specs.Fragments.{TapeGrows}
-use Rattle.port_control.specs.Calls.{ResetsAndFindsDisk, ResetsAndFindsFault, StaysReceivingWithLinkUpIfShown, Starts}
+use Rattle.port_control.specs.Calls.{ResetsAndFindsDisk, ResetsAndFindsFault, StaysReceivingWithLinkUpIfDet3, Starts}
 use Rattle.port_control.specs.Engines.{StopsReceiving}
-use Rattle.port_control.specs.Ports.{IsCommandRegister, IsPlacingRegister, IsResetRegister, IsStoppedReceiving, BacksFault, SendsComresetThen, IsClearAndUpUnlessPlugEvents}
+use Rattle.port_control.specs.Ports.{IsCommandRegister, IsCmdOrBaseRegister, IsSctlSerrOrIs, IsStoppedReceiving, BacksFault, SendsComresetThen, IsClearAndUpUnlessPlugEvents}
 use Rattle.port_control.specs.declared.PortFault.{PortFault}
 use Rattle.port_control.specs.declared.PortFault.TheVariants.{NoDevice, Busy, EngineStuck, NotAta}
 use Rattle.port_boot.specs.States.{BacksState, IsWrittenInBootButCi, IsOnWithPortMemoryAndFreeSlots, IsBroughtUp, EndsBeforeStart, IsStateOfFault}
@@ -42,10 +42,10 @@ fault_ends port new state fault told other receives shown wanted = by fault told
     by (NotAta signature) is not shown = subst (λ (s : PortState). BacksState wanted s port new) (sym is) (receives.stopped, inr (inl (refl, (signature, shown))))
 
 -- placing, resetting and starting are of a boot
-pub placing : (r : PortReg) → IsPlacingRegister r → IsWrittenInBootButCi r
+pub placing : (r : PortReg) → IsCmdOrBaseRegister r → IsWrittenInBootButCi r
 placing r is = inl is
 
-pub resetting : (r : PortReg) → IsResetRegister r → IsWrittenInBootButCi r
+pub resetting : (r : PortReg) → IsSctlSerrOrIs r → IsWrittenInBootButCi r
 resetting r is = inr (inl is)
 
 pub starting : (r : PortReg) → IsCommandRegister r → IsWrittenInBootButCi r
@@ -82,11 +82,11 @@ module _ (laws : Laws) where
       ((r : PortReg) → registers_of set r → IsWrittenInBootButCi r) → ((uses : SlotStates) → AllFree uses port.0 → slot_uses_meeting fitting port uses) → IsSimulated (ReadsPortOrWrites IsWrittenInBootButCi port) (λ uses. AllFree uses port.0) old new
   boots set fitting port old new f wider fits = (told_boots (λ made. Unit {0}) set fitting port old new wider fits (record { is_simulated = f; accesses_are_such = tt })).is_simulated
 
-  pub placed_bootable : (port : Port) (old mid : Device) → IsOnWithPortMemoryAndFreeSlots port old → IsSimulated (ReadsPortOrWrites IsPlacingRegister port) AnySlotStates old mid → IsOnWithPortMemoryAndFreeSlots port mid
+  pub placed_bootable : (port : Port) (old mid : Device) → IsOnWithPortMemoryAndFreeSlots port old → IsSimulated (ReadsPortOrWrites IsCmdOrBaseRegister port) AnySlotStates old mid → IsOnWithPortMemoryAndFreeSlots port mid
   placed_bootable port old mid b first = bootable_after PlacingRegisters AnyUses port old mid first (λ uses free. tt) b
 
-  module _ (port : Port) (old mid reset : Device) (b : IsOnWithPortMemoryAndFreeSlots port old) (first : IsSimulatedAlong (StopsReceiving port) (ReadsPortOrWrites IsPlacingRegister port) AnySlotStates old mid)
-      (second : IsSimulated (ReadsPortOrWrites IsResetRegister port) AnySlotStates mid reset) where
+  module _ (port : Port) (old mid reset : Device) (b : IsOnWithPortMemoryAndFreeSlots port old) (first : IsSimulatedAlong (StopsReceiving port) (ReadsPortOrWrites IsCmdOrBaseRegister port) AnySlotStates old mid)
+      (second : IsSimulated (ReadsPortOrWrites IsSctlSerrOrIs port) AnySlotStates mid reset) where
     pub reset_bootable : IsOnWithPortMemoryAndFreeSlots port reset
     reset_bootable = bootable_after ResetRegisters AnyUses port mid reset second (λ uses free. tt) (placed_bootable port old mid b first.is_simulated)
 
@@ -95,10 +95,10 @@ module _ (laws : Laws) where
         (told_boots (StopsReceiving port) PlacingRegisters AnyUses port old mid placing (λ uses free. tt) first) (boots ResetRegisters AnyUses port mid reset second resetting (λ uses free. tt))
 
     early : TapeGrows old mid
-    early = driven_grows laws (ReadsPortOrWrites IsPlacingRegister port) old mid first.is_simulated.is_driven
+    early = driven_grows laws (ReadsPortOrWrites IsCmdOrBaseRegister port) old mid first.is_simulated.is_driven
 
     late : TapeGrows mid reset
-    late = driven_grows laws (ReadsPortOrWrites IsResetRegister port) mid reset second.is_driven
+    late = driven_grows laws (ReadsPortOrWrites IsSctlSerrOrIs port) mid reset second.is_driven
 
     pub reset_since : {Then : Device → Device → Type 0} → SendsComresetThen port Then mid reset → length old.tape ≤ (reset.port port.0).notes.sctl_written_at
     reset_since was = le_trans (later PlacingRegisters AnyUses port old mid first.is_simulated) was.sctl_written_in_call
@@ -116,14 +116,14 @@ module _ (laws : Laws) where
       is_clean_to_start = found.is_clean_to_start;
     }
 
-    pub ends_early : (state : PortState) (fault : PortFault) → IsStateOfFault state fault → StaysReceivingWithLinkUpIfShown port mid reset → ResetsAndFindsFault port fault mid reset → EndsBeforeStart port state old reset
+    pub ends_early : (state : PortState) (fault : PortFault) → IsStateOfFault state fault → StaysReceivingWithLinkUpIfDet3 port mid reset → ResetsAndFindsFault port fault mid reset → EndsBeforeStart port state old reset
     ends_early state fault told r f = record {
       fault = fault;
       state_is = told;
       placed = mid;
       places = first.is_simulated.is_driven;
       resets = f.comreset_is_sent;
-      link_is_up_if_shown_unless_disk_comes = λ none. r.link_is_up_if_shown_unless_disk_comes (comes_in_parts laws port.0 old mid reset early late none).1;
+      link_is_up_if_det_3_unless_disk_comes = λ none. r.link_is_up_if_det_3_unless_disk_comes (comes_in_parts laws port.0 old mid reset early late none).1;
       is_clear_and_up_unless_plug_events = λ other. clear_and_up_from_old (f.is_clear_and_up_unless_plug_events other);
     }
 

@@ -19,15 +19,16 @@ use Rattle.adapter.specs.declared.tape.Entry.{Entry}
 use Rattle.adapter.specs.declared.tape.Entry.TheVariants as entry
 use Rattle.adapter.specs.RegisterEffects.{PortRegisterWritten}
 use Rattle.refinement.specs.Fragments.{SomeMachineAgreesWith, AnySlotStates, SomeMachineAgrees, ReadsPortOrWrites, IsDrivenBy, IsSimulated, IsSimulatedAlong, IsSimulatedAlongChangingUses, GainsNoMove}
-use Rattle.refinement.specs.Halting.{NotLogOnlyAndQueuedHaltHasTakenCommand}
+use Rattle.refinement.specs.Halting.{HaltFitsTakenCommands}
 use Rattle.refinement.specs.PreservedParts.{SameAdapter}
 use Rattle.refinement.specs.Driver.{AllFree}
-use Rattle.refinement.specs.Slots.{Own, SlotStates, set_slot_state as used, IsMove, IsOver}
+use Rattle.adapter.specs.OneCommand.{SlotHasNoCommand}
+use Rattle.refinement.specs.Slots.{Own, SlotStates, set_slot_state as used, IsMove}
 use Rattle.command_table.specs.TableStores.{IsSlotStateFree}
 use Rattle.disk_page.specs.PageRequests.{IsSlot0CiOrPageMemoryAccess, LeavesPortWhileAsking, BringsLastPage, ReadsPageOrWaitsInVain}
 use Rattle.identify.specs.declared.DiskInfo.{DiskInfo}
 use Rattle.port_control.specs.Engines.{FailsToStop, FailsToStopReceiving, Stops, StopsReceiving, EngineSticks}
-use Rattle.port_control.specs.Ports.{IsCommandRegister, IsPlacingRegister, RunsInPlaceWithoutCommands, ClearsStAlone, SawDeviceSinceSctlWrite}
+use Rattle.port_control.specs.Ports.{IsCommandRegister, IsCmdOrBaseRegister, RunsInPlaceWithoutCommands, ClearsStAlone, SawDeviceSinceSctlWrite}
 use Rattle.port_boot.specs.States.{HasLastIdentifyPage, IsFitAndWanted, IsStateByPage, BacksState, IsReadyAfterBoot, IsWrittenInBootButCi, IsBootAccess, IsSimulatedBoot, IsSimulatedBootTo, IsOnWithPortMemoryAndFreeSlots, IsBroughtUp, IsStoppedAsOrStuck, IsStateStoppedAfterStart, StopsReceivingAndStartedEngine, IsStateOfFault}
 use Rattle.port_control.specs.declared.PortFault.{PortFault}
 use Rattle.port_control.specs.declared.PortFault.TheVariants.{NoDevice, Busy, EngineStuck, NotAta}
@@ -67,7 +68,7 @@ module _ (port : Port) (start old mid : Device) (up : IsBroughtUp port start old
   pub asked_saw : SawDeviceSinceSctlWrite (mid.port port.0).notes
   asked_saw = (ap (λ (n : Notes). n.last_ssts % 16) l.other_notes_are_kept ∙ up.device_was_seen.0, ap (λ (n : Notes). n.link_wait_count) l.other_notes_are_kept ∙ up.device_was_seen.1)
 
-  pub asked_running : Laws → IsOver (mid.port port.0) 0 → RunsInPlaceWithoutCommands port.0 (mid.port port.0)
+  pub asked_running : Laws → SlotHasNoCommand (mid.port port.0) 0 → RunsInPlaceWithoutCommands port.0 (mid.port port.0)
   asked_running laws over =
       let r = up.runs in
       let none = laws.asking_leaves_no_command port.0 old mid l (λ slot. record { is_not_issued = r.ci_is_clear slot; is_not_taken = r.none_is_taken slot }) over in
@@ -171,7 +172,7 @@ module _ (laws : Laws) where
         given_boots : IsSimulatedAlongChangingUses TapeTells (IsBootAccess port) (λ uses. AllFree uses port.0) (λ uses. used uses port.0 0 (Own Identify)) old new
         given_boots = told_wider laws TapeTells (Booting Slot0Unused port) (Booting PortUnused port) (λ uses. used uses port.0 0 (Own Identify)) old new (λ access may. may) (unused port) given
 
-        stopped_boots : IsOver (new.port port.0) 0 → IsSimulatedBoot TapeTells port old new
+        stopped_boots : SlotHasNoCommand (new.port port.0) 0 → IsSimulatedBoot TapeTells port old new
         stopped_boots over = told_wider laws TapeTells (Booting Slot0Unused port) (Booting PortUnused port) (λ uses. uses) old new (λ access may. may) (unused port)
             (let f = laws.fragments.own_command_is_over (Booting Slot0Unused port) port Identify 1 old new (inr (refl, refl)) (λ uses free. free) over given.is_simulated in
             record { is_simulated = f.is_simulated; accesses_are_such = subst TapeTells (sym f.accesses_are_such) given.accesses_are_such })
@@ -263,7 +264,7 @@ module _ (laws : Laws) where
           }
 
       -- what halts the port then is of a command that is taken
-      pub enabled_halts : (SomeMachineAgreesWith (λ uses. AllFree uses port.0) old → (mid.port port.0).halt ≡ NotHalted) → (wanted : Option (List ℕ)) (info : DiskInfo) → v ≡ named_causes_mask → IsFitAndWanted wanted page info → NotLogOnlyAndQueuedHaltHasTakenCommand (new.port port.0)
+      pub enabled_halts : (SomeMachineAgreesWith (λ uses. AllFree uses port.0) old → (mid.port port.0).halt ≡ NotHalted) → (wanted : Option (List ℕ)) (info : DiskInfo) → v ≡ named_causes_mask → IsFitAndWanted wanted page info → HaltFitsTakenCommands (new.port port.0)
       enabled_halts calm wanted info told fit =
           let a = identified.bootable.machine_is_related in
           laws.access_keeps_halt_of_taken a.0 a.2.machine port (Writing (Px port Ie) v) mid new a.2.reached a.2.driver_relation.state_relation (λ (e : Px port Ie ≡ Px port Cmd). absurd cc) call
@@ -309,7 +310,7 @@ module _ (laws : Laws) where
   up_boots TapeTells port old mid f = told_wider laws TapeTells (Controlling BootRegisters PortUnused port) (Booting PortUnused port) (λ uses. uses) old mid (controlling port) (λ uses free. free) f
 
   -- no part came after it, since FR didn't fall
-  pub stuck_boots : (port : Port) (old mid : Device) → IsSimulatedAlong (FailsToStopReceiving port) (ReadsPortOrWrites IsPlacingRegister port) AnySlotStates old mid → IsSimulatedBoot (EngineSticks port) port old mid
+  pub stuck_boots : (port : Port) (old mid : Device) → IsSimulatedAlong (FailsToStopReceiving port) (ReadsPortOrWrites IsCmdOrBaseRegister port) AnySlotStates old mid → IsSimulatedBoot (EngineSticks port) port old mid
   stuck_boots port old mid f = told_more (FailsToStopReceiving port) (EngineSticks port) (IsBootAccess port) (λ uses. AllFree uses port.0) (λ uses. uses) old mid (laws.failing_receiving_sticks port)
       (up_boots (FailsToStopReceiving port) port old mid (told_boots laws (FailsToStopReceiving port) PlacingRegisters AnyUses port old mid placing (λ uses free. tt) f))
 

@@ -174,7 +174,7 @@ module _ (laws : Laws) where
       fatal_bits_show_only_new_errors = fatal_since runs.bits_rise_with_cause;
       tfes_shows_only_new_faults = fault_since runs.bits_rise_with_cause;
       faults_are_on_record = runs.faults_are_on_record up.faults_are_on_record;
-      port_runs_well = λ calm. let s = started_then calm in laws.started_quiet_port_runs_well (new.port port.0) (runs.undisturbed_stays_started s.0 s.1) (no_trouble runs.bits_rise_with_cause (laws.undisturbed_has_no_plug_events port.0 start new calm) s.0);
+      runs_well_if_undisturbed = λ calm. let s = started_then calm in laws.started_quiet_port_runs_well (new.port port.0) (runs.undisturbed_stays_started s.0 s.1) (no_trouble runs.bits_rise_with_cause (laws.undisturbed_has_no_plug_events port.0 start new calm) s.0);
     }
 
     pub gets_ready : AsksDiskThenEnables port old new → StaysRunningIfUndisturbed port.0 old new → BringsReady port start new
@@ -182,7 +182,7 @@ module _ (laws : Laws) where
       up = old;
       brings_up = up.brings_up_port;
       asks_disk = then;
-      port_runs_well = λ plugs calm.
+      runs_well_if_undisturbed = λ plugs calm.
           let parts = plugs_in_parts laws port.0 start old new early late plugs in
           laws.started_quiet_port_runs_well (new.port port.0) (runs.undisturbed_stays_started calm (up.port_is_started parts.0)) (no_trouble runs.bits_rise_with_cause plugs calm);
     }

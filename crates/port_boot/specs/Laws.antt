@@ -11,17 +11,18 @@ use Rattle.refinement.specs.StartedPort.{WritesCmdOnlyWithStSet, IsStarted, IsUp
 use Rattle.adapter.specs.Device.{Device, DevicePort}
 use Rattle.adapter.specs.Device.Halt.{NotHalted}
 use Rattle.refinement.specs.Relation.{StateRelation}
-use Rattle.refinement.specs.Halting.{NotLogOnlyAndQueuedHaltHasTakenCommand, NotLogOnlyAndQueuedHaltHasTakenCommandIfSt}
+use Rattle.refinement.specs.Halting.{HaltFitsTakenCommands, HaltFitsTakenCommandsIfSt}
 use Rattle.block_machine.specs.Histories.{IsReachable}
 use Rattle.block_machine.specs.State.{Machine}
 use Rattle.adapter.specs.declared.tape.Entry.{Entry}
 use Rattle.port_control.specs.Engines.{FailsToStop, FailsToStopReceiving, EngineFalls, EngineSticks}
-use Rattle.refinement.specs.Slots.{IsOver, SlotStates}
+use Rattle.adapter.specs.OneCommand.{SlotHasNoCommand}
+use Rattle.refinement.specs.Slots.{SlotStates}
 use Rattle.hba_regs.specs.declared.reg.Reg.TheVariants.{Ghc, Px}
 use Rattle.disk_page.specs.PageRequests.{IsSlot0CiOrPageMemoryAccess, LeavesPortWhileAsking}
 use Rattle.port_boot.specs.States.{IsWrittenInBootButCi, IsBootAccess}
 use Rattle.adapter.specs.Rules.{IsOn, MayWrite, IsStable}
-use Rattle.port_control.specs.Ports.{IsPlacingRegister, IsResetRegister, IsCommandRegister}
+use Rattle.port_control.specs.Ports.{IsCmdOrBaseRegister, IsSctlSerrOrIs, IsCommandRegister}
 use Rattle.refinement.specs.PortFacts.{RecordsFaultsIfSt, RunsWell, ShowsNoTrouble, Undisturbed}
 use Rattle.command_table.specs.TableStores.{IsSlotStateFree}
 use Rattle.adapter.specs.declared.command.Operation.{Operation}
@@ -44,8 +45,8 @@ pub data RegisterSet : Type 0 where
 
 abbrev pub registers_of : RegisterSet → PortReg → Type 0
 registers_of CommandRegister = IsCommandRegister
-registers_of PlacingRegisters = IsPlacingRegister
-registers_of ResetRegisters = IsResetRegister
+registers_of PlacingRegisters = IsCmdOrBaseRegister
+registers_of ResetRegisters = IsSctlSerrOrIs
 registers_of BootRegisters = IsWrittenInBootButCi
 registers_of AllButCi = λ r. r ≢ Ci
 
@@ -112,9 +113,9 @@ pub record Laws : Type 0 where
   pub access_keeps_halt_of_taken : (uses : SlotStates) (m : Machine) (port : Port) (access : Access) (old new : Device)
       → IsReachable m
       → StateRelation uses m old → DoesNotWrite (Px port Cmd) access → Does access old new
-      → NotLogOnlyAndQueuedHaltHasTakenCommandIfSt (old.port port.0)
-      → NotLogOnlyAndQueuedHaltHasTakenCommandIfSt (new.port port.0)
-  pub not_halted_is_halt_of_taken : (p : DevicePort) → p.halt ≡ NotHalted → NotLogOnlyAndQueuedHaltHasTakenCommand p
+      → HaltFitsTakenCommandsIfSt (old.port port.0)
+      → HaltFitsTakenCommandsIfSt (new.port port.0)
+  pub not_halted_is_halt_of_taken : (p : DevicePort) → p.halt ≡ NotHalted → HaltFitsTakenCommands p
   pub started_port_is_up : (p : DevicePort) → IsStarted p → p.sctl_det ≢ 1 → IsUpForStart p
   pub started_quiet_port_runs_well : (p : DevicePort) → IsStarted p → ShowsNoTrouble p → RunsWell p
   pub runs_well_is_started : (p : DevicePort) → RunsWell p → IsStarted p
@@ -135,7 +136,7 @@ pub record Laws : Type 0 where
       → SparesOtherPorts port access
   pub asking_leaves_no_command : (port : ℕ) (old new : Device) → LeavesPortWhileAsking port old new
       → NoCommandIsIssuedOrTaken (old.port port)
-      → IsOver (new.port port) 0 → NoCommandIsIssuedOrTaken (new.port port)
+      → SlotHasNoCommand (new.port port) 0 → NoCommandIsIssuedOrTaken (new.port port)
   -- what is told of engines
   pub failing_sticks : (port : Port) (accesses : List Access) → FailsToStop port accesses → EngineSticks port accesses
   pub failing_receiving_sticks : (port : Port) (accesses : List Access) → FailsToStopReceiving port accesses

@@ -22,13 +22,13 @@ use Rattle.refinement.specs.Errors.{NoDiskComes, LinkErrorsRiseByDisks, ErrorBit
 use Rattle.refinement.specs.PortFacts.{RecordsFaultsIfSt, RunsWell, Undisturbed}
 use Rattle.refinement.specs.PreservedParts.{NoPlugEvents}
 use Rattle.refinement.specs.Slots.{Own, set_slot_state, IsMove}
-use Rattle.refinement.specs.StartedPort.{IsUpForStart, IsStoppedAndUpForStartIfShown, IsStarted}
+use Rattle.refinement.specs.StartedPort.{IsUpForStart, IsStoppedAndUpForStartIfDet3, IsStarted}
 use Rattle.disk_page.specs.PageRequests.{IsSlot0CiOrPageMemoryAccess}
 use Rattle.identify.specs.IdentityPage.{Describes, IsFitPage, IsFirstUnfit, IsSerial, unfit_number}
 use Rattle.identify.specs.declared.DiskInfo.{DiskInfo}
 use Rattle.identify.specs.declared.Unfit.{Unfit as Fault}
 use Rattle.port_control.specs.Engines.{Stops, StopsReceiving, EngineSticks}
-use Rattle.port_control.specs.Ports.{FailsToStopPort, PortStops, IsCommandRegister, IsStopped, RunsInPlaceWithoutCommands, IsPlacingRegister, IsResetRegister, SawDeviceSinceSctlWrite, BacksFault, FindsSignature, SeesResetFault, SendsComresetThen, SerrShowsOnlyNewPlugs, IsClearAndUpUnlessPlugEvents}
+use Rattle.port_control.specs.Ports.{FailsToStopPort, PortStops, IsCommandRegister, IsStopped, RunsInPlaceWithoutCommands, IsCmdOrBaseRegister, IsSctlSerrOrIs, SawDeviceSinceSctlWrite, BacksFault, FindsSignature, SeesResetFault, SendsComresetThen, SerrShowsOnlyNewPlugs, IsClearAndUpUnlessPlugEvents}
 use Rattle.port_control.specs.declared.PortFault.{PortFault}
 use Rattle.port_control.specs.declared.PortFault.TheVariants.{NoDevice, Busy, EngineStuck, NotAta}
 
@@ -121,7 +121,7 @@ pub record IsReadyAfterBoot (wanted : Option (List ℕ)) (port : ℕ) (d : Devic
 
 -- the registers that a boot writes, but for PxCI, by which IDENTIFY DEVICE is issued
 abbrev pub IsWrittenInBootButCi : PortReg → Type 0
-IsWrittenInBootButCi r = IsPlacingRegister r ⊎ (IsResetRegister r ⊎ (r ≡ Ie))
+IsWrittenInBootButCi r = IsCmdOrBaseRegister r ⊎ (IsSctlSerrOrIs r ⊎ (r ≡ Ie))
 
 -- it is one of these writes, a reading of a register of the port, or one of asking for the page
 abbrev pub IsBootAccess : Port → Access → Type 0
@@ -147,7 +147,7 @@ IsSimulatedBootTo Tells port _ old new = IsSimulatedBoot Tells port old new
 -- idle. Then ST was set, last of all (AHCI 1.3.1, 10.1.2).
 pub record BringsUpPort (port : Port) (old new : Device) : Type 0 where
   pub placed : Device
-  pub places : IsDrivenBy (ReadsPortOrWrites IsPlacingRegister port) old placed
+  pub places : IsDrivenBy (ReadsPortOrWrites IsCmdOrBaseRegister port) old placed
   pub found : Device
   pub resets : SendsComresetThen port (FindsSignature port 0x101) placed found
   pub starts : IsDrivenBy (ReadsPortOrWrites IsCommandRegister port) found new
@@ -165,7 +165,7 @@ pub record BringsReady (port : Port) (old new : Device) : Type 0 where
   pub up : Device
   pub brings_up : BringsUpPort port old up
   pub asks_disk : AsksDiskThenEnables port up new
-  pub port_runs_well : NoPlugEvents port.0 old new → Undisturbed port.0 up new → RunsWell (new.port port.0)
+  pub runs_well_if_undisturbed : NoPlugEvents port.0 old new → Undisturbed port.0 up new → RunsWell (new.port port.0)
 
 -- The port wasn't started: after COMRESET it was looked at, with this fault. Where no disk came, its link is up if
 -- PxSSTS shows one. But for a missing device, PxSERR and PxIS were cleared.
@@ -173,10 +173,10 @@ pub record EndsBeforeStart (port : Port) (state : PortState) (old new : Device) 
   pub fault : PortFault
   pub state_is : IsStateOfFault state fault
   pub placed : Device
-  pub places : IsDrivenBy (ReadsPortOrWrites IsPlacingRegister port) old placed
+  pub places : IsDrivenBy (ReadsPortOrWrites IsCmdOrBaseRegister port) old placed
   pub resets : SendsComresetThen port (SeesResetFault port fault) placed new
-  pub link_is_up_if_shown_unless_disk_comes : NoDiskComes port.0 old new
-      → IsStoppedAndUpForStartIfShown (new.port port.0)
+  pub link_is_up_if_det_3_unless_disk_comes : NoDiskComes port.0 old new
+      → IsStoppedAndUpForStartIfDet3 (new.port port.0)
   pub is_clear_and_up_unless_plug_events : fault ≢ NoDevice → IsClearAndUpUnlessPlugEvents port.0 old new
 
 -- the states in which a port wasn't started
@@ -208,7 +208,7 @@ pub record ShowsOnlyGainedErrors (port : ℕ) (old new : Device) : Type 0 where
       → (new.port port).is place ≡ false
   pub tfes_shows_only_new_faults : NoFaults port old new → (new.port port).is 30 ≡ false
   pub faults_are_on_record : RecordsFaultsIfSt new.tape (new.port port) port
-  pub port_runs_well : Undisturbed port old new → RunsWell (new.port port)
+  pub runs_well_if_undisturbed : Undisturbed port old new → RunsWell (new.port port)
 
 -- The disk was asked for its page, and then the port was stopped: of registers PxCMD alone was written after it.
 pub record AsksThenStops (port : Port) (old new : Device) : Type 0 where

@@ -9,13 +9,15 @@ ghost use Rattle.port_boot.specs.States.{BacksState, BringsReady, HasFitDiskAndI
 ghost use Rattle.port_control.specs.{Engines.{StopsEachEngine}, Ports.{IsCommandRegister}};
 
 use super::prerequisites::law_prerequisites;
-use adapter::laws::{law_an_enabled_cause_is_pending, law_what_the_tape_tells_is_pending};
+use adapter::laws::{
+    law_interrupting_tape_events_leave_ips_set, law_set_cause_enabled_in_pxie_sets_ips,
+};
 
 /// What a boot found of a port goes on as long as the port isn't booted anew. The last page is the last one still where
 /// the disk has sent none since, and PxSCTL wasn't written; so the disk that fits is still there where DET of PxSCTL
 /// and PxIE are as they were, too. A port that is left to the device stays ready, or goes on to end as it did; where it
 /// is dead, its disk may send a page.
-pub fn law_what_was_found_goes_on()
+pub fn law_boot_findings_stay_until_next_port_boot()
     ensures page { (port : ℕ) (old new : Device) (page : List ℕ) → GainsNoMove port Identify old new
         → (new.port port).notes.sctl_written_at ≡ (old.port port).notes.sctl_written_at
         → HasLastIdentifyPage port old page
@@ -54,19 +56,19 @@ pub fn law_ready_port_causes_set_ips()
         → All (LeavesIe port) accesses → old.hr ≡ false → new.tape ≡ old.tape ++ gained
         → Contains gained entry → is_ips_set (new.port port) ≡ true }
 {
-    law_an_enabled_cause_is_pending();
-    law_what_the_tape_tells_is_pending();
+    law_set_cause_enabled_in_pxie_sets_ips();
+    law_interrupting_tape_events_leave_ips_set();
 }
 
 /// A boot touches no register of another port: its accesses are of its port.
-pub fn law_a_boot_is_of_its_port()
+pub fn law_boot_accesses_spare_other_ports()
     ensures { (port : Port) (access : Access) → IsBootAccess port access → SparesOtherPorts port access }
 {
     law_prerequisites();
 }
 
 /// A boot, to whatever state, was made by its accesses; and those of a stop are among them.
-pub fn law_boots_are_driven()
+pub fn law_boots_are_of_boot_accesses()
     ensures boots { (port : Port) (state : PortState) (old new : Device)
         → IsSimulatedBootTo (StopsReceivingAndStartedEngine port state) port state old new
         → IsDrivenBy (IsBootAccess port) old new }
@@ -80,9 +82,9 @@ pub fn law_boots_are_driven()
     law_prerequisites();
 }
 
-/// A port that runs does so still after an access that writes neither its PxCMD nor its PxSCTL, and after several that
-/// don't write GHC either. Where it ran well, and nothing went wrong on it, it runs well.
-pub fn law_a_port_runs_on()
+/// A port that runs, and on which nothing goes wrong, does so still after an access that writes neither its PxCMD nor
+/// its PxSCTL, and after several that don't write GHC either. Where it ran well, it runs well.
+pub fn law_undisturbed_port_runs_on_if_controls_stay()
     ensures one_access { (port : Port) (access : Access) (old new : Device) → IsOn old
         → DoesNotWrite (Px port Sctl) access
         → DoesNotWrite (Px port Cmd) access → Does access old new → StaysRunningIfUndisturbed port.0 old new }
@@ -100,7 +102,7 @@ pub fn law_a_port_runs_on()
 /// Where a port shows a device, a disk is in: this goes on, whatever the device does, and over each access, also one
 /// that resets the adapter. And a boot that leaves its port ready begins it, since COMRESET has a port show no device
 /// until its link comes up.
-pub fn law_shown_disk_is_in_is_kept()
+pub fn law_det_3_means_disk_present_is_invariant()
     ensures steps { (port : ℕ) (old new : Device) → Steps old new → ShownDiskIsIn (old.port port)
         → ShownDiskIsIn (new.port port) }
     ensures access { (port : ℕ) (access : Access) (old new : Device) → Does access old new

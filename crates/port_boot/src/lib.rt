@@ -2,7 +2,7 @@
 //!
 //! (AHCI 1.3.1, 10.1.2 and 10.4.2; ACS-3, 7.12; which states there are, and the steps' order, are
 //! this project's own.) A caller stops the port, and gives up its slots, before. What stands behind
-//! the state that is told goes on until the port is booted anew (`law_what_was_found_goes_on`).
+//! the state that is told goes on until the port is booted anew (`law_boot_findings_stay_until_next_port_boot`).
 #![tactic(auto)]
 
 ghost use Rattle.std.specs.Prelude.{Option, ◌≡◌, ◌↔◌, IsTrue, IfOk, IfErr, OnOk};

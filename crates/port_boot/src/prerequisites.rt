@@ -1,9 +1,9 @@
 // What laws of the crates below say of this crate's accesses, for its proofs. Nothing comes of calling it.
 ghost use Rattle.port_boot.specs.Laws.{Laws};
 
-use adapter::laws::law_port_register_accesses;
-use disk_page::laws::law_asking_is_of_one_port;
-use port_control::laws::law_what_is_told_of_engines_stays;
+use adapter::laws::law_port_access_is_steps_then_port_effect;
+use disk_page::laws::law_page_request_spares_other_ports;
+use port_control::laws::law_engine_evidence_shows_in_longer_traces;
 use refinement::access_kinds::{
     law_fragment_prerequisites, law_port_register_accesses_are_of_port,
 };
@@ -12,9 +12,9 @@ use refinement::fragments::{
 };
 use refinement::laws::law_writes_but_ci_stay_permitted;
 use refinement::port_facts::{
-    law_adapter_stays, law_clear_error_bits_stay_clear, law_faults_are_recorded,
-    law_running_well_is_found, law_shown_link_is_up_for_start,
-    law_undisturbed_has_no_error_or_plug,
+    law_adapter_stays_the_same_and_switched_on, law_clear_error_bits_stay_clear,
+    law_link_with_det_3_is_up_for_start, law_started_port_without_trouble_runs_well,
+    law_tape_and_tfd_keep_faults_since_st, law_undisturbed_has_no_error_or_plug,
 };
 use refinement::recovering::law_queued_halt_has_taken_command;
 use std::marker::Brand;
@@ -23,13 +23,13 @@ use std::marker::Brand;
 pub fn law_prerequisites()
     ensures { Laws }
 {
-    law_port_register_accesses();
-    law_adapter_stays();
+    law_port_access_is_steps_then_port_effect();
+    law_adapter_stays_the_same_and_switched_on();
     law_clear_error_bits_stay_clear();
-    law_faults_are_recorded();
-    law_shown_link_is_up_for_start();
+    law_tape_and_tfd_keep_faults_since_st();
+    law_link_with_det_3_is_up_for_start();
     law_undisturbed_has_no_error_or_plug();
-    law_running_well_is_found();
+    law_started_port_without_trouble_runs_well();
     law_fragment_prerequisites::<Brand>();
     law_port_register_accesses_are_of_port::<Brand>();
     law_writes_but_ci_stay_permitted();
@@ -37,6 +37,6 @@ pub fn law_prerequisites()
     law_other_ports_are_untouched();
     law_tape_prerequisites();
     law_port_without_command_gains_no_move();
-    law_asking_is_of_one_port();
-    law_what_is_told_of_engines_stays();
+    law_page_request_spares_other_ports();
+    law_engine_evidence_shows_in_longer_traces();
 }

@@ -245,7 +245,7 @@ module _ (laws : Laws) where
 
     pub fallen : bit v 15 ≡ false → IsStopped (e.port port.0)
     fallen clear = record {
-      engine_is_stopped = laws.law_stopped_engine_is_read w.usable.machine_is_related.0 w.usable.machine_is_related.2.machine port v d e w.usable.machine_is_related.2.reached w.usable.machine_is_related.2.driver_relation.state_relation w.has.st_is_clear call clear;
+      engine_is_stopped = laws.law_cr_read_clear_means_engine_stopped w.usable.machine_is_related.0 w.usable.machine_is_related.2.machine port v d e w.usable.machine_is_related.2.reached w.usable.machine_is_related.2.driver_relation.state_relation w.has.st_is_clear call clear;
       sact_is_clear = has_still.sact_is_clear;
     }
 

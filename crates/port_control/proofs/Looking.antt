@@ -16,7 +16,7 @@ use Rattle.adapter.specs.Device.{Notes, DevicePort, Device}
 use Rattle.refinement.specs.Fragments.{AnySlotStates, ReadsPortOrWrites, IsSimulated}
 use Rattle.refinement.specs.Errors.{NoDiskComes}
 use Rattle.refinement.specs.PortFacts.{WhileLinkAwaitedCrIsClearAndDrqSet, IsCleanToStart, CrAndTfesAreClear}
-use Rattle.refinement.specs.StartedPort.{IsUpForStart, IsStoppedAndUpForStartIfShown}
+use Rattle.refinement.specs.StartedPort.{IsUpForStart, IsStoppedAndUpForStartIfDet3}
 use Rattle.port_control.specs.Ports.{IsSerrOrIs, IsOnWithPortAndAgrees, HasLink, ShowsIdle, SawDeviceSinceSctlWrite, SawIdle, IsVainReading, ReadsInVain, ReadsUntil, LastSignatureIsShown}
 use Rattle.port_control.proofs.Using.{usable_read}
 use Rattle.port_control.proofs.Ceasing.{counted_again}
@@ -106,7 +106,7 @@ module _ (laws : Laws) where
     pub device_seen : v % 16 ≡ 3 → SawDeviceSinceSctlWrite (e.port port.0).notes
     device_seen three = (ap (λ (k : ℕ). k % 16) missing_last ∙ three, missing_count ∙ ap (λ (k : ℕ). link_wait_count_full_once_linked k (d.port port.0).notes.link_wait_count) three)
 
-    pub device_up : v % 16 ≡ 3 → NoDiskComes port.0 start e → IsStoppedAndUpForStartIfShown (start.port port.0) → IsUpForStart (e.port port.0)
+    pub device_up : v % 16 ≡ 3 → NoDiskComes port.0 start e → IsStoppedAndUpForStartIfDet3 (start.port port.0) → IsUpForStart (e.port port.0)
     device_up three none coming =
         let s : Settles port start d = settles laws port start d w.on.adapter_is_on w.followed.is_driven in
         let t : Settles port d e = settles laws port d e w.usable.adapter_is_on (looks port Ssts v d e call).is_driven in
@@ -152,7 +152,7 @@ module _ (laws : Laws) where
     busy_quiet awaits clear =
         let h = w.awaits awaits in
         let last : (e.port port.0).notes.last_tfd ≡ v = ap (λ (k : Notes). k.last_tfd) (laws.notes_read port Tfd v d e quiet call) in
-        laws.law_clean_to_start_is_found port v d e h.0 h.1 call (ap (λ (k : ℕ). bit k 3) (sym last) ∙ clear)
+        laws.law_tfes_and_drq_clear_mean_clean_to_start port v d e h.0 h.1 call (ap (λ (k : ℕ). bit k 3) (sym last) ∙ clear)
 
     pub busy_still : n < MOST_READINGS → bit v 7 || bit v 3 ≡ true → IsBusyStill port start (n + 1) e
     busy_still small busy =

@@ -14,7 +14,7 @@ use Rattle.refinement.specs.Driver.{KeepsSlotStates}
 use Rattle.refinement.specs.PortFacts.{IsQuiescentPort}
 use Rattle.refinement.specs.MemoryLayout.{command_list_address, received_fis_address}
 use Rattle.refinement.specs.Slots.{SlotStates}
-use Rattle.port_control.specs.Ports.{IsPlacingRegister, IsOnWithPortAndAgrees, SameButCmdNotes, SameSctlAndNotesButCmd, programmed_bases}
+use Rattle.port_control.specs.Ports.{IsCmdOrBaseRegister, IsOnWithPortAndAgrees, SameButCmdNotes, SameSctlAndNotesButCmd, programmed_bases}
 use Rattle.port_control.proofs.Using.{usable_after, beside_none, beside_then, same_adapter}
 use Rattle.port_control.specs.Laws.AccessPurpose.{Controlling}
 use Rattle.port_control.specs.Laws.{Laws}
@@ -23,7 +23,7 @@ use Rattle.port_control.proofs.Stretching.{followed_then, followed_write}
 
 -- some of the four were written, and the addresses are these
 pub record IsPlacedBy (port : Port) (start d : Device) (b : Bases) : Type 0 where
-  pub followed : IsSimulated (ReadsPortOrWrites IsPlacingRegister port) AnySlotStates start d
+  pub followed : IsSimulated (ReadsPortOrWrites IsCmdOrBaseRegister port) AnySlotStates start d
   pub usable : IsOnWithPortAndAgrees AnySlotStates port d
   pub quiet : IsQuiescentPort (d.port port.0)
   pub room : DRIVER_BYTES ≤ d.memory_size
@@ -40,11 +40,11 @@ module _ (laws : Laws) where
 
   module _ (port : Port) (start d e : Device) (b : Bases) (w : IsPlacedBy port start d b) where
     -- one more
-    more : (r : PortReg) (v : ℕ) (change : Bases → Bases) → IsPlacingRegister r → r ≢ Sctl → r ≢ Is → r ≢ Cmd → IsStable (MayWrite (Px port r) v) d →
+    more : (r : PortReg) (v : ℕ) (change : Bases → Bases) → IsCmdOrBaseRegister r → r ≢ Sctl → r ≢ Is → r ≢ Cmd → IsStable (MayWrite (Px port r) v) d →
         ((uses : SlotStates) → KeepsSlotStates uses (Px port r) v d) → ((tape : ℕ) (p : DevicePort) → ((port_after_write r v tape p).bases ≡ change p.bases) × ((port_after_write r v tape p).sctl_det ≡ p.sctl_det)) →
         Writes (Px port r) v d e → IsPlacedBy port start e (change b)
     more r v change kind control causes command may leaves effect call =
-        let one : IsSimulated (ReadsPortOrWrites IsPlacingRegister port) AnySlotStates d e = followed_write laws (Controlling Placing port) (Px port r) v d e (refl, kind) may (λ uses is. leaves uses) call in
+        let one : IsSimulated (ReadsPortOrWrites IsCmdOrBaseRegister port) AnySlotStates d e = followed_write laws (Controlling Placing port) (Px port r) v d e (refl, kind) may (λ uses is. leaves uses) call in
         let x : PortRegisterWritten port.0 r v d e = laws.write_changes_port_register port r v d e call w.usable.adapter_is_on.no_reset in
         let notes = laws.writes_keep_notes port r v d e control causes (λ is. absurd (command is)) call in
         record {

@@ -13,9 +13,9 @@ use Rattle.adapter.specs.Rules.{IsOn, MayWrite, IsStable}
 use Rattle.refinement.specs.Fragments.{AnySlotStates, ReadsPortOrWrites, IsSimulated}
 use Rattle.refinement.specs.Errors.{NoDiskComes}
 use Rattle.refinement.specs.PortFacts.{WhileLinkAwaitedCrIsClearAndDrqSet, IsCleanToStart, CrAndTfesAreClear}
-use Rattle.refinement.specs.StartedPort.{IsUpForStart, IsStoppedAndUpForStartIfShown}
+use Rattle.refinement.specs.StartedPort.{IsUpForStart, IsStoppedAndUpForStartIfDet3}
 use Rattle.refinement.specs.Fragments.{TapeGrows}
-use Rattle.port_control.specs.Ports.{IsSerrOrIs, IsResetRegister, IsOnWithPortAndAgrees, IsStoppedReceiving, HasLink, ShowsIdle, ReadsInVain, ReadsUntil, ClearsErrors, FindsLinkAndClearsErrors, FindsSignature, FindsBusy, SendsComresetThen, SerrShowsOnlyNewPlugs, IsClearAndUpIfStoppedUnlessPlugEvents, IsClearAndUpUnlessPlugEvents}
+use Rattle.port_control.specs.Ports.{IsSerrOrIs, IsSctlSerrOrIs, IsOnWithPortAndAgrees, IsStoppedReceiving, HasLink, ShowsIdle, ReadsInVain, ReadsUntil, ClearsErrors, FindsLinkAndClearsErrors, FindsSignature, FindsBusy, SendsComresetThen, SerrShowsOnlyNewPlugs, IsClearAndUpIfStoppedUnlessPlugEvents, IsClearAndUpUnlessPlugEvents}
 use Rattle.port_control.proofs.Using.{usable_after, receiving_write, stays_on, tape_gains}
 use Rattle.port_control.proofs.Settling.{comes_in_parts, plugs_in_parts, no_start, Settles, settles}
 use Rattle.port_control.specs.Laws.RegisterSet.{ClearingErrors, ResettingLink}
@@ -62,7 +62,7 @@ module _ (laws : Laws) where
   sctl_may port v d u r det = laws.write_stays (Px port Sctl) v d (λ p e. cc) (u.adapter_is_on, u.has_port, (r.stopped.engine_is_stopped.st_is_clear, det))
 
   module _ (port : Port) (old sent : Device) (u : IsOnWithPortAndAgrees AnySlotStates port old) (receives : IsStoppedReceiving port.0 (old.port port.0)) (one : Writes (Px port Sctl) 1 old sent) where
-    first : IsSimulated (ReadsPortOrWrites IsResetRegister port) AnySlotStates old sent
+    first : IsSimulated (ReadsPortOrWrites IsSctlSerrOrIs port) AnySlotStates old sent
     first = followed_write laws (Controlling ResettingLink port) (Px port Sctl) 1 old sent (refl, inl refl) (sctl_may port 1 old u receives (inr refl)) (λ uses is. tt) one
 
     sending : IsOnWithPortAndAgrees AnySlotStates port sent
@@ -75,7 +75,7 @@ module _ (laws : Laws) where
     ending_may = sctl_may port 0 sent sending receives_still (inl refl)
 
     module _ (new : Device) (zero : Writes (Px port Sctl) 0 sent new) where
-      pub reset_followed : IsSimulated (ReadsPortOrWrites IsResetRegister port) AnySlotStates old new
+      pub reset_followed : IsSimulated (ReadsPortOrWrites IsSctlSerrOrIs port) AnySlotStates old new
       reset_followed = followed_then laws (Controlling ResettingLink port) old sent new first
           (followed_write laws (Controlling ResettingLink port) (Px port Sctl) 0 sent new (refl, inl refl) ending_may (λ uses is. tt) zero)
 
@@ -109,7 +109,7 @@ module _ (laws : Laws) where
           (λ d steps. ((laws.law_step_lists_keep_what_steps_keep _ _ steps).port_bits_only_fall port.0).cr_stays_clear receives_still.stopped.engine_is_stopped.cr_is_clear) zero
           (laws.comreset_shows_drq_till_link port 1 old sent receives.stopped.engine_is_stopped.cr_is_clear refl one)
 
-      pub reset_coming : NoDiskComes port.0 old new → IsStoppedAndUpForStartIfShown (new.port port.0)
+      pub reset_coming : NoDiskComes port.0 old new → IsStoppedAndUpForStartIfDet3 (new.port port.0)
       reset_coming none =
           let parts = comes_in_parts laws port.0 old sent new early late none in
           laws.access_keeps_coming_up port (Writing (Px port Sctl) 0) sent new
@@ -117,7 +117,7 @@ module _ (laws : Laws) where
           (laws.comreset_begins_coming_up port 1 old sent receives.stopped.engine_is_stopped.cr_is_clear refl one)
 
   -- what was found since, where the link was coming up
-  pub found_on : (port : ℕ) (old mid new : Device) → TapeGrows old mid → TapeGrows mid new → (NoDiskComes port old mid → IsStoppedAndUpForStartIfShown (mid.port port)) → WhileLinkAwaitedCrIsClearAndDrqSet (mid.port port) → IsClearAndUpIfStoppedUnlessPlugEvents port mid new → IsClearAndUpUnlessPlugEvents port old new
+  pub found_on : (port : ℕ) (old mid new : Device) → TapeGrows old mid → TapeGrows mid new → (NoDiskComes port old mid → IsStoppedAndUpForStartIfDet3 (mid.port port)) → WhileLinkAwaitedCrIsClearAndDrqSet (mid.port port) → IsClearAndUpIfStoppedUnlessPlugEvents port mid new → IsClearAndUpUnlessPlugEvents port old new
   found_on port old mid new early late coming awaited finds = record {
     no_cause_is_set = finds.no_cause_is_set;
     serr_shows_only_new_plugs = record {
@@ -130,14 +130,14 @@ module _ (laws : Laws) where
   }
 
   -- the two together
-  module _ (port : Port) (old mid new : Device) (u : IsOnWithPortAndAgrees AnySlotStates port old) (sends : IsSimulated (ReadsPortOrWrites IsResetRegister port) AnySlotStates old mid) (looks : IsSimulated (ReadsPortOrWrites IsSerrOrIs port) AnySlotStates mid new) where
+  module _ (port : Port) (old mid new : Device) (u : IsOnWithPortAndAgrees AnySlotStates port old) (sends : IsSimulated (ReadsPortOrWrites IsSctlSerrOrIs port) AnySlotStates old mid) (looks : IsSimulated (ReadsPortOrWrites IsSerrOrIs port) AnySlotStates mid new) where
     pub looking : IsOnWithPortAndAgrees AnySlotStates port mid
     looking = usable_after laws ResettingLink port old mid u sends
 
     pub looked : Settles port mid new
     looked = settles laws port mid new looking.adapter_is_on looks.is_driven
 
-    pub both_followed : IsSimulated (ReadsPortOrWrites IsResetRegister port) AnySlotStates old new
+    pub both_followed : IsSimulated (ReadsPortOrWrites IsSctlSerrOrIs port) AnySlotStates old new
     both_followed = followed_then laws (Controlling ResettingLink port) old mid new sends (followed_wider laws ClearingErrors ResettingLink port mid new (λ r is. inr is) looks)
 
     pub both_on : IsOn new
@@ -146,8 +146,8 @@ module _ (laws : Laws) where
     sent_grows : TapeGrows old mid
     sent_grows = tape_gains laws ResettingLink port old mid sends.is_driven
 
-    module _ (coming : NoDiskComes port.0 old mid → IsStoppedAndUpForStartIfShown (mid.port port.0)) where
-      pub both_coming : NoDiskComes port.0 old new → IsStoppedAndUpForStartIfShown (new.port port.0)
+    module _ (coming : NoDiskComes port.0 old mid → IsStoppedAndUpForStartIfDet3 (mid.port port.0)) where
+      pub both_coming : NoDiskComes port.0 old new → IsStoppedAndUpForStartIfDet3 (new.port port.0)
       both_coming none = let parts = comes_in_parts laws port.0 old mid new sent_grows looked.grows none in looked.coming parts.1 (coming parts.0)
 
       pub both_found : WhileLinkAwaitedCrIsClearAndDrqSet (mid.port port.0) → IsClearAndUpIfStoppedUnlessPlugEvents port.0 mid new → IsClearAndUpUnlessPlugEvents port.0 old new
@@ -156,7 +156,7 @@ module _ (laws : Laws) where
   -- ---- looking for the device
 
   module _ (port : Port) (old seen cleared new : Device) (receives : IsStoppedReceiving port.0 (old.port port.0)) (a : Settles port old seen) (b : Settles port seen cleared) (c : Settles port cleared new)
-      (up : NoDiskComes port.0 old seen → IsStoppedAndUpForStartIfShown (old.port port.0) → IsUpForStart (seen.port port.0))
+      (up : NoDiskComes port.0 old seen → IsStoppedAndUpForStartIfDet3 (old.port port.0) → IsUpForStart (seen.port port.0))
       (calm : (place : ℕ) → place < 32 → (cleared.port port.0).is place ≡ false)
       (clear : (seen.port port.0).link_due ≡ false → SerrShowsOnlyNewPlugs port.0 seen cleared)
       (quiet : WhileLinkAwaitedCrIsClearAndDrqSet (cleared.port port.0) → CrAndTfesAreClear (cleared.port port.0) → bit (new.port port.0).notes.last_tfd 3 ≡ false → IsCleanToStart (new.port port.0)) where
@@ -173,7 +173,7 @@ module _ (laws : Laws) where
     receives_cleared = b.receiving receives_seen
 
     -- where no disk came until the device was seen, no link is due from then on
-    undue_seen : NoDiskComes port.0 old seen → IsStoppedAndUpForStartIfShown (old.port port.0) → (seen.port port.0).link_due ≡ false
+    undue_seen : NoDiskComes port.0 old seen → IsStoppedAndUpForStartIfDet3 (old.port port.0) → (seen.port port.0).link_due ≡ false
     undue_seen none coming = (up none coming).no_link_is_due
 
     -- and what shows then came since

@@ -10,7 +10,7 @@ use Rattle.refinement.specs.Fragments.{ReadsPortOrWrites, IsDrivenBy}
 use Rattle.refinement.specs.Errors.{NoDiskComes, LinkErrorsRiseByDisks}
 use Rattle.refinement.specs.PortFacts.{WhileLinkAwaitedCrIsClearAndDrqSet, IsCleanToStart}
 use Rattle.refinement.specs.PreservedParts.{DoesNotWrite, NoPlugEvents}
-use Rattle.refinement.specs.StartedPort.{IsUpForStart, IsStoppedAndUpForStartIfShown, WritesCmdOnlyWithStClear}
+use Rattle.refinement.specs.StartedPort.{IsUpForStart, IsStoppedAndUpForStartIfDet3, WritesCmdOnlyWithStClear}
 use Rattle.refinement.specs.Fragments.{TapeGrows}
 use Rattle.port_control.specs.Ports.{IsSerrOrIs, IsStoppedReceiving}
 use Rattle.port_control.proofs.Using.{receiving_read, receiving_write}
@@ -24,7 +24,7 @@ pub record Settles (port : Port) (old new : Device) : Type 0 where
   pub receiving : IsStoppedReceiving port.0 (old.port port.0) → IsStoppedReceiving port.0 (new.port port.0)
   pub det : (new.port port.0).sctl_det ≡ (old.port port.0).sctl_det
   pub written : (new.port port.0).notes.sctl_written_at ≡ (old.port port.0).notes.sctl_written_at
-  pub coming : NoDiskComes port.0 old new → IsStoppedAndUpForStartIfShown (old.port port.0) → IsStoppedAndUpForStartIfShown (new.port port.0)
+  pub coming : NoDiskComes port.0 old new → IsStoppedAndUpForStartIfDet3 (old.port port.0) → IsStoppedAndUpForStartIfDet3 (new.port port.0)
   pub up : NoPlugEvents port.0 old new → IsStoppedReceiving port.0 (old.port port.0) → IsUpForStart (old.port port.0) → IsUpForStart (new.port port.0)
   pub calm : IsStoppedReceiving port.0 (old.port port.0) → (place : ℕ) → (old.port port.0).is place ≡ false → (new.port port.0).is place ≡ false
   pub awaited : WhileLinkAwaitedCrIsClearAndDrqSet (old.port port.0) → WhileLinkAwaitedCrIsClearAndDrqSet (new.port port.0)

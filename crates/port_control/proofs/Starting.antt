@@ -16,7 +16,8 @@ use Rattle.refinement.specs.Errors.{LinkErrorsRiseByDisks}
 use Rattle.refinement.specs.PortFacts.{IsCleanToStart, RecordsFaultsIfSt}
 use Rattle.refinement.specs.PreservedParts.{NoPlugEvents}
 use Rattle.refinement.specs.HaltRecovery.{IsLinked, RunsLinked}
-use Rattle.refinement.specs.Slots.{SlotState, Free, SlotStates, IsOver, RelatesSlot, IsEmptySlot}
+use Rattle.adapter.specs.OneCommand.{SlotHasNoCommand}
+use Rattle.refinement.specs.Slots.{SlotState, Free, SlotStates, RelatesSlot, IsEmptySlot}
 use Rattle.refinement.specs.StartedPort.{IsUpForStart, IsStarted}
 use Rattle.refinement.specs.Fragments.{TapeGrows}
 use Rattle.port_control.specs.Ports.{IsCommandRegister, IsOnWithPortAndAgrees, IsStoppedReceiving, RunsInPlaceWithoutCommands, SawIdle, SameSctlAndNotesButCmdAndStart}
@@ -107,7 +108,7 @@ module _ (laws : Laws) where
       pub start_runs : RunsInPlaceWithoutCommands port.0 (new.port port.0)
       start_runs =
           let a = start_usable.machine_is_related in
-          let over : (slot : ℕ) → IsOver (new.port port.0) slot =
+          let over : (slot : ℕ) → SlotHasNoCommand (new.port port.0) slot =
           λ slot.
           let h : IsEmptySlot (new.port port.0) slot = over_free (RelatesSlot a.2.machine new.memory new.tape (new.port port.0) port.0 slot) (a.0 port.0 slot) (a.1 slot) (a.2.driver_relation.state_relation.relates_slots port.0 slot) in
           record { is_not_issued = h.is_not_issued; is_not_taken = h.is_not_taken } in

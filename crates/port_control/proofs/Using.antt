@@ -17,7 +17,7 @@ use Rattle.refinement.specs.Fragments.{AnySlotStates, SomeMachineAgrees, ReadsPo
 use Rattle.refinement.specs.PreservedParts.{SameAdapter}
 use Rattle.refinement.specs.Slots.{SlotStates}
 use Rattle.port_control.specs.Engines.{AwaitsEngineStop, FailsToStop, FailsToStopReceiving, EngineFalls, ShowsStillRunning, ReadsPortCmd, ShowsEngineStillRunning, EngineSticks}
-use Rattle.port_control.specs.Ports.{IsResetRegister, IsOnWithPortAndAgrees, IsStopped, IsStoppedReceiving, SameButCmdNotes, SameSctlAndNotesButCmd}
+use Rattle.port_control.specs.Ports.{IsSctlSerrOrIs, IsOnWithPortAndAgrees, IsStopped, IsStoppedReceiving, SameButCmdNotes, SameSctlAndNotesButCmd}
 use Rattle.port_control.specs.Laws.RegisterSet.{Commanding}
 use Rattle.port_control.specs.Laws.AccessPurpose.{Controlling}
 use Rattle.port_control.specs.Laws.{Laws, RegisterSet, registers_of}
@@ -65,7 +65,7 @@ module _ (port : ℕ) (v tape : ℕ) (p : DevicePort) (h : IsStoppedReceiving po
     areas_are_in_place = bases ∙ h.areas_are_in_place;
   }
 
-  written_receiving : (r : PortReg) → IsResetRegister r → IsStoppedReceiving port (port_after_write r v tape p)
+  written_receiving : (r : PortReg) → IsSctlSerrOrIs r → IsStoppedReceiving port (port_after_write r v tape p)
   written_receiving r (inl e) = subst (λ (z : PortReg). IsStoppedReceiving port (port_after_write z v tape p)) (sym e) (same_receiving _ refl refl refl refl refl refl refl)
   written_receiving r (inr (inl e)) = subst (λ (z : PortReg). IsStoppedReceiving port (port_after_write z v tape p)) (sym e) (same_receiving _ refl refl refl refl refl refl refl)
   written_receiving r (inr (inr e)) = subst (λ (z : PortReg). IsStoppedReceiving port (port_after_write z v tape p)) (sym e) (same_receiving _ refl refl refl refl refl refl refl)
@@ -214,7 +214,7 @@ module _ (laws : Laws) where
     sact_is_clear = λ slot. laws.writes_keep_sact_clear port slot (Px port r) v old new (λ (e : Px port r ≡ Px port Sact). absurd (other (let same : r ≡ Sact = cc in same))) call (h.sact_is_clear slot);
   }
 
-  pub receiving_write : (port : Port) (r : PortReg) (v : ℕ) (old new : Device) → old.hr ≡ false → IsResetRegister r → Writes (Px port r) v old new → IsStoppedReceiving port.0 (old.port port.0) → IsStoppedReceiving port.0 (new.port port.0)
+  pub receiving_write : (port : Port) (r : PortReg) (v : ℕ) (old new : Device) → old.hr ≡ false → IsSctlSerrOrIs r → Writes (Px port r) v old new → IsStoppedReceiving port.0 (old.port port.0) → IsStoppedReceiving port.0 (new.port port.0)
   receiving_write port r v old new off kind call h =
       let w : PortRegisterWritten port.0 r v old new = laws.write_changes_port_register port r v old new call off in
       subst (IsStoppedReceiving port.0) (sym w.port_is_written) (written_receiving port.0 v _ (w.at_access.port port.0) (receiving_on (w.keeps.ports_keep_what_steps_keep port.0) (w.keeps.keeps_outside_reset.controls_are_kept port.0) h) r kind)

@@ -7,7 +7,7 @@ use Rattle.hba_regs.specs.declared.reg.PortReg.TheVariants.{Ssts, Tfd}
 use Rattle.adapter.specs.Device.{Device, DevicePort}
 use Rattle.refinement.specs.Errors.{NoDiskComes}
 use Rattle.refinement.specs.PortFacts.{IsQuiescentPort, WhileLinkAwaitedCrIsClearAndDrqSet, IsCleanToStart, CrAndTfesAreClear}
-use Rattle.refinement.specs.StartedPort.{IsUpForStart, IsStoppedAndUpForStartIfShown}
+use Rattle.refinement.specs.StartedPort.{IsUpForStart, IsStoppedAndUpForStartIfDet3}
 use Rattle.port_control.specs.Ports.{BacksFault, ClearsErrors, IsClearAndUpIfStoppedUnlessPlugEvents, FindsSignature, SerrShowsOnlyNewPlugs, HasLink, IsStopped, SeesResetFault, ReadsUntil, ReadsInVain, IsStoppedReceiving, SameSctlAndNotesButCmd, SawDeviceSinceSctlWrite, SawIdle, ShowsIdle, LastSignatureIsShown, SendsComresetThen, programmed_bases}
 use Rattle.port_control.specs.declared.PortFault.{PortFault}
 use Rattle.port_control.specs.declared.PortFault.TheVariants.{Busy, EngineStuck, NoDevice, NotAta}
@@ -27,20 +27,20 @@ pub record PlacesAreas (port : ℕ) (old new : DevicePort) : Type 0 where
   pub areas_are_in_place : new.bases ≡ programmed_bases port
   pub sctl_and_notes_but_cmd_are_kept : SameSctlAndNotesButCmd old new
 
--- COMRESET was sent and ended: the port receives FISes still, and awaits its link, which is coming up where no disk
--- came.
+-- COMRESET was sent and ended: the port receives FISes still, and awaits its link, which is up if DET is 3 where no
+-- disk came.
 pub record SendsComreset (port : Port) (old new : Device) : Type 0 where
   pub comreset_is_sent : SendsComresetThen port (λ ended now. now ≡ ended) old new
   pub receives : IsStoppedReceiving port.0 (new.port port.0)
   pub shows_drq_till_link : WhileLinkAwaitedCrIsClearAndDrqSet (new.port port.0)
-  pub link_is_up_if_shown_unless_disk_comes : NoDiskComes port.0 old new
-      → IsStoppedAndUpForStartIfShown (new.port port.0)
+  pub link_is_up_if_det_3_unless_disk_comes : NoDiskComes port.0 old new
+      → IsStoppedAndUpForStartIfDet3 (new.port port.0)
 
 -- A device with a link was awaited, and found.
 pub record FindsAwaitedDevice (port : Port) (old new : Device) : Type 0 where
   pub reads_until_link : ReadsUntil port Ssts HasLink old new
   pub device_was_seen : SawDeviceSinceSctlWrite (new.port port.0).notes
-  pub link_is_up : NoDiskComes port.0 old new → IsStoppedAndUpForStartIfShown (old.port port.0)
+  pub link_is_up : NoDiskComes port.0 old new → IsStoppedAndUpForStartIfDet3 (old.port port.0)
       → IsUpForStart (new.port port.0)
 
 -- Or it was awaited in vain.

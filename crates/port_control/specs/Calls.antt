@@ -11,7 +11,7 @@ use Rattle.refinement.specs.Errors.{NoDiskComes, LinkErrorsRiseByDisks}
 use Rattle.refinement.specs.PortFacts.{IsCleanToStart, RecordsFaultsIfSt}
 use Rattle.refinement.specs.PreservedParts.{NoPlugEvents}
 use Rattle.refinement.specs.HaltRecovery.{IsLinked, RunsLinked}
-use Rattle.refinement.specs.StartedPort.{IsUpForStart, IsStoppedAndUpForStartIfShown, IsStarted}
+use Rattle.refinement.specs.StartedPort.{IsUpForStart, IsStoppedAndUpForStartIfDet3, IsStarted}
 use Rattle.port_control.specs.Ports.{FindsSignature, SerrShowsOnlyNewPlugs, IsClearAndUpUnlessPlugEvents, RunsInPlaceWithoutCommands, IsStopped, SeesResetFault, IsStoppedReceiving, SameSctlAndNotesButCmd, SameSctlAndNotesButCmdAndStart, SawDeviceSinceSctlWrite, SawIdle, BacksFault, LastSignatureIsShown, SendsComresetThen}
 use Rattle.port_control.specs.declared.PortFault.{PortFault}
 use Rattle.port_control.specs.declared.PortFault.TheVariants.{NoDevice, EngineStuck, NotAta}
@@ -62,11 +62,11 @@ pub record MayResetLink (port : Port) (d : Device) : Type 0 where
   pub machine_is_related : SomeMachineAgreesWith AnySlotStates d
   pub receives : IsStoppedReceiving port.0 (d.port port.0)
 
--- Whatever was found then: it receives FISes still; and where no disk came meanwhile, its link is coming up, or is up.
-pub record StaysReceivingWithLinkUpIfShown (port : Port) (old new : Device) : Type 0 where
+-- Whatever was found then: it receives FISes still; and where no disk came meanwhile, its link is up if DET is 3.
+pub record StaysReceivingWithLinkUpIfDet3 (port : Port) (old new : Device) : Type 0 where
   pub receives : IsStoppedReceiving port.0 (new.port port.0)
-  pub link_is_up_if_shown_unless_disk_comes : NoDiskComes port.0 old new
-      → IsStoppedAndUpForStartIfShown (new.port port.0)
+  pub link_is_up_if_det_3_unless_disk_comes : NoDiskComes port.0 old new
+      → IsStoppedAndUpForStartIfDet3 (new.port port.0)
 
 -- COMRESET was sent, and an ATA disk was found that is idle, as the readings since showed (AHCI 1.3.1, 10.1.2 and
 -- 10.4.2).

@@ -19,7 +19,7 @@ use Rattle.refinement.specs.Fragments.{AnyAccess, AnySlotStates, IsDrivenBy, Spa
 use Rattle.refinement.specs.Errors.{ErrorBitsRiseByErrors, NoFaults, ErrorBitsStayClear}
 use Rattle.refinement.specs.PortFacts.{IsHaltedPlainOrQueued, RecordsFaultsIfSt, RunsWell, ShowsNoTrouble, PxisValueTellsNoTrouble, Undisturbed}
 use Rattle.refinement.specs.PreservedParts.{ControlsChangeOnlyByTheirWrites, LinkIsSameOrComesUp, NoPlugEvents, SameAdapter, DoesNotWrite}
-use Rattle.refinement.specs.PortNotes.{ReadingNotesChangeByReadOrSctlWriteOnly}
+use Rattle.refinement.specs.PortNotes.{NotesChangeOnlyByReadOrSctlWrite}
 use Rattle.refinement.specs.Slots.{SlotStates}
 use Rattle.refinement.specs.StartedPort.{WritesCmdOnlyWithStSet, IsStarted}
 use Rattle.port_control.specs.PortEvents.{IsPxisSstsOrOwnIsAccess}
@@ -144,7 +144,7 @@ pub record Laws : Type 0 where
   pub last_ssts_is_read : (port : Port) (v : ℕ) (old new : Device) → Reads (Px port Ssts) v old new
       → (new.port port.0).notes.last_ssts ≡ v
   pub access_notes : (port : Port) (access : Access) (old new : Device) → Does access old new
-      → ReadingNotesChangeByReadOrSctlWriteOnly access port (old.port port.0).notes (new.port port.0).notes
+      → NotesChangeOnlyByReadOrSctlWrite access port (old.port port.0).notes (new.port port.0).notes
   -- fragments
   pub other_ports_are_left : (port : Port) (q : ℕ) (old new : Device) → q ≢ port.0 → IsOn old
       → IsDrivenBy (SparesOtherPorts port) old new

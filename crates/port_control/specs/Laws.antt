@@ -14,14 +14,14 @@ use Rattle.refinement.specs.Slots.{Free, SlotStates}
 use Rattle.hba_regs.specs.declared.reg.Reg.TheVariants.{Ghc, Px}
 use Rattle.adapter.specs.Rules.{HasPort, IsOn, MaySetFre, MayStart, MayStopReceiving, MayWrite, IsStable}
 use Rattle.refinement.specs.PortFacts.{IsQuiescentPort, WhileLinkAwaitedCrIsClearAndDrqSet, IsEngineStopped, IsCleanToStart, RecordsFaultsIfSt, CrAndTfesAreClear, StartsCleanAndWritesSctlStopped}
-use Rattle.port_control.specs.Ports.{IsSerrOrIs, IsPlacingRegister, IsResetRegister, IsCommandRegister}
+use Rattle.port_control.specs.Ports.{IsSerrOrIs, IsCmdOrBaseRegister, IsSctlSerrOrIs, IsCommandRegister}
 use Rattle.refinement.specs.HaltRecovery.{IsLinked, RunsLinked}
-use Rattle.refinement.specs.StartedPort.{IsStoppedAndUpForStartIfShown, IsStarted, IsUpForStart, WritesCmdOnlyWithStClear}
+use Rattle.refinement.specs.StartedPort.{IsStoppedAndUpForStartIfDet3, IsStarted, IsUpForStart, WritesCmdOnlyWithStClear}
 use Rattle.block_machine.specs.Histories.{IsReachable}
 use Rattle.adapter.specs.KeptBySteps.{KeepsOverSteps}
 use Rattle.ata_types.specs.declared.memory.TheConstants.{LIST_BYTES, RECEIVED_FIS_BYTES}
 use Rattle.refinement.specs.PreservedParts.{ControlsChangeOnlyByTheirWrites, NoPlugEvents, SameAdapter, DoesNotWrite}
-use Rattle.refinement.specs.PortNotes.{ReadingNotesChangeByReadOrSctlWriteOnly}
+use Rattle.refinement.specs.PortNotes.{NotesChangeOnlyByReadOrSctlWrite}
 use Rattle.block_machine.specs.State.{Machine}
 use Rattle.hba_regs.specs.declared.reg.PortReg.{PortReg}
 use Rattle.adapter.specs.RegisterEffects.{PortRegisterWritten, PortRegisterRead}
@@ -42,9 +42,9 @@ pub data RegisterSet : Type 0 where
 
 abbrev pub registers_of : RegisterSet → PortReg → Type 0
 registers_of Commanding = IsCommandRegister
-registers_of Placing = IsPlacingRegister
+registers_of Placing = IsCmdOrBaseRegister
 registers_of ClearingErrors = IsSerrOrIs
-registers_of ResettingLink = IsResetRegister
+registers_of ResettingLink = IsSctlSerrOrIs
 
 -- a port's registers are read, and those of a set written; or a port is started, none of whose slots is used
 pub data AccessPurpose : Type 0 where
@@ -107,7 +107,7 @@ pub record Laws : Type 0 where
   pub shown_after : (port : Port) (r : PortReg) (v : ℕ) (old new : Device) → old.hr ≡ false
       → Reads (Px port r) v old new → PortShows r v (new.port port.0)
   pub access_notes : (port : Port) (access : Access) (old new : Device) → Does access old new
-      → ReadingNotesChangeByReadOrSctlWriteOnly access port (old.port port.0).notes (new.port port.0).notes
+      → NotesChangeOnlyByReadOrSctlWrite access port (old.port port.0).notes (new.port port.0).notes
   pub writes_keep_notes : (port : Port) (r : PortReg) (v : ℕ) (old new : Device) → r ≢ Sctl → r ≢ Is
       → (r ≡ Cmd → bit v 0 ≡ false) → Writes (Px port r) v old new → (new.port port.0).notes ≡ (old.port port.0).notes
   pub cmd_write_keeps_notes_but_st_time : (port : Port) (v : ℕ) (old new : Device) → Writes (Px port Cmd) v old new
@@ -131,7 +131,8 @@ pub record Laws : Type 0 where
   pub writes_keep_engine_stopped : (port : Port) (r : Reg) (v : ℕ) (old new : Device) → IsStable (MayWrite r v) old
       → (r ≡ Px port Cmd → bit v 0 ≡ false) → Writes r v old new → IsEngineStopped (old.port port.0)
       → IsEngineStopped (new.port port.0)
-  pub law_stopped_engine_is_read : (uses : SlotStates) (m : Machine) (port : Port) (v : ℕ) (old new : Device)
+  pub law_cr_read_clear_means_engine_stopped : (uses : SlotStates) (m : Machine) (port : Port) (v : ℕ)
+      (old new : Device)
       → IsReachable m
       → StateRelation uses m old → (old.port port.0).st ≡ false → Reads (Px port Cmd) v old new → bit v 15 ≡ false
       → IsEngineStopped (new.port port.0)
@@ -163,11 +164,11 @@ pub record Laws : Type 0 where
       → DoesNotWrite (Px port Sctl) access → Does access old new → WhileLinkAwaitedCrIsClearAndDrqSet (old.port port.0)
       → WhileLinkAwaitedCrIsClearAndDrqSet (new.port port.0)
   pub comreset_begins_coming_up : (port : Port) (v : ℕ) (old new : Device) → (old.port port.0).cr ≡ false → v % 16 ≡ 1
-      → Writes (Px port Sctl) v old new → IsStoppedAndUpForStartIfShown (new.port port.0)
+      → Writes (Px port Sctl) v old new → IsStoppedAndUpForStartIfDet3 (new.port port.0)
   pub access_keeps_coming_up : (port : Port) (access : Access) (old new : Device) → WritesCmdOnlyWithStClear port access
       → Does access old new
-      → NoDiskComes port.0 old new → IsStoppedAndUpForStartIfShown (old.port port.0)
-      → IsStoppedAndUpForStartIfShown (new.port port.0)
+      → NoDiskComes port.0 old new → IsStoppedAndUpForStartIfDet3 (old.port port.0)
+      → IsStoppedAndUpForStartIfDet3 (new.port port.0)
   pub access_keeps_up : (port : Port) (access : Access) (old new : Device) → old.hr ≡ false
       → (old.port port.0).cr ≡ false
       → WritesCmdOnlyWithStClear port access → DoesNotWrite (Px port Sctl) access → NoPlugEvents port.0 old new
@@ -175,7 +176,7 @@ pub record Laws : Type 0 where
       → IsUpForStart (old.port port.0) → IsUpForStart (new.port port.0)
   pub up_is_found : (port : Port) (v : ℕ) (old new : Device) → NoDiskComes port.0 old new
       → Reads (Px port Ssts) v old new
-      → v % 16 ≡ 3 → IsStoppedAndUpForStartIfShown (old.port port.0) → IsUpForStart (new.port port.0)
+      → v % 16 ≡ 3 → IsStoppedAndUpForStartIfDet3 (old.port port.0) → IsUpForStart (new.port port.0)
   pub start_of_up_port_is_started : (port : Port) (v : ℕ) (old new : Device) → old.hr ≡ false
       → (old.port port.0).st ≡ false
       → (old.port port.0).cr ≡ false → bit v 0 ≡ true → Writes (Px port Cmd) v old new → IsUpForStart (old.port port.0)
@@ -188,7 +189,7 @@ pub record Laws : Type 0 where
       → IsLinked (old.port port.0) → RunsLinked (new.port port.0)
   pub last_tfd_is_read : (port : Port) (v : ℕ) (old new : Device) → Reads (Px port Tfd) v old new
       → (new.port port.0).notes.last_tfd ≡ v
-  pub law_clean_to_start_is_found : (port : Port) (v : ℕ) (old new : Device)
+  pub law_tfes_and_drq_clear_mean_clean_to_start : (port : Port) (v : ℕ) (old new : Device)
       → WhileLinkAwaitedCrIsClearAndDrqSet (old.port port.0)
       → CrAndTfesAreClear (old.port port.0) → Reads (Px port Tfd) v old new → bit v 3 ≡ false
       → IsCleanToStart (new.port port.0)

@@ -17,7 +17,7 @@ use Rattle.refinement.specs.PortFacts.{WhileLinkAwaitedCrIsClearAndDrqSet, IsEng
 use Rattle.refinement.specs.PreservedParts.{NoPlugEvents}
 use Rattle.refinement.specs.MemoryLayout.{command_list_address, received_fis_address}
 use Rattle.refinement.specs.Slots.{SlotStates}
-use Rattle.refinement.specs.StartedPort.{IsUpForStart, IsStoppedAndUpForStartIfShown}
+use Rattle.refinement.specs.StartedPort.{IsUpForStart, IsStoppedAndUpForStartIfDet3}
 use Rattle.port_control.specs.Engines.{FailsToStop, FailsToStopReceiving, Stops, StopsReceiving}
 use Rattle.port_control.specs.declared.PortFault.{PortFault}
 use Rattle.port_control.specs.declared.PortFault.TheVariants.{NoDevice, Busy, EngineStuck, NotAta}
@@ -29,16 +29,16 @@ abbrev pub IsCommandRegister : PortReg → Type 0
 IsCommandRegister r = r ≡ Cmd
 
 -- PxCMD, and the addresses of the command list and of the received FIS area
-abbrev pub IsPlacingRegister : PortReg → Type 0
-IsPlacingRegister r = (r ≡ Cmd) ⊎ (r ≡ Clb) ⊎ (r ≡ Clbu) ⊎ (r ≡ Fb) ⊎ (r ≡ Fbu)
+abbrev pub IsCmdOrBaseRegister : PortReg → Type 0
+IsCmdOrBaseRegister r = (r ≡ Cmd) ⊎ (r ≡ Clb) ⊎ (r ≡ Clbu) ⊎ (r ≡ Fb) ⊎ (r ≡ Fbu)
 
 -- PxSERR and PxIS, whose bits are cleared by ones
 abbrev pub IsSerrOrIs : PortReg → Type 0
 IsSerrOrIs r = (r ≡ Serr) ⊎ (r ≡ Is)
 
 -- these and PxSCTL
-abbrev pub IsResetRegister : PortReg → Type 0
-IsResetRegister r = (r ≡ Sctl) ⊎ IsSerrOrIs r
+abbrev pub IsSctlSerrOrIs : PortReg → Type 0
+IsSctlSerrOrIs r = (r ≡ Sctl) ⊎ IsSerrOrIs r
 
 -- ---- the states of a port
 
@@ -225,10 +225,10 @@ pub record IsClearAndUpUnlessPlugEvents (port : ℕ) (old new : Device) : Type 0
 -- awaited link had CR clear and DRQ set.
 pub record IsClearAndUpIfStoppedUnlessPlugEvents (port : ℕ) (old new : Device) : Type 0 where
   pub no_cause_is_set : (place : ℕ) → place < 32 → (new.port port).is place ≡ false
-  pub serr_shows_only_new_plugs : IsStoppedAndUpForStartIfShown (old.port port) → SerrShowsOnlyNewPlugs port old new
-  pub no_link_is_due : NoDiskComes port old new → IsStoppedAndUpForStartIfShown (old.port port)
+  pub serr_shows_only_new_plugs : IsStoppedAndUpForStartIfDet3 (old.port port) → SerrShowsOnlyNewPlugs port old new
+  pub no_link_is_due : NoDiskComes port old new → IsStoppedAndUpForStartIfDet3 (old.port port)
       → (new.port port).link_due ≡ false
-  pub link_is_up : NoPlugEvents port old new → IsStoppedAndUpForStartIfShown (old.port port)
+  pub link_is_up : NoPlugEvents port old new → IsStoppedAndUpForStartIfDet3 (old.port port)
       → IsUpForStart (new.port port)
   pub is_clean_to_start : WhileLinkAwaitedCrIsClearAndDrqSet (old.port port)
       → bit (new.port port).notes.last_tfd 3 ≡ false
@@ -267,14 +267,14 @@ pub record FailsToStopPort (port : Port) (old new : Device) : Type 0 where
 
 -- A stopped port receives FISes, with its areas in their places: FR fell, as was read after FRE was cleared.
 pub record BeginsReceiving (port : Port) (old new : Device) : Type 0 where
-  pub is_simulated : IsSimulatedAlong (StopsReceiving port) (ReadsPortOrWrites IsPlacingRegister port) AnySlotStates old
-      new
+  pub is_simulated : IsSimulatedAlong (StopsReceiving port) (ReadsPortOrWrites IsCmdOrBaseRegister port) AnySlotStates
+      old new
   pub receives : IsStoppedReceiving port.0 (new.port port.0)
 
 -- A stopped port was to receive FISes, and FR didn't fall in 64 readings, the last of the accesses. FRE is 0, and the
 -- addresses are as they were.
 pub record FailsToReceive (port : Port) (old new : Device) : Type 0 where
-  pub is_simulated : IsSimulatedAlong (FailsToStopReceiving port) (ReadsPortOrWrites IsPlacingRegister port)
+  pub is_simulated : IsSimulatedAlong (FailsToStopReceiving port) (ReadsPortOrWrites IsCmdOrBaseRegister port)
       AnySlotStates
       old new
   pub stuck_is_backed : BacksFault EngineStuck (new.port port.0).notes

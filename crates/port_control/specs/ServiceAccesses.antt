@@ -42,7 +42,7 @@ HidesNoPlugEvent port old new = (new.port port).serr_n ≡ false → ((old.port 
 
 -- The port told of a change of its link before the fragment, or showed no device; or a disk went or came in the
 -- fragment.
-abbrev pub OldShowsChangeOrNoDeviceOrPlugEventComes : ℕ → Device → Device → Type 0
-OldShowsChangeOrNoDeviceOrPlugEventComes port old new =
+abbrev pub ShowedLossOrHadPlugEvent : ℕ → Device → Device → Type 0
+ShowedLossOrHadPlugEvent port old new =
     (((old.port port).serr_n ≡ true) ⊎ ((old.port port).serr_x ≡ true))
     ⊎ (((old.port port).ssts_det ≢ 3) ⊎ (NoPlugEvents port old new → ⊥))

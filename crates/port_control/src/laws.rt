@@ -4,13 +4,13 @@ ghost use Rattle.ata_types.specs.declared.Port.{Port};
 ghost use Rattle.adapter.specs.Access.{Access};
 ghost use Rattle.refinement.specs.{Fragments.{ReadsPortOrWrites, SparesOtherPorts}, PreservedParts.{DoesNotWrite}};
 ghost use Rattle.hba_regs.specs.{declared.reg.PortReg.TheVariants.{Sctl}, declared.reg.Reg.TheVariants.{Px}};
-ghost use Rattle.port_control.specs.{Engines.{FailsToStop, FailsToStopReceiving, EngineFalls, EngineSticks}, Ports.{IsPlacingRegister, IsResetRegister, IsCommandRegister}};
+ghost use Rattle.port_control.specs.{Engines.{FailsToStop, FailsToStopReceiving, EngineFalls, EngineSticks}, Ports.{IsCmdOrBaseRegister, IsSctlSerrOrIs, IsCommandRegister}};
 
 use super::prerequisites::law_prerequisites;
 
 /// What accesses tell of a port's engines, they tell with others after them, and with others before them. Those of a
 /// call that failed to stop one show that it is stuck.
-pub fn law_what_is_told_of_engines_stays()
+pub fn law_engine_evidence_shows_in_longer_traces()
     ensures failing_sticks { (port : Port) (accesses : List Access) → FailsToStop port accesses
         → EngineSticks port accesses }
     ensures failing_receiving_sticks { (port : Port) (accesses : List Access) → FailsToStopReceiving port accesses
@@ -29,12 +29,12 @@ pub fn law_what_is_told_of_engines_stays()
 
 /// No call touches a register of another port, nor another port's bit of IS: so what is said of such accesses
 /// (`SparesOtherPorts`) is so of each. Those that stop and start, and those that receive FISes, don't write PxSCTL.
-pub fn law_calls_are_of_one_port()
+pub fn law_port_control_spares_other_ports()
     ensures cmd_access_is_of_port { (port : Port) (access : Access) → ReadsPortOrWrites IsCommandRegister port access
         → SparesOtherPorts port access × DoesNotWrite (Px port Sctl) access }
-    ensures placing { (port : Port) (access : Access) → ReadsPortOrWrites IsPlacingRegister port access
+    ensures placing { (port : Port) (access : Access) → ReadsPortOrWrites IsCmdOrBaseRegister port access
         → SparesOtherPorts port access × DoesNotWrite (Px port Sctl) access }
-    ensures resetting { (port : Port) (access : Access) → ReadsPortOrWrites IsResetRegister port access
+    ensures resetting { (port : Port) (access : Access) → ReadsPortOrWrites IsSctlSerrOrIs port access
         → SparesOtherPorts port access }
 {
     law_prerequisites();

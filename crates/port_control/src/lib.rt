@@ -11,8 +11,8 @@ ghost use Rattle.std.specs.Prelude.{ℕ, ◌≡◌, ◌≢◌, ◌<◌, ◌≤�
 ghost use Rattle.hba_regs.specs.Bits.{bit};
 ghost use Rattle.adapter.specs.{Rules.{IsOn}, AccessBounds.{MakesAtMost}};
 ghost use Rattle.refinement.specs.{Fragments.{AnySlotStates, ReadsPortOrWrites, IsSimulated, IsSimulatedAlong}, Driver.{AllFree}, PortFacts.{IsQuiescentPort}};
-ghost use Rattle.port_control.specs.{Calls.{DetectsDeviceAfterClearingSerr, ResetsAndFindsDisk, ResetsAndFindsFault, MayBeginReceiving, MayBeStarted, MayClearErrorState, MayResetLink, StaysReceivingWithLinkUpIfShown, Starts, StaysStoppedWithNotesButCmdKept}, Engines.{FailsToStopReceiving, StopsReceiving}, CallParts.{AwaitsIdle, ClearsFre, FindsAwaitedDevice, LeavesOnlyNewPlugErrors, MissesDevice, PlacesAreas, FindsDiskAfterReset, FindsFaultAfterReset, SendsComreset}};
-ghost use Rattle.port_control.specs.Ports.{FailsToStopPort, FailsToReceive, PortStops, BeginsReceiving, IsCommandRegister, IsPlacingRegister, IsSerrOrIs, IsResetRegister, IsOnWithPortAndAgrees, IsStopped, IsStoppedReceiving, SawDeviceSinceSctlWrite, BacksFault, SameSctlAndNotesButCmd, ClearsStAlone, ClearsErrorState, programmed_bases};
+ghost use Rattle.port_control.specs.{Calls.{DetectsDeviceAfterClearingSerr, ResetsAndFindsDisk, ResetsAndFindsFault, MayBeginReceiving, MayBeStarted, MayClearErrorState, MayResetLink, StaysReceivingWithLinkUpIfDet3, Starts, StaysStoppedWithNotesButCmdKept}, Engines.{FailsToStopReceiving, StopsReceiving}, CallParts.{AwaitsIdle, ClearsFre, FindsAwaitedDevice, LeavesOnlyNewPlugErrors, MissesDevice, PlacesAreas, FindsDiskAfterReset, FindsFaultAfterReset, SendsComreset}};
+ghost use Rattle.port_control.specs.Ports.{FailsToStopPort, FailsToReceive, PortStops, BeginsReceiving, IsCommandRegister, IsCmdOrBaseRegister, IsSerrOrIs, IsSctlSerrOrIs, IsOnWithPortAndAgrees, IsStopped, IsStoppedReceiving, SawDeviceSinceSctlWrite, BacksFault, SameSctlAndNotesButCmd, ClearsStAlone, ClearsErrorState, programmed_bases};
 ghost use Rattle.port_control.specs.Costs.{FIND_ATA_DISK_ACCESSES, CLEAR_ACCESSES, COMRESET_ACCESSES, ERROR_STATE_ACCESSES, RECEIVE_ACCESSES, DETECT_ACCESSES, START_ACCESSES, STOP_ACCESSES};
 
 use adapter::Adapter;
@@ -150,7 +150,7 @@ fn place<A: Adapter>(adapter: &mut A, port: Port)
     requires usable { IsOnWithPortAndAgrees AnySlotStates port (A.device adapter.old) }
     requires quiet { IsQuiescentPort ((A.device adapter.old).port port.0) }
     requires room { DRIVER_BYTES ≤ (A.device adapter.old).memory_size }
-    ensures followed { IsSimulated (ReadsPortOrWrites IsPlacingRegister port) AnySlotStates (A.device adapter.old)
+    ensures followed { IsSimulated (ReadsPortOrWrites IsCmdOrBaseRegister port) AnySlotStates (A.device adapter.old)
         (A.device adapter.new) }
     ensures places { PlacesAreas port.0 ((A.device adapter.old).port port.0) ((A.device adapter.new).port port.0) }
     ensures cost { MakesAtMost 4 (A.access_count adapter.old) (A.access_count adapter.new) }
@@ -211,7 +211,7 @@ pub fn receive<A: Adapter>(
 fn send_comreset<A: Adapter>(adapter: &mut A, port: Port)
     requires usable { IsOnWithPortAndAgrees AnySlotStates port (A.device adapter.old) }
     requires receives { IsStoppedReceiving port.0 ((A.device adapter.old).port port.0) }
-    ensures followed { IsSimulated (ReadsPortOrWrites IsResetRegister port) AnySlotStates (A.device adapter.old)
+    ensures followed { IsSimulated (ReadsPortOrWrites IsSctlSerrOrIs port) AnySlotStates (A.device adapter.old)
         (A.device adapter.new) }
     ensures sends { SendsComreset port (A.device adapter.old) (A.device adapter.new) }
     ensures cost { MakesAtMost 2 (A.access_count adapter.old) (A.access_count adapter.new) }
@@ -357,11 +357,11 @@ pub fn comreset<A: Adapter>(
     receiving: Receiving,
 ) -> Result<Receiving, (PortFault, Receiving)>
     requires may { MayResetLink receiving.port (A.device adapter.old) }
-    ensures followed { IsSimulated (ReadsPortOrWrites IsResetRegister receiving.port) AnySlotStates
+    ensures followed { IsSimulated (ReadsPortOrWrites IsSctlSerrOrIs receiving.port) AnySlotStates
         (A.device adapter.old)
         (A.device adapter.new) }
     ensures adapter_is_on { IsOn (A.device adapter.new) }
-    ensures stays_receiving { StaysReceivingWithLinkUpIfShown receiving.port (A.device adapter.old)
+    ensures stays_receiving { StaysReceivingWithLinkUpIfDet3 receiving.port (A.device adapter.old)
         (A.device adapter.new) }
     ensures finds { IfOk result (λ token. (token.port ≡ receiving.port)
         × ResetsAndFindsDisk receiving.port (A.device adapter.old) (A.device adapter.new)) }

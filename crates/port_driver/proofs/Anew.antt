@@ -16,7 +16,7 @@ use Rattle.port_control.specs.declared.Running.{Running}
 use Rattle.port_control.specs.declared.Stopped.{Stopped}
 use Rattle.port_control.specs.PortEvents.{IsPxisSstsOrOwnIsAccess}
 use Rattle.server_history.specs.ErrorHandling.{HasAllSlotsFreeAndCountOfMode}
-use Rattle.server_history.specs.ServerState.{ServerState, SettledInvariant}
+use Rattle.server_history.specs.ServerState.{ServerState, InvariantWithNoneDue}
 use Rattle.server_history.specs.Probing.{ProbesAnew, IsFoundAfterStop, FindsReasonToBoot, ProbesPort}
 use Rattle.server_history.specs.Turns.{ProbesUnready}
 use Rattle.slots.specs.SlotUses.{PortSlots}
@@ -47,11 +47,11 @@ found_anew s new found mode slots number = record s {
 
 -- what the law says of a port that was tried
 abbrev pub SettlesTried : Type 0
-SettlesTried = (s new : ServerState) (port : Port) → SettledInvariant s → (probes : ProbesPort port s new) → (probes.state ≢ Dead → IsSimulated (IsPxisSstsOrOwnIsAccess port) AnySlotStates s.device probes.device_after_look) → ProbesUnready port s new × SettledInvariant new
+SettlesTried = (s new : ServerState) (port : Port) → InvariantWithNoneDue s → (probes : ProbesPort port s new) → (probes.state ≢ Dead → IsSimulated (IsPxisSstsOrOwnIsAccess port) AnySlotStates s.device probes.device_after_look) → ProbesUnready port s new × InvariantWithNoneDue new
 
-module _ (law : SettlesTried) (s : ServerState) (port : Port) (state : PortState) (is : probe_result_of s.probe_results port.0 ≡ Unready state) (settled : SettledInvariant s) (seen : Device) where
+module _ (law : SettlesTried) (s : ServerState) (port : Port) (state : PortState) (is : probe_result_of s.probe_results port.0 ≡ Unready state) (settled : InvariantWithNoneDue s) (seen : Device) where
   -- where nothing shows, that was all
-  pub left_settles : FindsReasonToBoot state port false s.device seen → IsSimulated (IsPxisSstsOrOwnIsAccess port) AnySlotStates s.device seen → ProbesUnready port s (record s { device = seen }) × SettledInvariant (record s { device = seen })
+  pub left_settles : FindsReasonToBoot state port false s.device seen → IsSimulated (IsPxisSstsOrOwnIsAccess port) AnySlotStates s.device seen → ProbesUnready port s (record s { device = seen }) × InvariantWithNoneDue (record s { device = seen })
   left_settles looks followed = law s (record s { device = seen }) port settled probes (λ alive. followed)
     where
       probes : ProbesPort port s (record s { device = seen })
@@ -86,8 +86,8 @@ module _ (law : SettlesTried) (s : ServerState) (port : Port) (state : PortState
     }
 
     -- else it was given up, and booted
-    pub booted_settles : (number : ℕ) → number ≡ port.0 → ProbesUnready port s (found_anew s new found mode slots number) × SettledInvariant (found_anew s new found mode slots number)
+    pub booted_settles : (number : ℕ) → number ≡ port.0 → ProbesUnready port s (found_anew s new found mode slots number) × InvariantWithNoneDue (found_anew s new found mode slots number)
     unfolding boots_so
     booted_settles number same =
-        subst (λ (n : ℕ). ProbesUnready port s (found_anew s new found mode slots n) × SettledInvariant (found_anew s new found mode slots n)) (sym same)
+        subst (λ (n : ℕ). ProbesUnready port s (found_anew s new found mode slots n) × InvariantWithNoneDue (found_anew s new found mode slots n)) (sym same)
         (law s (found_anew s new found mode slots port.0) port settled boots_so (λ alive. followed))

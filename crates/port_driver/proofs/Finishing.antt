@@ -15,7 +15,7 @@ use Rattle.ata_types.specs.declared.request.RequestId.{RequestId}
 use Rattle.hba_regs.specs.Bits.{bit}
 use Rattle.adapter.specs.Device.{Device}
 use Rattle.block_machine.specs.declared.due.QueueMode.{QueueMode}
-use Rattle.refinement.specs.Slots.{IsOver}
+use Rattle.adapter.specs.OneCommand.{SlotHasNoCommand}
 use Rattle.port_driver.specs.LentSlots.{AnswersDoneSlots, AnswersSlot, HasPortToIssue, HasPortToAnswer, with_answers, with_port_slots}
 use Rattle.dma_frames.specs.FrameTables.{SetsLoanOnly, OwnersAndLoans}
 use Rattle.host_boot.specs.TakeOver.{probe_result_of}
@@ -39,7 +39,7 @@ IdsDiffer = (entries : List BookEntry) (a b : BookEntry) → BookIsWellFormed en
 -- a server goes on while one is answered
 abbrev pub AnswersKeep : Type 0
 AnswersKeep = (s new : ServerState) (port : Port) (request : BookEntry) → InCallInvariant s → state_of (probe_result_of s.probe_results port.0) ≡ Ready
-    → (one : AnswersOne port request s new) → IsOver (s.device.port port.0) one.slot → InCallInvariant new
+    → (one : AnswersOne port request s new) → SlotHasNoCommand (s.device.port port.0) one.slot → InCallInvariant new
 
 -- what is left of a book once the request with this id is taken out
 abbrev pub LeavesOtherPortsGrantsAndLastId : Type 0
@@ -198,7 +198,7 @@ module _ (have : HaveRequests) (keep : AnswersKeep) (leaves : LeavesOtherPortsGr
 
   kept : InCallInvariant new
   kept = keep s new port e some.lends.in_call_invariant some.lends.ready answers.answers
-      (subst (IsOver (s.device.port port.0)) (sym answers.slot_is) (some.lends.over slot earliest.slot_in_range its_bit))
+      (subst (SlotHasNoCommand (s.device.port port.0)) (sym answers.slot_is) (some.lends.over slot earliest.slot_in_range its_bit))
 
   -- the slot is used for the request
   id_is : earliest.slot_use.id ≡ e.request.id

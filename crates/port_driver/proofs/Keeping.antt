@@ -8,7 +8,7 @@ use Rattle.std.proofs.lemmas.List.Elements.{All-contains, Contains-append_cases,
 use Rattle.ata_types.specs.declared.request.Frame.{Frame}
 use Rattle.dma_frames.specs.Loan.{Lending}
 use Rattle.dma_frames.specs.FrameTables.{SetsLoanOnly, OwnersAndLoans, lent_to}
-use Rattle.server_history.specs.KeptLoans.{LoansEndInTurn, GivesBackLoans}
+use Rattle.server_history.specs.KeptLoans.{GivingBackLoansComposes, GivesBackLoans}
 use Rattle.server_history.specs.ServerState.{DifferInRequest, IsLentOut}
 
 -- a list of one loan has no other
@@ -64,7 +64,7 @@ module _ (rest : List Lending) (loan : Lending) where
         ∙ sym (ap (λ (x : Lending). x.request) (get_or-append_seam rest loan [] other)))
 
   -- The last one is given back, and then the others.
-  module _ (law : LoansEndInTurn) (old mid : OwnersAndLoans) (lent : All (IsLentOut old) all) (two : AllPairs DifferInRequest all) (lends : SetsLoanOnly old mid loan.frames None) where
+  module _ (law : GivingBackLoansComposes) (old mid : OwnersAndLoans) (lent : All (IsLentOut old) all) (two : AllPairs DifferInRequest all) (lends : SetsLoanOnly old mid loan.frames None) where
     out : (other : Lending) → Contains all other → IsLentOut old other
     out other here = All-contains (IsLentOut old) all other lent here
 

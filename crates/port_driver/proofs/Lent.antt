@@ -10,7 +10,7 @@ use Rattle.adapter.specs.Access.{Access}
 use Rattle.adapter.specs.Device.{Device}
 use Rattle.adapter.specs.Rules.{HasPort}
 use Rattle.refinement.specs.Fragments.{SomeMachineAgreesWith, AnySlotStates, IsSimulated}
-use Rattle.refinement.specs.Slots.{IsOver}
+use Rattle.adapter.specs.OneCommand.{SlotHasNoCommand}
 use Rattle.dma_frames.specs.FrameTables.{OwnersAndLoans}
 use Rattle.identify.specs.declared.error_log.FailedSlot.{FailedSlot}
 use Rattle.error_recovery.specs.Recovery.{PlainUsesSlot0, PlainIsSlot0, PortMayRecover, RecoversOrStops, BacksFailure}
@@ -40,7 +40,7 @@ pub record FailureLaws : Type 0 where
   pub looking : (s : ServerState) (new : Device) (port : Port) → InCallInvariant s → state_of (probe_result_of s.probe_results port.0) ≡ ReadyState → IsSimulated (IsPxisSstsOrOwnIsAccess port) AnySlotStates s.device new → InCallInvariant (record s { device = new })
   pub finding : (s : ServerState) (new : Device) (port : Port) (mask done : ℕ) → InCallInvariant s → state_of (probe_result_of s.probe_results port.0) ≡ ReadyState → ReadsDone port mask done s.device new → InCallInvariant (record s { device = new })
   pub over : (s : ServerState) (new : Device) (port : Port) (mask done slot : ℕ) → InCallInvariant s → state_of (probe_result_of s.probe_results port.0) ≡ ReadyState → IsMaskOf (slots_at s.slots port.0) mask → slot < 32
-      → ReadsDone port mask done s.device new → bit done slot ≡ true → IsOver (new.port port.0) slot
+      → ReadsDone port mask done s.device new → bit done slot ≡ true → SlotHasNoCommand (new.port port.0) slot
   pub may : (s : ServerState) (seen found : Device) (port : Port) (mask done : ℕ) → InCallInvariant s → state_of (probe_result_of s.probe_results port.0) ≡ ReadyState → TakesEvent port TaskFileError s.device seen
       → IsSimulated (IsPxisSstsOrOwnIsAccess port) AnySlotStates s.device seen → ReadsDone port mask done seen found → PortMayRecover port.0 found
   pub agreed : (s : ServerState) (port : Port) (queued : Bool) → InCallInvariant s → state_of (probe_result_of s.probe_results port.0) ≡ ReadyState → AreAllQueuedAs queued (slots_at s.slots port.0) → SomeMachineAgreesWith (PlainUsesSlot0 queued port.0) s.device
@@ -113,15 +113,15 @@ module _ (x : Troubled) where
 
   module _ (f : FoundDone x) where
     its_mask : IsMaskOf (slots_at x.s.slots x.port.0) f.mask
-    its_mask = subst (λ (u : PortSlots). IsMaskOf u f.mask) (sym x.lends.was_settled_with.has_port_and_shared.port_is.slots_are) (mask_of x.p.slots f.mask f.exact)
+    its_mask = subst (λ (u : PortSlots). IsMaskOf u f.mask) (sym x.lends.had_none_due_and_parts.has_port_and_shared.port_is.slots_are) (mask_of x.p.slots f.mask f.exact)
 
     pub lends_done : HasPortToAnswer (from x f) x.shared.table.value x.shared.book x.p.slots x.port f.done
     lends_done = record {
       in_call_invariant = x.laws.finding seen f.found x.port f.mask f.done seen_kept x.lends.sees_port_error.ready f.reads;
       ready = x.lends.sees_port_error.ready;
-      table_is = x.lends.was_settled_with.has_port_and_shared.table_is;
-      book_is = x.lends.was_settled_with.has_port_and_shared.book_is;
-      slots_are = x.lends.was_settled_with.has_port_and_shared.port_is.slots_are;
+      table_is = x.lends.had_none_due_and_parts.has_port_and_shared.table_is;
+      book_is = x.lends.had_none_due_and_parts.has_port_and_shared.book_is;
+      slots_are = x.lends.had_none_due_and_parts.has_port_and_shared.port_is.slots_are;
       over = λ slot small its. x.laws.over seen f.found x.port f.mask f.done slot seen_kept x.lends.sees_port_error.ready its_mask small f.reads its;
     }
 

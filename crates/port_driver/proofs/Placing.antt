@@ -11,7 +11,7 @@ use Rattle.identify.specs.declared.wanted.Wanted.{Wanted}
 use Rattle.identify.specs.declared.wanted.Wanted.TheVariants.{Nothing}
 use Rattle.server_history.specs.ServerState.{ServerState, no_slots, plain_mode}
 use Rattle.slots.specs.SlotUses.{PortSlots}
-use Rattle.port_driver.specs.PortAndShared.{HasPortAt, IsSettledWith, with_served_port}
+use Rattle.port_driver.specs.PortAndShared.{HasPortAt, HasNoneDueAndParts, with_served_port}
 use Rattle.port_driver.specs.declared.served_port.ServedPort.{ServedPort}
 use Rattle.port_driver.specs.declared.served_port.Shared.{Shared}
 
@@ -98,8 +98,8 @@ on_device s device number p has = record {
 }
 
 -- a settled server has its parts on its own device
-pub on_its_device : (s : ServerState) (shared : Shared) (port : Port) (p : ServedPort) {device : Device} → IsSettledWith s device shared port p → IsSettledWith s s.device shared port p
+pub on_its_device : (s : ServerState) (shared : Shared) (port : Port) (p : ServedPort) {device : Device} → HasNoneDueAndParts s device shared port p → HasNoneDueAndParts s s.device shared port p
 on_its_device s shared port p its = record {
-  settled_invariant = its.settled_invariant;
+  invariant_with_none_due = its.invariant_with_none_due;
   has_port_and_shared = record { device_is = refl; table_is = its.has_port_and_shared.table_is; book_is = its.has_port_and_shared.book_is; port_is = its.has_port_and_shared.port_is };
 }

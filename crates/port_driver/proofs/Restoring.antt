@@ -35,7 +35,7 @@ use Rattle.request_queue.specs.declared.disposition.FailedRequest.{FailedRequest
 use Rattle.request_queue.specs.declared.disposition.Revalidation.{Revalidation}
 use Rattle.server_history.specs.ErrorHandling.{BootsAfter, IsFailedRequest, IsFoundAfterError, IsRevalidation, IsErrorHandled, HasResolved, HandlesPortError, requests_of, with_port_resolved}
 use Rattle.server_history.specs.IssuingAndAnswering.{IssuesDueOfPort, done_reply}
-use Rattle.server_history.specs.ServerState.{ServerState, InCallInvariant, SettledInvariant, quarantined_at, mode_at, probed_mode, mode_in, no_slots, plain_mode, slots_at, state_of}
+use Rattle.server_history.specs.ServerState.{ServerState, InCallInvariant, InvariantWithNoneDue, quarantined_at, mode_at, probed_mode, mode_in, no_slots, plain_mode, slots_at, state_of}
 use Rattle.server_history.specs.Turns.{IsPortTurn, InRestart, ServicesPort}
 use Rattle.port_control.specs.declared.events.PortError.{PortError}
 use Rattle.port_control.specs.declared.events.PortError.TheVariants.{FatalError, TaskFileError, TimedOut, LinkChanged}
@@ -55,10 +55,10 @@ pub record RestoringLaws : Type 0 where
       → (quarantined_at s.kept_loans port.0 ≡ []) × (count_by (λ (e : BookEntry). e.request.issued) (requests_of port s.book) ≤ 32)
   pub settled : (s new : ServerState) (port : Port) (later : List Reply) → InCallInvariant s → state_of (probe_result_of s.probe_results port.0) ≡ ReadyState → (a : HasResolved port later s new)
       → IsSimulated (IsPxisSstsOrOwnIsAccess port) AnySlotStates s.device a.error_handled.device_after_look → InCallInvariant new
-  pub error_handled : (s new : ServerState) (port : Port) (replies : List Reply) → SettledInvariant s → state_of (probe_result_of s.probe_results port.0) ≡ ReadyState → (r : HandlesPortError port replies s new)
-      → r.has_resolved.error_handled.port_error ≢ TimedOut → IsSimulated (IsPxisSstsOrOwnIsAccess port) AnySlotStates s.device r.has_resolved.error_handled.device_after_look → ServicesPort port replies s new × SettledInvariant new
-  pub restarted : (s new : ServerState) (port : Port) (replies : List Reply) → SettledInvariant s → state_of (probe_result_of s.probe_results port.0) ≡ ReadyState → (r : HandlesPortError port replies s new)
-      → r.has_resolved.error_handled.port_error ≡ TimedOut → IsPortTurn InRestart port replies s new × SettledInvariant new
+  pub error_handled : (s new : ServerState) (port : Port) (replies : List Reply) → InvariantWithNoneDue s → state_of (probe_result_of s.probe_results port.0) ≡ ReadyState → (r : HandlesPortError port replies s new)
+      → r.has_resolved.error_handled.port_error ≢ TimedOut → IsSimulated (IsPxisSstsOrOwnIsAccess port) AnySlotStates s.device r.has_resolved.error_handled.device_after_look → ServicesPort port replies s new × InvariantWithNoneDue new
+  pub restarted : (s new : ServerState) (port : Port) (replies : List Reply) → InvariantWithNoneDue s → state_of (probe_result_of s.probe_results port.0) ≡ ReadyState → (r : HandlesPortError port replies s new)
+      → r.has_resolved.error_handled.port_error ≡ TimedOut → IsPortTurn InRestart port replies s new × InvariantWithNoneDue new
 
 -- a port whose disk wasn't lost is booted anew, whatever shows
 pub boots_other : (port_error : PortError) (wanted : Wanted) (port : Port) (booted : Booted) (old new : Device) → port_error ≢ LinkChanged → RebootsPort wanted port booted old new → BootsAfter port_error wanted port booted old new
@@ -117,7 +117,7 @@ then x y = with_port_resolved x.port y.two y.found x.was y.mode y.fresh y.now x.
 
 -- what is due was issued, and the replies stand in order
 pub record Ordered (x : Recovery) (y : Restoration x) : Type 0 where
-  pub settled : SettledInvariant x.s
+  pub settled : InvariantWithNoneDue x.s
   pub three : Device
   pub book : List BookEntry
   pub slots : PortSlots
@@ -251,13 +251,13 @@ module _ (x : Recovery) where
       }
 
       -- it goes on, whatever the trouble was
-      goes_on : (its_trouble : PortError) → x.rest.error_handled.port_error ≡ its_trouble → SettledInvariant (with_port_slots (then x y) o.three o.book o.slots x.port)
+      goes_on : (its_trouble : PortError) → x.rest.error_handled.port_error ≡ its_trouble → InvariantWithNoneDue (with_port_slots (then x y) o.three o.book o.slots x.port)
       unfolding settled_after recovers_port
       goes_on TaskFileError is = (x.laws.error_handled x.s (with_port_slots (then x y) o.three o.book o.slots x.port) x.port o.its o.settled x.sees.ready recovers_port (λ hung. let z : TaskFileError ≡ TimedOut = sym is ∙ hung in cc) x.rest.is_simulated).1
       goes_on FatalError is = (x.laws.error_handled x.s (with_port_slots (then x y) o.three o.book o.slots x.port) x.port o.its o.settled x.sees.ready recovers_port (λ hung. let z : FatalError ≡ TimedOut = sym is ∙ hung in cc) x.rest.is_simulated).1
       goes_on LinkChanged is = (x.laws.error_handled x.s (with_port_slots (then x y) o.three o.book o.slots x.port) x.port o.its o.settled x.sees.ready recovers_port (λ hung. let z : LinkChanged ≡ TimedOut = sym is ∙ hung in cc) x.rest.is_simulated).1
       goes_on TimedOut is = (x.laws.restarted x.s (with_port_slots (then x y) o.three o.book o.slots x.port) x.port o.its o.settled x.sees.ready recovers_port is).1
 
-      pub error_handled : HandlesPortErrorOf x.port x.port_error o.its x.s (with_port_slots (then x y) o.three o.book o.slots x.port) × SettledInvariant (with_port_slots (then x y) o.three o.book o.slots x.port)
+      pub error_handled : HandlesPortErrorOf x.port x.port_error o.its x.s (with_port_slots (then x y) o.three o.book o.slots x.port) × InvariantWithNoneDue (with_port_slots (then x y) o.three o.book o.slots x.port)
       unfolding settled_after recovers_port
       error_handled = (record { handling = recovers_port; port_error_is = x.rest.port_error_is; is_simulated = x.rest.is_simulated }, goes_on x.port_error x.rest.port_error_is)

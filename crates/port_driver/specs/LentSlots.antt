@@ -7,7 +7,7 @@ use Rattle.ata_types.specs.declared.request.Op.TheVariants.{Trim, Flush}
 use Rattle.ata_types.specs.declared.request.Reply.{Reply}
 use Rattle.hba_regs.specs.Bits.{bit}
 use Rattle.adapter.specs.Device.{Device}
-use Rattle.refinement.specs.Slots.{IsOver}
+use Rattle.adapter.specs.OneCommand.{SlotHasNoCommand}
 use Rattle.block_machine.specs.declared.due.QueueMode.{QueueMode}
 use Rattle.dma_frames.specs.FrameTables.{OwnersAndLoans}
 use Rattle.host_boot.specs.TakeOver.{probe_result_of}
@@ -46,7 +46,7 @@ pub record HasPortToAnswer (s : ServerState) (table : OwnersAndLoans) (book : Li
   pub table_is : s.table ≡ table
   pub book_is : s.book ≡ book
   pub slots_are : slots_at s.slots port.0 ≡ slots
-  pub over : (slot : ℕ) → slot < 32 → bit done slot ≡ true → IsOver (s.device.port port.0) slot
+  pub over : (slot : ℕ) → slot < 32 → bit done slot ≡ true → SlotHasNoCommand (s.device.port port.0) slot
 
 -- the server, with these in their place
 abbrev pub with_answers : ServerState → OwnersAndLoans → List BookEntry → PortSlots → Port → ServerState

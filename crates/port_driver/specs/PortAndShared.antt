@@ -10,7 +10,7 @@ use Rattle.host_boot.specs.declared.ProbeResult.TheVariants.{Ready, Unready, Uns
 use Rattle.identify.specs.declared.wanted.Wanted.TheVariants.{Nothing}
 use Rattle.request_queue.specs.BookEntries.{BookEntry}
 use Rattle.server_history.specs.ErrorHandling.{HasAllSlotsFreeAndCountOfMode}
-use Rattle.server_history.specs.ServerState.{ServerState, SettledInvariant, quarantined_at, last_disk_of, mode_at, no_slots, plain_mode, remembered_at, slots_at}
+use Rattle.server_history.specs.ServerState.{ServerState, InvariantWithNoneDue, quarantined_at, last_disk_of, mode_at, no_slots, plain_mode, remembered_at, slots_at}
 use Rattle.server_history.specs.Turns.{ProbesUnready, ServicesPort, TakesTickTurn}
 use Rattle.port_driver.specs.declared.served_port.ServedPort.{ServedPort}
 use Rattle.port_driver.specs.declared.served_port.Shared.{Shared}
@@ -46,19 +46,19 @@ with_served_port s device shared port p = record s {
   book = shared.book;
 }
 
--- the server is settled, and has these parts
-pub record IsSettledWith (s : ServerState) (device : Device) (shared : Shared) (port : Port)
+-- no request of the server is due, and it has these parts
+pub record HasNoneDueAndParts (s : ServerState) (device : Device) (shared : Shared) (port : Port)
     (p : ServedPort) : Type 0 where
-  pub settled_invariant : SettledInvariant s
+  pub invariant_with_none_due : InvariantWithNoneDue s
   pub has_port_and_shared : HasPortAndShared s device shared port p
 
--- A port had such a turn, with replies that come after others; and the server is settled then.
+-- A port had such a turn, with replies that come after others; and no request of the server is due then.
 pub record TakesTurn (Such : List Reply → ServerState → ServerState → Type 0) (before after : List Reply)
     (old new : ServerState) : Type 0 where
   pub new_replies : List Reply
   pub replies_are : after ≡ before ++ new_replies
   pub turn_is_taken : Such new_replies old new
-  pub settled_invariant : SettledInvariant new
+  pub invariant_with_none_due : InvariantWithNoneDue new
 
 -- A port's turn, by what it was found to be: a ready one has such a turn, and another one that is served such a one.
 abbrev pub TurnByProbeResult : (Port → List Reply → ServerState → ServerState → Type 0)

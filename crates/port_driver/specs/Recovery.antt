@@ -19,7 +19,7 @@ use Rattle.server_history.specs.ServerState.{ServerState, InCallInvariant, state
 use Rattle.port_control.specs.declared.events.PortError.{PortError}
 use Rattle.port_control.specs.declared.events.PortError.TheVariants.{FatalError, TaskFileError, LinkChanged}
 use Rattle.slots.specs.SlotUses.{PortSlots}
-use Rattle.port_driver.specs.PortAndShared.{IsSettledWith}
+use Rattle.port_driver.specs.PortAndShared.{HasNoneDueAndParts}
 use Rattle.port_driver.specs.LentSlots.{with_answers}
 use Rattle.port_driver.specs.declared.served_port.ServedPort.{ServedPort}
 use Rattle.port_driver.specs.declared.served_port.Shared.{Shared}
@@ -39,11 +39,11 @@ pub record SeesPortError (s : ServerState) (port : Port) (port_error : PortError
   pub error_is_found : ErrorIsFound port port_error s.device device
   pub is_simulated : IsSimulated (IsPxisSstsOrOwnIsAccess port) AnySlotStates s.device device
 
--- The server was settled when this error of its port was found out, and has these loans and requests; its port is this
--- one.
+-- No request of the server was due when this error of its port was found out, and it has these loans and requests; its
+-- port is this one.
 pub record IsInError (s : ServerState) (device : Device) (shared : Shared) (port : Port) (p : ServedPort)
     (port_error : PortError) : Type 0 where
-  pub was_settled_with : IsSettledWith s s.device shared port p
+  pub had_none_due_and_parts : HasNoneDueAndParts s s.device shared port p
   pub sees_port_error : SeesPortError s port port_error device
 
 -- What was done was answered by replies that came after others, and the port's error was handled; the server keeps what

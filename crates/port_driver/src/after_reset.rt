@@ -28,7 +28,9 @@ fn reset_revalidation(was: &Option<DiskInfo>, found: &ProbeResult) -> Revalidati
 
 impl ServedPort {
     /// Resolves the unanswered requests of the port after a reset, in order of acceptance, whether the reset ended or
-    /// got stuck. The replies come after those that there are.
+    /// got stuck. On a disk of the same serial and size an issued one waits again, or is told `Revoked`, or `Aborted`
+    /// after its fourth issue, and one that isn't issued waits on; on another one, or none, each is told `Unplugged`;
+    /// on a dead port `PortDead`, and the loan of an issued one is kept. The replies come after those that there are.
     pub fn resolve_after_reset(&mut self, shared: &mut Shared, port: Port, replies: &mut Replies)
         requires may_resolve { (s : ServerState) × MayResolve s × HasPortAndShared s s.device shared.old port self.old }
         requires room { length replies.old.items + length shared.old.book ≤ MOST_UNANSWERED_OF_ALL_CLIENTS }

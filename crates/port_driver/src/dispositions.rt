@@ -11,7 +11,7 @@ use crate::served_port::Shared;
 use ata_types::{ClientId, Outcome, Port, Replies, Reply, RequestId};
 use request_queue::laws::{
     law_an_id_is_one_request, law_answers_of_one_outcome_are_one_change,
-    law_book_stays_well_formed, law_operations_change_one_request, law_well_formed_entries_stay,
+    law_book_stays_well_formed, law_entries_stay_well_formed, law_operations_change_one_request,
 };
 use request_queue::{Disposition, FailedRequest, Revalidation};
 
@@ -48,7 +48,7 @@ impl Shared {
         ensures may { MayAnswerAll self.new.table.value self.new.book replies.new.items }
     {
         law_an_id_is_one_request();
-        law_well_formed_entries_stay();
+        law_entries_stay_well_formed();
         law_operations_change_one_request();
         law_book_stays_well_formed();
         let entry = self.book.request(id);
@@ -83,7 +83,7 @@ impl Shared {
         ensures may { MayAnswerAll self.new.table.value self.new.book replies.new.items }
     {
         law_an_id_is_one_request();
-        law_well_formed_entries_stay();
+        law_entries_stay_well_formed();
         law_operations_change_one_request();
         law_book_stays_well_formed();
         let table = &mut *self.table;

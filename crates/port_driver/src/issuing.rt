@@ -11,18 +11,18 @@ use crate::served_port::ServedPort;
 use adapter::Adapter;
 use ata_types::{Frame, Op, Port, RequestId, Slot};
 use block_machine::is_plain;
-use block_machine::laws::law_due_in_turn;
-use commands::laws::{law_batch_masks_grow, law_batches_grow};
+use block_machine::laws::law_issuing_due_in_turn_leaves_none_due;
+use commands::laws::{law_batch_mask_gains_task_slot_bit, law_stored_task_extends_batch};
 use commands::{Task, issue, issue_all, issue_flush, issue_trim, store_transfer};
 use hba_regs::with_bit;
 use host_boot::ProbeResult;
 use request_queue::laws::{
-    law_an_id_is_one_request, law_book_stays_well_formed, law_operations_change_the_unanswered,
+    law_an_id_is_one_request, law_book_stays_well_formed, law_unanswered_follow_book_operations,
 };
 use request_queue::{Book, DueIds};
 use server_history::laws::{
-    law_a_due_request_finds_a_free_slot, law_a_port_goes_on_after_its_errors,
-    law_due_requests_get_slots,
+    law_a_due_request_finds_a_free_slot, law_due_requests_get_slots,
+    law_handled_port_errors_keep_invariant,
 };
 
 /// Issues a task in a slot that it may go in: the slot's command then says the task.
@@ -77,12 +77,12 @@ impl ServedPort {
         ensures { IssuesWhatIsDue A.device A.access_count port self.old self.new adapter.old adapter.new
             book.old book.new }
     {
-        law_due_in_turn();
+        law_issuing_due_in_turn_leaves_none_due();
         law_book_stays_well_formed();
         if book.is_empty() {
             return;
         }
-        match book.due_id_of_sole_request(self.mode, port) {
+        match book.due_id_if_alone_in_book(self.mode, port) {
             Some(id) => self.issue_one(adapter, book, port, id),
             None => self.issue_listed(adapter, book, port),
         }
@@ -95,7 +95,7 @@ impl ServedPort {
         ensures { IssuesWhatIsDue A.device A.access_count port self.old self.new adapter.old adapter.new
             book.old book.new }
     {
-        law_due_in_turn();
+        law_issuing_due_in_turn_leaves_none_due();
         law_book_stays_well_formed();
         let mut due = DueIds::new();
         book.issuable(self.mode, port, &mut due);
@@ -122,11 +122,11 @@ impl ServedPort {
             book.old book.new }
     {
         law_an_id_is_one_request();
-        law_batch_masks_grow();
-        law_batches_grow();
-        law_due_in_turn();
+        law_batch_mask_gains_task_slot_bit();
+        law_stored_task_extends_batch();
+        law_issuing_due_in_turn_leaves_none_due();
         law_due_requests_get_slots();
-        law_operations_change_the_unanswered();
+        law_unanswered_follow_book_operations();
         law_book_stays_well_formed();
         let mut mask = 0;
         for place in 0..due.len() {
@@ -154,7 +154,7 @@ impl ServedPort {
         ensures { IssuesWhatIsDue A.device A.access_count port self.old self.new adapter.old adapter.new
             book.old book.new }
     {
-        law_a_port_goes_on_after_its_errors();
+        law_handled_port_errors_keep_invariant();
         if let ProbeResult::Ready(_) = self.probe_result {
             self.issue_due(adapter, book, port);
         }

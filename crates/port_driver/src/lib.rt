@@ -12,9 +12,9 @@
 //! `cancel_waiting_under_grant` answers what waits. It must not expect that a request is ever answered, nor that a port
 //! which is ready still has its disk. What may hold loans can't be dropped.
 //!
-//! `port` issues what is due, `answering` answers what is done, and `turn` has the turns. `recovery` handles an error,
-//! `probing` probes a port that isn't ready, and `dispositions` resolves requests, as `after_reset` does where the
-//! adapter was reset. `modes` tells how a port takes commands, and `kept` keeps loans of a dead one.
+//! `issuing` issues what is due, `answering` answers what is done, and `turn` has the turns. `recovery` handles an
+//! error, `probing` probes a port that isn't ready, and `dispositions` resolves requests, as `after_reset` does where
+//! the adapter was reset. `modes` tells how a port takes commands, and `quarantine` keeps loans of a dead one.
 #![tactic(auto)]
 
 mod after_reset;

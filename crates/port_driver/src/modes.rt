@@ -14,7 +14,7 @@ pub(crate) const PLAIN_MODE: QueueMode = QueueMode {
     usable_slots: 1,
 };
 
-/// How a port that was found so takes commands, by an adapter with so many slots a port, which queues or doesn't:
+/// How a port that was found so takes commands, by an adapter with 1 to 32 slots a port, which queues or doesn't:
 /// queued where adapter and disk both can, in as many slots as both have, 32 at most; else one at a time.
 pub fn probed_mode(slots: u8, queued: bool, found: &ProbeResult) -> QueueMode
     ensures mode { result ≡ mode_by_slot_count slots queued found.now }

@@ -5,7 +5,7 @@ ghost use Rattle.server_history.specs.{KeptLoans.{GivesBackLoans}, ServerState.{
 
 use ata_types::SLOTS;
 use dma_frames::{FrameTable, Loan};
-use server_history::laws::law_loans_end_in_turn;
+use server_history::laws::law_giving_back_loans_composes;
 use std::alloc::{AllocError, Global};
 use std::marker::Model;
 
@@ -16,18 +16,18 @@ pub struct Quarantine {
 }
 
 impl Model for Quarantine {
-    ghost use Rattle.std.specs.Prelude.{List, ◌≤◌, vec_capacity};
+    ghost use Rattle.std.specs.Prelude.{List, ◌≤◌, length, vec_capacity};
     ghost use Rattle.dma_frames.specs.Loan.{Lending};
 
     ghost Value = { List Lending };
 
     ghost view = { λ k. k.loans.items };
 
-    ghost invariant = { λ k. 32 ≤ vec_capacity k.loans };
+    ghost invariant = { λ k. (32 ≤ vec_capacity k.loans) × (length k.loans.items ≤ 32) };
 }
 
 impl Quarantine {
-    /// No loans, with room for 32. Nothing else takes memory.
+    /// No loans, with room for 32: `AllocError` where the allocator refuses it. Nothing else takes memory.
     pub fn new(alloc: Global) -> Result<Self, AllocError>
         ensures { IfOk result (λ kept. kept ≡ []) }
     {
@@ -50,7 +50,7 @@ impl Quarantine {
         ensures empty { self.new ≡ [] }
         ensures takes_loans_back { GivesBackLoans table.old table.new (Contains self.old) }
     {
-        law_loans_end_in_turn();
+        law_giving_back_loans_composes();
         while let Some(loan) = self.loans.pop() {
             table.give_back(loan);
         }

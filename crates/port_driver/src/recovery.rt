@@ -27,7 +27,9 @@ use identify::{DiskInfo, Wanted};
 use port_control::Stopped;
 use port_control::events::{PortError, PortEvent};
 use request_queue::{FailedRequest, Revalidation};
-use server_history::laws::{law_looks_preserve_invariant, law_port_errors_may_be_handled};
+use server_history::laws::{
+    law_looks_preserve_invariant, law_recover_preconditions_hold_after_look,
+};
 use slots::Slots;
 
 /// The trouble that a look tells, if it tells one. (That a request is hung no look tells.)
@@ -93,7 +95,7 @@ impl ServedPort {
             (A.access_count adapter.old) (A.access_count adapter.new) }
     {
         law_looks_preserve_invariant();
-        law_port_errors_may_be_handled();
+        law_recover_preconditions_hold_after_look();
         let used = self.slots.taken();
         let finished = done(adapter, port, used);
         answer_done(
@@ -104,7 +106,7 @@ impl ServedPort {
             replies,
         );
         let outstanding = self.slots.taken();
-        let queued = are_queued(&self.slots);
+        let queued = is_any_queued(&self.slots);
         let recovered = recover_or_stop(adapter, port, port_error, outstanding, queued);
         let failed = failed_request_in(&self.slots, &recovered.failed);
         (failed, recovered.next)
@@ -120,8 +122,8 @@ pub(crate) fn sort_replies_from(replies: &mut Replies, first: usize)
     replies.as_mut_slice()[first..].sort_unstable_by_key(|reply| reply.id.0);
 }
 
-/// Whether the commands of the used slots are queued, which all of them are, or none.
-pub(crate) fn are_queued(slots: &Slots) -> bool
+/// Whether the command of any used slot is queued: all of them are, or none.
+pub(crate) fn is_any_queued(slots: &Slots) -> bool
     requires all_queued_or_none { (slot : ℕ) (used : SlotUse) → use_at slots.now slot ≡ Some used
         → AreAllQueuedAs used.queued slots.now }
     requires places { length slots.now.slot_uses ≡ 32 }

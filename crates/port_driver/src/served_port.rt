@@ -74,8 +74,8 @@ impl ServedPort {
         }
     }
 
-    /// Replaces what it was found to be, by a boot or once its error was handled, and how it takes commands then. The
-    /// disk that it was last ready with is remembered, and all its slots are freed.
+    /// Replaces what it was found to be, by a boot or once its error was handled, and how it takes commands then, in 32
+    /// slots at most. The disk that it was last ready with is remembered, and all its slots are freed.
     pub fn replace_probe_result_and_free_slots(&mut self, found: ProbeResult, mode: QueueMode)
         requires { mode.usable_slots ≤ 32 }
         ensures { NotesProbeResult found mode self.old self.new }

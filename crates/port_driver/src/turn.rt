@@ -1,12 +1,11 @@
 // A port's turn in a service, or in a tick.
 ghost use Rattle.std.specs.Prelude.{ℕ, ◌≡◌, ◌⊎◌, ◌<◌, ◌≤◌, ◌+◌, ◌↔◌, IsTrue, List, length, true, false};
-ghost use Rattle.adapter.specs.AccessBounds.{MakesAtMost};
+ghost use Rattle.adapter.specs.{AccessBounds.{MakesAtMost}, OneCommand.{SlotHasNoCommand}};
 ghost use Rattle.ata_types.specs.declared.PortState.TheVariants.{Ready};
-ghost use Rattle.port_driver.specs.{Costs.{ISSUE_DUE_ACCESSES, TURN_ACCESSES, port_error_accesses}, PortAndShared.{IsSettledWith, TakesTurn, ServesReadyOrProbesUnready, RestartsOverdueOrRests, with_served_port}, Recovery.{HandlesPortErrorOf, IsInError}};
+ghost use Rattle.port_driver.specs.{Costs.{ISSUE_DUE_ACCESSES, TURN_ACCESSES, port_error_accesses}, PortAndShared.{HasNoneDueAndParts, TakesTurn, ServesReadyOrProbesUnready, RestartsOverdueOrRests, with_served_port}, Recovery.{HandlesPortErrorOf, IsInError}};
 ghost use Rattle.hba_regs.specs.Bits.{bit};
-ghost use Rattle.refinement.specs.Slots.{IsOver};
 ghost use Rattle.request_queue.specs.BookEntries.{BookEntry, HasOverdueOn};
-ghost use Rattle.server_history.specs.{IssuingAndAnswering.{AnswersDoneAndIssues}, ServerState.{ServerState, SettledInvariant, state_of}, Turns.{ProbesUnready, ServicesPort, is_ready}};
+ghost use Rattle.server_history.specs.{IssuingAndAnswering.{AnswersDoneAndIssues}, ServerState.{ServerState, InvariantWithNoneDue, state_of}, Turns.{ProbesUnready, ServicesPort, is_ready}};
 
 use crate::answering::answer_done;
 use crate::dispositions::DispositionInputs;
@@ -19,8 +18,9 @@ use commands::done;
 use host_boot::ProbeResult;
 use port_control::events::{PortError, take_event};
 use server_history::laws::{
-    law_a_port_goes_on_after_its_errors, law_a_port_is_served, law_a_timed_out_port_is_restarted,
-    law_an_unready_port_is_probed, law_answer_and_issue_settle, law_looks_preserve_invariant,
+    law_answer_and_issue_leave_none_due, law_handled_port_errors_keep_invariant,
+    law_handling_look_result_is_a_service_turn, law_handling_timeout_is_a_restart_turn,
+    law_looks_preserve_invariant, law_probe_of_unready_port_is_a_service_turn,
 };
 
 impl ServedPort {
@@ -35,17 +35,17 @@ impl ServedPort {
         replies: &mut Replies,
     )
         requires ready { state_of self.old.probe_result ≡ Ready }
-        requires settled { (s : ServerState) × IsSettledWith s (A.device adapter.old) shared.old port self.old }
+        requires none_due { (s : ServerState) × HasNoneDueAndParts s (A.device adapter.old) shared.old port self.old }
         requires over { (slot : ℕ) → slot < 32 → bit finished slot ≡ true
-            → IsOver ((A.device adapter.old).port port.0) slot }
+            → SlotHasNoCommand ((A.device adapter.old).port port.0) slot }
         requires room { length replies.old.items + length shared.old.book ≤ MOST_UNANSWERED_OF_ALL_CLIENTS }
-        ensures finishes { (s : ServerState) → IsSettledWith s (A.device adapter.old) shared.old port self.old
+        ensures finishes { (s : ServerState) → HasNoneDueAndParts s (A.device adapter.old) shared.old port self.old
             → TakesTurn (AnswersDoneAndIssues port finished) replies.old.items replies.new.items s
             (with_served_port s (A.device adapter.new) shared.new port self.new) }
         ensures room { length replies.new.items + length shared.new.book ≤ MOST_UNANSWERED_OF_ALL_CLIENTS }
         ensures cost { MakesAtMost ISSUE_DUE_ACCESSES (A.access_count adapter.old) (A.access_count adapter.new) }
     {
-        law_answer_and_issue_settle();
+        law_answer_and_issue_leave_none_due();
         answer_done(
             &mut shared.book,
             &mut shared.table,
@@ -80,9 +80,9 @@ impl ServedPort {
         ensures cost { MakesAtMost (port_error_accesses port_error)
             (A.access_count adapter.old) (A.access_count adapter.new) }
     {
-        law_a_port_goes_on_after_its_errors();
-        law_a_port_is_served();
-        law_a_timed_out_port_is_restarted();
+        law_handled_port_errors_keep_invariant();
+        law_handling_look_result_is_a_service_turn();
+        law_handling_timeout_is_a_restart_turn();
         let ProbeResult::Ready(was) = self.probe_result else {
             unreachable!()
         };
@@ -116,16 +116,16 @@ impl ServedPort {
         replies: &mut Replies,
     )
         requires ready { state_of self.old.probe_result ≡ Ready }
-        requires settled { (s : ServerState) × IsSettledWith s (A.device adapter.old) shared.old port self.old }
+        requires none_due { (s : ServerState) × HasNoneDueAndParts s (A.device adapter.old) shared.old port self.old }
         requires room { length replies.old.items + length shared.old.book ≤ MOST_UNANSWERED_OF_ALL_CLIENTS }
-        ensures serves { (s : ServerState) → IsSettledWith s (A.device adapter.old) shared.old port self.old
+        ensures serves { (s : ServerState) → HasNoneDueAndParts s (A.device adapter.old) shared.old port self.old
             → TakesTurn (ServicesPort port) replies.old.items replies.new.items s
             (with_served_port s (A.device adapter.new) shared.new port self.new) }
         ensures room { length replies.new.items + length shared.new.book ≤ MOST_UNANSWERED_OF_ALL_CLIENTS }
         ensures cost { MakesAtMost TURN_ACCESSES (A.access_count adapter.old) (A.access_count adapter.new) }
     {
         law_looks_preserve_invariant();
-        law_a_port_is_served();
+        law_handling_look_result_is_a_service_turn();
         let look = take_event(adapter, port);
         if let Some(port_error) = error_of(look) {
             return self.handle_error(adapter, shared, port, port_error, replies);
@@ -145,16 +145,16 @@ impl ServedPort {
     /// A dead port isn't looked at: no access is made.
     fn probe<A: Adapter>(&mut self, adapter: &mut A, port: Port, state: PortState)
         requires unready { self.old.probe_result ≡ ProbeResult.Unready state }
-        requires settled { (s : ServerState) × (shared : Shared)
-            × IsSettledWith s (A.device adapter.old) shared port self.old }
+        requires none_due { (s : ServerState) × (shared : Shared)
+            × HasNoneDueAndParts s (A.device adapter.old) shared port self.old }
         ensures probes { (s : ServerState) (shared : Shared)
-            → IsSettledWith s (A.device adapter.old) shared port self.old
+            → HasNoneDueAndParts s (A.device adapter.old) shared port self.old
             → ProbesUnready port s (with_served_port s (A.device adapter.new) shared port self.new)
-            × SettledInvariant (with_served_port s (A.device adapter.new) shared port self.new) }
+            × InvariantWithNoneDue (with_served_port s (A.device adapter.new) shared port self.new) }
         ensures dead { state ≡ PortState.Dead → adapter.new ≡ adapter.old }
         ensures cost { MakesAtMost TURN_ACCESSES (A.access_count adapter.old) (A.access_count adapter.new) }
     {
-        law_an_unready_port_is_probed();
+        law_probe_of_unready_port_is_a_service_turn();
         if !needs_probe(adapter, port, state) {
             return;
         }
@@ -171,9 +171,9 @@ impl ServedPort {
         port: Port,
         replies: &mut Replies,
     )
-        requires settled { (s : ServerState) × IsSettledWith s (A.device adapter.old) shared.old port self.old }
+        requires none_due { (s : ServerState) × HasNoneDueAndParts s (A.device adapter.old) shared.old port self.old }
         requires room { length replies.old.items + length shared.old.book ≤ MOST_UNANSWERED_OF_ALL_CLIENTS }
-        ensures turn { (s : ServerState) → IsSettledWith s (A.device adapter.old) shared.old port self.old
+        ensures turn { (s : ServerState) → HasNoneDueAndParts s (A.device adapter.old) shared.old port self.old
             → TakesTurn (ServesReadyOrProbesUnready self.old.probe_result port) replies.old.items replies.new.items s
             (with_served_port s (A.device adapter.new) shared.new port self.new) }
         ensures no_access_if_unserved_or_dead { (self.old.probe_result ≡ ProbeResult.Unserved)
@@ -189,7 +189,9 @@ impl ServedPort {
     }
 
     /// The port's turn in a tick: a ready one of which a request is overdue is restarted. It isn't looked at, and its
-    /// error is a timeout. Another rests, and no access is made of it.
+    /// error is a timeout. Another rests, and no access is made of it. `is_overdue` has to be what `Book::has_overdue`
+    /// tells of the port once `Book::tick` has made requests older: an issued request is three ticks old (this
+    /// project's own limit).
     pub fn tick<A: Adapter>(
         &mut self,
         adapter: &mut A,
@@ -198,10 +200,10 @@ impl ServedPort {
         is_overdue: bool,
         replies: &mut Replies,
     )
-        requires settled { (s : ServerState) × IsSettledWith s (A.device adapter.old) shared.old port self.old }
+        requires none_due { (s : ServerState) × HasNoneDueAndParts s (A.device adapter.old) shared.old port self.old }
         requires room { length replies.old.items + length shared.old.book ≤ MOST_UNANSWERED_OF_ALL_CLIENTS }
         ensures turn { (s : ServerState) (book : List BookEntry) → IsTrue is_overdue ↔ HasOverdueOn port book
-            → IsSettledWith s (A.device adapter.old) shared.old port self.old
+            → HasNoneDueAndParts s (A.device adapter.old) shared.old port self.old
             → TakesTurn (RestartsOverdueOrRests self.old.probe_result book port) replies.old.items replies.new.items s
             (with_served_port s (A.device adapter.new) shared.new port self.new) }
         ensures no_access_if_unready_or_not_overdue { (is_ready self.old.probe_result ≡ false) ⊎ (is_overdue ≡ false)
@@ -211,7 +213,7 @@ impl ServedPort {
             (A.access_count adapter.old) (A.access_count adapter.new) }
     {
         law_looks_preserve_invariant();
-        law_a_timed_out_port_is_restarted();
+        law_handling_timeout_is_a_restart_turn();
         let ProbeResult::Ready(_) = self.probe_result else {
             return;
         };

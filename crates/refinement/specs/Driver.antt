@@ -57,7 +57,7 @@ AllFree uses port = (slot : ℕ) → uses port slot ≡ Free
 
 -- A write of PxCMD sets ST only where it is set already or no slot is in use, and FRE only where the received FIS area
 -- is in its place.
-pub record SetsStOnlyIfStOrFreeAndFreOnlyInPlace (uses : SlotStates) (port v : ℕ) (p : DevicePort) : Type 0 where
+pub record StAndFreBitsMayBeWritten (uses : SlotStates) (port v : ℕ) (p : DevicePort) : Type 0 where
   pub start : bit v 0 ≡ true → (p.st ≡ true) ⊎ AllFree uses port
   pub receive : bit v 4 ≡ true → (port < 4) × (p.bases.fb ≡ received_fis_address port)
 
@@ -71,7 +71,7 @@ pub record KeepsOtherCmdBits (st fre : Bool) (was v : ℕ) : Type 0 where
 -- PxSACT and PxCI have no bit.
 abbrev pub KeepsSlotStates : SlotStates → Reg → ℕ → Device → Type 0
 KeepsSlotStates uses (Px port Clb) v d = (v ≡ command_list_address port.0) ⊎ AllFree uses port.0
-KeepsSlotStates uses (Px port Cmd) v d = SetsStOnlyIfStOrFreeAndFreOnlyInPlace uses port.0 v (d.port port.0)
+KeepsSlotStates uses (Px port Cmd) v d = StAndFreBitsMayBeWritten uses port.0 v (d.port port.0)
 KeepsSlotStates uses (Px port Sact) v d = (slot : ℕ) → bit v slot ≡ false
 KeepsSlotStates uses (Px port Ci) v d = (slot : ℕ) → bit v slot ≡ false
 KeepsSlotStates uses r v d = Unit {0}

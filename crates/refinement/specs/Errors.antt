@@ -41,17 +41,17 @@ pub record ErrorBitsStayClear (old new : DevicePort) : Type 0 where
   pub pxis_bits_27_to_30_stay_clear : (place : ℕ) → 27 ≤ place → place ≤ 30 → old.is place ≡ false
       → new.is place ≡ false
 
--- a fatal error of the port
-abbrev pub IsFatalErrorOf : ℕ → Entry → Type 0
-IsFatalErrorOf port (entry.Fatal at) = at.0 ≡ port
-IsFatalErrorOf port _ = ⊥
+-- the entry tells a fatal error of the port
+abbrev pub IsFatalEntryOf : ℕ → Entry → Type 0
+IsFatalEntryOf port (entry.Fatal at) = at.0 ≡ port
+IsFatalEntryOf port _ = ⊥
 
 -- The tape gained no fatal error of the port. It counts on the tape: so what holds of a fragment of accesses holds of
 -- each of its parts.
 pub record NoFatalErrors (port : ℕ) (old new : Device) : Type 0 where
   pub new_entries : List Entry
   pub tape_is : new.tape ≡ old.tape ++ new_entries
-  pub no_such_entry : All (λ e. IsFatalErrorOf port e → ⊥) new_entries
+  pub no_such_entry : All (λ e. IsFatalEntryOf port e → ⊥) new_entries
 
 -- the tape gained no fault of the port
 pub record NoFaults (port : ℕ) (old new : Device) : Type 0 where

@@ -19,7 +19,8 @@ use Rattle.block_machine.specs.State.{Machine}
 use Rattle.refinement.specs.Acts.{Act, ActsReachWith, newest_first_steps_of_acts}
 use Rattle.refinement.specs.Driver.{DriverState, DriverRelation}
 use Rattle.refinement.specs.PreservedParts.{DoesNotWrite}
-use Rattle.refinement.specs.Slots.{SlotStates, IsMove, IsOver}
+use Rattle.adapter.specs.OneCommand.{SlotHasNoCommand}
+use Rattle.refinement.specs.Slots.{SlotStates, IsMove}
 
 -- what the driver knows: the use of each slot, the requests that it took from their slots, and the device
 abbrev pub driver_state_of : SlotStates → (ℕ → List RequestId) → Device → DriverState
@@ -87,7 +88,7 @@ GainsNoMove port o old new = (gained : List Entry) × (new.tape ≡ old.tape ++ 
 
 -- Acts in which the device alone makes steps. Where no access of the kind writes PxCI or PxSACT of a port, its slots
 -- are used after each act as before the first.
-pub record AllByDeviceAndPortsKeepSlotsIfKindWritesNoCiSact (May : Access
+pub record AreByDeviceAndKeepUnwrittenSlots (May : Access
     → Type 0) (uses : SlotStates) (acts : List Act) : Type 0 where
   pub all_steps_are_by_device : AllByDevice (newest_first_steps_of_acts acts)
   pub unwritten_ports_keep_slots : (port : Port) → NoneWrites May (Px port Ci) → NoneWrites May (Px port Sact)
@@ -100,7 +101,7 @@ pub record IsSimulatedChangingUses (May : Access → Type 0) (Fits : SlotStates 
   pub is_driven : IsDrivenBy May old new
   pub acts_reach : ActsReachWith is_driven.accesses (λ s m. Fits s.slot_states)
       (λ s. record s { slot_states = next s.slot_states })
-      (λ s m. AllByDeviceAndPortsKeepSlotsIfKindWritesNoCiSact May s.slot_states) old new
+      (λ s m. AreByDeviceAndKeepUnwrittenSlots May s.slot_states) old new
 
 -- the same, where each slot goes on as it is used
 abbrev pub IsSimulated : (Access → Type 0) → (SlotStates → Type 0) → Device → Device → Type 0
@@ -127,7 +128,7 @@ TapeGrows old new = (gained : List Entry) × (new.tape ≡ old.tape ++ gained)
 
 -- no slot of the port has a command, neither issued nor taken
 abbrev pub NoCommandIsIssuedOrTaken : DevicePort → Type 0
-NoCommandIsIssuedOrTaken p = (slot : ℕ) → IsOver p slot
+NoCommandIsIssuedOrTaken p = (slot : ℕ) → SlotHasNoCommand p slot
 
 -- A port that the driver doesn't touch: what the device's steps leave of it, and all that readings noted of it.
 pub record OnlyDeviceChangesPort (old new : DevicePort) : Type 0 where

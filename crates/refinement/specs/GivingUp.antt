@@ -8,7 +8,8 @@ use Rattle.block_machine.specs.State.{Pending, Machine}
 use Rattle.block_machine.specs.Steps.{MayStillMove}
 use Rattle.refinement.specs.Acts.{DriverSlots}
 use Rattle.refinement.specs.Driver.{DriverState}
-use Rattle.refinement.specs.Slots.{SlotState, Free, Armed, Own, Serves, SlotStates, IsOver}
+use Rattle.adapter.specs.OneCommand.{SlotHasNoCommand}
+use Rattle.refinement.specs.Slots.{SlotState, Free, Armed, Own, Serves, SlotStates}
 
 -- the request that a slot serves, if any, before these
 abbrev pub prepend_slot_request : SlotState → List RequestId → List RequestId
@@ -22,9 +23,9 @@ abbrev pub ids_in_slots : SlotStates → ℕ → ℕ → List RequestId
 ids_in_slots uses port zero = []
 ids_in_slots uses port (suc n) = prepend_slot_request (uses port n) (ids_in_slots uses port n)
 
--- Each slot of the port is over, and none is armed while ST is one.
+-- No slot of the port has a command, and none is armed while ST is one.
 abbrev pub AllOverAndNoArmedStateIfSt : SlotStates → DevicePort → ℕ → Type 0
-AllOverAndNoArmedStateIfSt uses p port = (slot : ℕ) → IsOver p slot × (uses port slot ≡ Armed → p.st ≡ false)
+AllOverAndNoArmedStateIfSt uses p port = (slot : ℕ) → SlotHasNoCommand p slot × (uses port slot ≡ Armed → p.st ≡ false)
 
 -- every slot of the port was given up, and the requests that they served aren't decided yet
 abbrev pub with_all_parked : DriverState → ℕ → DriverState

@@ -5,11 +5,11 @@ use Rattle.adapter.specs.Device.{FetchedCommand, DevicePort}
 use Rattle.adapter.specs.Device.Halt.{HaltedQueued, LogOnly}
 
 -- READ LOG EXT isn't awaited; and where a queued command has halted the port, a queued one is taken.
-pub record NotLogOnlyAndQueuedHaltHasTakenCommand (p : DevicePort) : Type 0 where
+pub record HaltFitsTakenCommands (p : DevicePort) : Type 0 where
   pub is_not_log_only : p.halt ≢ LogOnly
   pub queued_is_taken : p.halt ≡ HaltedQueued → (slot : ℕ) × (t : FetchedCommand) × (p.taken slot ≡ Some t)
       × (is_queued t.meaning.operation ≡ true)
 
 -- so it is while ST is one
-abbrev pub NotLogOnlyAndQueuedHaltHasTakenCommandIfSt : DevicePort → Type 0
-NotLogOnlyAndQueuedHaltHasTakenCommandIfSt p = p.st ≡ true → NotLogOnlyAndQueuedHaltHasTakenCommand p
+abbrev pub HaltFitsTakenCommandsIfSt : DevicePort → Type 0
+HaltFitsTakenCommandsIfSt p = p.st ≡ true → HaltFitsTakenCommands p

@@ -19,7 +19,8 @@ use Rattle.refinement.specs.GivingUp.{slots_with_all_parked}
 use Rattle.refinement.specs.PreservedParts.{NoPlugEvents}
 use Rattle.refinement.specs.PreservedParts.{DoesNotWrite}
 use Rattle.refinement.specs.HaltRecovery.{WorksOnUnqueuedCommandsOnly}
-use Rattle.refinement.specs.Slots.{Free, IsOver, Own, SlotStates, client_operation_of, set_slot_state}
+use Rattle.adapter.specs.OneCommand.{SlotHasNoCommand}
+use Rattle.refinement.specs.Slots.{Free, Own, SlotStates, client_operation_of, set_slot_state}
 
 -- Fragments of accesses of these kinds, which may be made with the uses of slots that fit them.
 pub record FragmentLaws (Kind : Type 0) (may : Kind → Access → Type 0)
@@ -59,7 +60,7 @@ pub record FragmentLaws (Kind : Type 0) (may : Kind → Access → Type 0)
       new
   pub own_command_is_over : (kind : Kind) (port : Port) (o : Operation) (v : ℕ) (old new : Device)
       → may kind (Writing (Px port Ci) v)
-      → ((uses : SlotStates) → fits kind uses → uses port.0 0 ≡ Free) → IsOver (new.port port.0) 0
+      → ((uses : SlotStates) → fits kind uses → uses port.0 0 ≡ Free) → SlotHasNoCommand (new.port port.0) 0
       → (a : IsSimulatedChangingUses (may kind) (fits kind) (λ uses. set_slot_state uses port.0 0 (Own o)) old new)
       → IsSimulatedAlong (λ made. made ≡ a.is_driven.accesses) (may kind) (fits kind) old new
   pub some_machine_agrees : (kind : Kind) (next : SlotStates → SlotStates) (uses : SlotStates) (old new : Device)

@@ -19,7 +19,8 @@ use Rattle.adapter.specs.declared.tape.Fault as tape_fault
 use Rattle.block_machine.specs.State.{Pending, Machine}
 use Rattle.block_machine.specs.Steps.{MayStillMove, AllTouched, NoneKept}
 use Rattle.refinement.specs.Simulation.{SimulatesSteps}
-use Rattle.refinement.specs.Slots.{Serves, SlotStates, IsOver, PageCameSinceAndStandsInScratch}
+use Rattle.adapter.specs.OneCommand.{SlotHasNoCommand}
+use Rattle.refinement.specs.Slots.{Serves, SlotStates, PageCameSinceAndStandsInScratch}
 
 -- ---- an engine that has stopped
 
@@ -53,7 +54,7 @@ pub record EndedOnPort (m : Machine) (port : Port) (id : RequestId) : Type 0 whe
 
 -- the slot's command is over, and its bit of SACT is clear
 pub record IsSlotClear (p : DevicePort) (slot : ℕ) : Type 0 where
-  pub over : IsOver p slot
+  pub over : SlotHasNoCommand p slot
   pub sact_is_clear : p.sact slot ≡ false
 
 -- What CI tells of a command of the driver's own: the machine follows, and the command is over and has brought its page
@@ -76,7 +77,7 @@ DeviceOwnsNoByteOfFrame frame d = (port slot at : ℕ) → FRAME_BYTES * frame.0
 
 -- the commands of the request of this id are over, in each slot
 abbrev pub CommandsAreOver : SlotStates → Device → RequestId → Type 0
-CommandsAreOver uses d id = (port slot : ℕ) → uses port slot ≡ Serves id → IsOver (d.port port) slot
+CommandsAreOver uses d id = (port slot : ℕ) → uses port slot ≡ Serves id → SlotHasNoCommand (d.port port) slot
 
 -- ---- a port on which nothing goes wrong
 

@@ -9,6 +9,7 @@ use Rattle.adapter.specs.Commands.{Meaning, is_queued, is_ranged}
 use Rattle.adapter.specs.Device.{FetchedCommand, DevicePort}
 use Rattle.adapter.specs.Memory.{bytes_at, changed}
 use Rattle.adapter.specs.Decoding.{DecodesTo}
+use Rattle.adapter.specs.OneCommand.{SlotHasNoCommand}
 use Rattle.adapter.specs.Trim.{trim_sectors, consecutive}
 use Rattle.adapter.specs.declared.command.Operation.{Operation}
 use Rattle.adapter.specs.declared.command.Operation.TheVariants as operation
@@ -175,11 +176,6 @@ pub record ServesRequest (m : Machine) (memory : ℕ → ℕ) (p : DevicePort) (
 
 -- ---- the driver's own commands
 
--- no command is issued or taken
-pub record IsOver (p : DevicePort) (slot : ℕ) : Type 0 where
-  pub is_not_issued : p.ci slot ≡ false
-  pub is_not_taken : p.taken slot ≡ None
-
 -- the entry is a move of the port's, by a command of this operation
 abbrev pub IsMove : ℕ → Operation → Entry → Type 0
 IsMove port o (entry.Move move) = (move.port.0 ≡ port) × (move.operation ≡ o)
@@ -220,7 +216,7 @@ pub record OwnIsTaken (memory : ℕ → ℕ) (tape : List Entry) (p : DevicePort
 -- over: where ST is one, its page came since ST was set, and stands in the scratch frame
 pub record OwnIsOverWithPageIfSt (memory : ℕ → ℕ) (tape : List Entry) (p : DevicePort) (port slot : ℕ)
     (c : Meaning) : Type 0 where
-  pub over : IsOver p slot
+  pub over : SlotHasNoCommand p slot
   pub page_stands_in_scratch_if_st : (p.st ≡ false)
       ⊎ PageCameSinceAndStandsInScratch memory tape port c.operation p.notes.st_set_at
 

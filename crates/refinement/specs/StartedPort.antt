@@ -21,9 +21,9 @@ pub record IsUpForStart (p : DevicePort) : Type 0 where
   pub start_ends_halt : halt_after_start p.halt ≡ NotHalted
 
 -- The engine stands; and if PxSSTS.DET is 3, the link is up.
-pub record IsStoppedAndUpForStartIfShown (p : DevicePort) : Type 0 where
+pub record IsStoppedAndUpForStartIfDet3 (p : DevicePort) : Type 0 where
   pub cr_is_clear : p.cr ≡ false
-  pub is_up_if_shown : p.ssts_det ≡ 3 → IsUpForStart p
+  pub is_up_if_det_3 : p.ssts_det ≡ 3 → IsUpForStart p
 
 -- The port runs, its disk is there with its link up and no other link due, and no error has stopped it since. Its bits
 -- may tell of what was before.

@@ -8,5 +8,5 @@ pub record IsVacant (p : DevicePort) : Type 0 where
   pub det_is_not_3 : p.ssts_det ≢ 3
 
 -- where PxSSTS.DET is 3, the first FIS of the disk has come
-abbrev pub HasFirstFisIfShown : DevicePort → Type 0
-HasFirstFisIfShown p = p.ssts_det ≡ 3 → p.fresh ≡ true
+abbrev pub HasFirstFisIfDet3 : DevicePort → Type 0
+HasFirstFisIfDet3 p = p.ssts_det ≡ 3 → p.fresh ≡ true

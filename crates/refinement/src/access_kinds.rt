@@ -5,9 +5,9 @@
 ghost use Rattle.std.specs.Prelude.{ℕ, ⊤, None, false, ◌≡◌, ◌⊎◌, ◌++◌, [], ◌∷◌, List, length};
 ghost use Rattle.ata_types.specs.declared.Port.{Port};
 ghost use Rattle.hba_regs.specs.{declared.reg.PortReg.{PortReg}, declared.reg.PortReg.TheVariants.{Sact, Ci}, declared.reg.Reg.{Reg}, declared.reg.Reg.TheVariants.{Px}};
-ghost use Rattle.adapter.specs.{Access.{Access, Reads, Writes, Loads, Stores}, Access.Access.{Reading, Writing, Loading, Storing}, Device.{Device}, Rules.{MayWrite, IsStable}, declared.command.Operation.{Operation}};
+ghost use Rattle.adapter.specs.{Access.{Access, Reads, Writes, Loads, Stores}, Access.Access.{Reading, Writing, Loading, Storing}, Device.{Device}, OneCommand.{SlotHasNoCommand}, Rules.{MayWrite, IsStable}, declared.command.Operation.{Operation}};
 ghost use Rattle.refinement.specs.{Acts.{ActsByDeviceAlone, AccessesAreSimulatedByActs}, Fragments.{SomeMachineAgrees, ReadsPortOrWrites, IsSimulated, IsSimulatedChangingUses, SparesOtherPorts, IsSimulatedAlong, IsSimulatedAlongChangingUses, NoneWrites, GainsNoMove}, Driver.{AllFree, KeepsSlotStates, IsOwnCommandPreparedInSlot0, IsInMemoryOfFreeSlot}, PortFacts.{IsEngineStopped}, GivingUp.{slots_with_all_parked}, Laws.{FragmentLaws}, PreservedParts.{DoesNotWrite}};
-ghost use Rattle.refinement.specs.{HaltRecovery.{WorksOnUnqueuedCommandsOnly}, Slots.{SlotStates, Free, Own, IsOver, client_operation_of, set_slot_state}};
+ghost use Rattle.refinement.specs.{HaltRecovery.{WorksOnUnqueuedCommandsOnly}, Slots.{SlotStates, Free, Own, client_operation_of, set_slot_state}};
 
 use super::prerequisites::law_prerequisites;
 use adapter::laws::law_accesses_compose;
@@ -62,9 +62,10 @@ pub fn law_port_register_accesses_are_of_port<R: RegisterSets>()
         → ReadsPortOrWrites (R.has set) port access → ReadsPortOrWrites (R.has more) port access }
 {}
 
-/// What is a fragment that is followed: no access is; and one of its kind is, where it is a reading, a load, a write
-/// that is permitted and leaves each slot to its use, or the issue of a command of the driver's own.
-pub fn law_accesses_are_followed<K: AccessKindsWithSlotUses>()
+/// What is a fragment that is simulated: no access is; and one of its kind is, where it is a reading, a load, a write
+/// that is permitted and leaves each slot to its use, or, while no reset is pending, the issue of a command of the
+/// driver's own.
+pub fn law_slot_keeping_accesses_are_simulated<K: AccessKindsWithSlotUses>()
     ensures no_access { (kind : K.Kind) (d : Device)
         → IsSimulatedAlong (λ made. made ≡ []) (K.may kind) (K.fits kind) d d }
     ensures reads { (kind : K.Kind) (r : Reg) (v : ℕ) (old new : Device) → K.may kind (Reading r v) → Reads r v old new
@@ -83,8 +84,8 @@ pub fn law_accesses_are_followed<K: AccessKindsWithSlotUses>()
         → IsSimulatedChangingUses (K.may kind) (K.fits kind) (λ uses. set_slot_state uses port.0 0 (Own o)) old new }
 {}
 
-/// So is a store of bytes that the driver may store.
-pub fn law_stores_are_followed<K: AccessKindsWithSlotUses>()
+/// So is a store into the header or table of a free slot, or into the scratch frame of a port whose slot 0 is free.
+pub fn law_free_slot_stores_are_simulated<K: AccessKindsWithSlotUses>()
     ensures { (kind : K.Kind) (at : ℕ) (bytes : List ℕ) (old new : Device) → K.may kind (Storing at bytes)
         → ((uses : SlotStates) → K.fits kind uses → IsInMemoryOfFreeSlot uses at (length bytes))
         → Stores at bytes old new
@@ -110,16 +111,16 @@ pub fn law_fragments_compose<K: AccessKindsWithSlotUses>()
         → IsSimulatedAlongChangingUses (λ made. made ≡ a.is_driven.accesses) (K.may more) (K.fits more) next old new }
     ensures own_command_is_over { (kind : K.Kind) (port : Port) (o : Operation) (v : ℕ) (old new : Device)
         → K.may kind (Writing (Px port Ci) v) → ((uses : SlotStates) → K.fits kind uses → uses port.0 0 ≡ Free)
-        → IsOver (new.port port.0) 0
+        → SlotHasNoCommand (new.port port.0) 0
         → (a : IsSimulatedChangingUses (K.may kind) (K.fits kind) (λ uses. set_slot_state uses port.0 0 (Own o)) old
         new)
         → IsSimulatedAlong (λ made. made ≡ a.is_driven.accesses) (K.may kind) (K.fits kind) old new }
 {}
 
-/// What a fragment that is followed gives: some machine goes on agreeing, with the uses that it leads to. And a port of
-/// which it writes neither PxCI nor PxSACT is sent no page by a command that isn't in its slot 0. One that works on
+/// What a fragment that is simulated gives: some machine goes on agreeing, with the uses that it leads to. And a port
+/// of which it writes neither PxCI nor PxSACT is sent no page by a command that isn't in its slot 0. One that works on
 /// plain commands alone goes on so.
-pub fn law_followed_fragments_agree<K: AccessKindsWithSlotUses>()
+pub fn law_simulated_fragments_keep_agreement<K: AccessKindsWithSlotUses>()
     ensures agreed { (kind : K.Kind) (next : SlotStates → SlotStates) (uses : SlotStates) (old new : Device)
         → K.fits kind uses
         → IsSimulatedChangingUses (K.may kind) (K.fits kind) next old new → SomeMachineAgrees uses old
@@ -141,10 +142,10 @@ pub fn law_followed_fragments_agree<K: AccessKindsWithSlotUses>()
     law_prerequisites();
 }
 
-/// A fragment that is followed is a part of a call, in which the device alone makes steps. And where a port has halted
-/// after it, the driver may give up all slots of the port, and go on with another fragment, of any kind that a port
-/// without a used slot allows: the two are one part, too.
-pub fn law_fragments_are_parts<K: AccessKindsWithSlotUses>()
+/// A fragment that is simulated is a part of a call, in which the device alone makes steps. And where a port's engine
+/// has stopped after it, the driver may give up all slots of the port, and go on with another fragment, of any kind
+/// that a port without a used slot allows: the two are one part, too.
+pub fn law_simulated_fragments_are_call_parts<K: AccessKindsWithSlotUses>()
     ensures is_a_part { (kind : K.Kind) (next : SlotStates → SlotStates) (old new : Device)
         → (a : IsSimulatedChangingUses (K.may kind) (K.fits kind) next old new)
         → AccessesAreSimulatedByActs a.is_driven.accesses (λ s m. K.fits kind s.slot_states)
@@ -168,9 +169,9 @@ pub fn law_fragments_are_parts<K: AccessKindsWithSlotUses>()
 pub fn law_fragment_prerequisites<K: AccessKindsWithSlotUses>()
     ensures { FragmentLaws K.Kind K.may K.fits }
 {
-    law_accesses_are_followed::<K>();
-    law_stores_are_followed::<K>();
+    law_slot_keeping_accesses_are_simulated::<K>();
+    law_free_slot_stores_are_simulated::<K>();
     law_fragments_compose::<K>();
-    law_followed_fragments_agree::<K>();
-    law_fragments_are_parts::<K>();
+    law_simulated_fragments_keep_agreement::<K>();
+    law_simulated_fragments_are_call_parts::<K>();
 }

@@ -4,7 +4,7 @@ ghost use Rattle.std.specs.Prelude.{ℕ, true, false, ◌≡◌, ◌≢◌, ◌�
 ghost use Rattle.ata_types.specs.declared.Port.{Port};
 ghost use Rattle.hba_regs.specs.{Bits.{bit}, declared.reg.Reg.TheVariants.{Ghc, Px}, declared.reg.PortReg.TheVariants.{Is, Sctl, Ssts}};
 ghost use Rattle.adapter.specs.{Access.{Reads, Writes, Access, Does}, Device.{DevicePort, Device}, Idle.{IsIdle}, Steps.{Steps}};
-ghost use Rattle.refinement.specs.{Errors.{NoDiskComes, NoFaults}, PreservedParts.{NoPlugEvents, HasDet3IfDiskPresent}, Vacant.{IsVacant, HasFirstFisIfShown}};
+ghost use Rattle.refinement.specs.{Errors.{NoDiskComes, NoFaults}, PreservedParts.{NoPlugEvents, HasDet3IfDiskPresent}, Vacant.{IsVacant, HasFirstFisIfDet3}};
 
 use super::prerequisites::law_prerequisites;
 
@@ -22,15 +22,15 @@ pub fn law_vacancy_stays_where_no_disk_comes()
     ensures vacant_access { (port : Port) (access : Access) (old new : Device) → NoDiskComes port.0 old new
         → Does access old new → IsVacant (old.port port.0) → IsVacant (new.port port.0) }
     ensures fresh_steps { (port : ℕ) (old new : Device) → NoDiskComes port old new → Steps old new
-        → HasFirstFisIfShown (old.port port) → HasFirstFisIfShown (new.port port) }
+        → HasFirstFisIfDet3 (old.port port) → HasFirstFisIfDet3 (new.port port) }
     ensures fresh_access { (port : Port) (access : Access) (old new : Device) → NoDiskComes port.0 old new
-        → Does access old new → HasFirstFisIfShown (old.port port.0) → HasFirstFisIfShown (new.port port.0) }
+        → Does access old new → HasFirstFisIfDet3 (old.port port.0) → HasFirstFisIfDet3 (new.port port.0) }
     ensures vacant_reset { (v : ℕ) (old new : Device) → old.hr ≡ true → Reads Ghc v old new → bit v 0 ≡ false
         → (port : ℕ) → NoDiskComes port old new → (old.port port).present ≡ false → IsVacant (new.port port) }
     ensures fresh_reset { (v : ℕ) (old new : Device) → old.hr ≡ true → Reads Ghc v old new → bit v 0 ≡ false
-        → (port : ℕ) → NoDiskComes port old new → HasFirstFisIfShown (new.port port) }
+        → (port : ℕ) → NoDiskComes port old new → HasFirstFisIfDet3 (new.port port) }
     ensures fresh_comreset { (port : Port) (v : ℕ) (old new : Device) → v % 16 ≡ 1 → Writes (Px port Sctl) v old new
-        → HasFirstFisIfShown (new.port port.0) }
+        → HasFirstFisIfDet3 (new.port port.0) }
     ensures det_3_shows_disk_if_in { (port : Port) (v : ℕ) (old new : Device) → Reads (Px port Ssts) v old new
         → v % 16 ≡ 3
         → HasDet3IfDiskPresent (new.port port.0) }
@@ -45,10 +45,11 @@ pub fn law_hr_read_clear_leaves_adapter_idle()
     law_prerequisites();
 }
 
-/// What a reading of PxIS or PxSSTS tells of a port with no link due. Each bit of 27 to 30 that is set shows, PRCS
-/// shows N and PCS X. Where PxIS shows PRCS or PCS, or PxSSTS no device, N or X was set or no device showed before, or
-/// a disk has gone or come. And where it shows TFES, it was set before, or the tape tells of a fault.
-pub fn law_looks_tell_trouble()
+/// What a reading of PxIS or PxSSTS tells of a port while no reset is pending. Each bit of 27 to 30 that is set shows,
+/// PRCS shows N and PCS X. Where PxIS shows PRCS or PCS, or PxSSTS no device, and no link was due, N or X was set or no
+/// device showed before, or a disk has gone or come. And where PxIS shows TFES, it was set before, or the tape tells of
+/// a fault.
+pub fn law_pxis_and_det_readings_tell_trouble()
     ensures pxis_shows_set_bits { (port : Port) (v place : ℕ) (old new : Device) → old.hr ≡ false
         → Reads (Px port Is) v old new
         → 27 ≤ place → place ≤ 30 → (old.port port.0).is place ≡ true → bit v place ≡ true }

@@ -3,12 +3,13 @@
 ghost use Rattle.std.specs.Prelude.{ℕ, false, ◌≡◌, ◌≢◌, ◌++◌, List, Contains, length, None};
 ghost use Rattle.ata_types.specs.declared.Port.{Port};
 ghost use Rattle.hba_regs.specs.{Bits.{bit}, declared.reg.PortReg.{PortReg}, declared.reg.PortReg.TheVariants.{Cmd, Is, Sctl, Sact, Ci}, declared.reg.Reg.TheVariants.{Ghc, Px}};
-ghost use Rattle.adapter.specs.{Access.{Access, Does, Reads, Writes, Loads, Stores}, Device.{DevicePort, Device}, Idle.{IsIdle, DisksAreKnownIfTelling}, Rules.{IsOn, MayWrite, IsStable}, Steps.{Steps}, declared.command.Operation.{Operation}, declared.tape.Entry.{Entry}};
+ghost use Rattle.adapter.specs.{Access.{Access, Does, Reads, Writes, Loads, Stores}, Device.{DevicePort, Device}, Idle.{IsIdle, DisksAreKnownIfTelling}, OneCommand.{SlotHasNoCommand}, Rules.{IsOn, MayWrite, IsStable}, Steps.{Steps}, declared.command.Operation.{Operation}, declared.tape.Entry.{Entry}};
 ghost use Rattle.refinement.specs.{Fragments.{AnyAccess, TapeGrows, AnySlotStates, SameSlotStates, SomeMachineAgrees, IsDrivenBy, ReadsPortOrWrites, IsSimulated, IsSimulatedChangingUses, SparesOtherPorts, OnlyDeviceChangesPort, NoCommandIsIssuedOrTaken, GainsNoMove}, Driver.{KeepsSlotStates, IsInMemoryOfFreeSlot}, PortFacts.{RecordsFaultsIfSt}, Laws.{TapeLaws}, PreservedParts.{SameAdapter, DoesNotWrite}};
-ghost use Rattle.refinement.specs.Slots.{SlotStates, Free, IsOver, Own, client_operation_of, set_slot_state};
+ghost use Rattle.refinement.specs.Slots.{SlotStates, Free, Own, client_operation_of, set_slot_state};
 
 use super::port_facts::{
-    law_link_errors_rise_by_disks, law_tape_absence_composes, law_undisturbed_has_no_error_or_plug,
+    law_serr_nx_rise_only_by_plugs_if_no_link_due, law_tape_absence_composes,
+    law_undisturbed_has_no_error_or_plug,
 };
 use super::prerequisites::law_prerequisites;
 
@@ -45,16 +46,17 @@ pub fn law_other_ports_are_untouched()
     law_prerequisites();
 }
 
-/// Over accesses that are followed some machine goes on agreeing with the same uses. So it does once a command of the
+/// Over accesses that are simulated some machine goes on agreeing with the same uses. So it does once a command of the
 /// driver's own that is over has left its slot. And with an idle device, whose disks tell their sectors if the adapter
 /// is one that tells, some machine agrees where no slot is used.
-pub fn law_agreeing_goes_on()
+pub fn law_some_machine_agrees_after_simulation()
     ensures followed { (uses : SlotStates) (old new : Device)
         → IsSimulated AnyAccess (SameSlotStates uses) old new
         → SomeMachineAgrees uses old → SomeMachineAgrees uses new }
     ensures own_command_over_frees_slot { (uses : SlotStates) (port : ℕ) (o : Operation) (d : Device)
         → uses port 0 ≡ Free
-        → IsOver (d.port port) 0 → SomeMachineAgrees (set_slot_state uses port 0 (Own o)) d → SomeMachineAgrees uses d }
+        → SlotHasNoCommand (d.port port) 0 → SomeMachineAgrees (set_slot_state uses port 0 (Own o)) d
+        → SomeMachineAgrees uses d }
     ensures idle_device_agrees { (d : Device) → IsIdle d → DisksAreKnownIfTelling d
         → SomeMachineAgrees (λ port slot. Free) d }
 {}
@@ -73,12 +75,12 @@ pub fn law_tape_prerequisites()
     law_tapes_grow();
     law_tape_absence_composes();
     law_undisturbed_has_no_error_or_plug();
-    law_link_errors_rise_by_disks();
+    law_serr_nx_rise_only_by_plugs_if_no_link_due();
 }
 
 /// A write of a register of the port but PxSCTL and PxIS leaves all that is noted of the port: but when ST was set,
 /// where PxCMD is written with ST one.
-pub fn law_writes_keep_notes_but_sctl_is_and_start()
+pub fn law_px_writes_but_sctl_pxis_st_keep_notes()
     ensures others { (port : Port) (r : PortReg) (v : ℕ) (old new : Device) → r ≢ Sctl → r ≢ Is
         → (r ≡ Cmd → bit v 0 ≡ false) → Writes (Px port r) v old new
         → (new.port port.0).notes ≡ (old.port port.0).notes }

@@ -2,15 +2,15 @@
 // calls these functions.
 ghost use Rattle.std.specs.Prelude.{ℕ, true, false, ◌⊎◌, ◌≡◌, ◌≢◌, ◌<◌, ◌++◌, List, Contains};
 ghost use Rattle.ata_types.specs.declared.request.RequestId.{RequestId};
-ghost use Rattle.adapter.specs.{Device.{Device}, Rules.{InUse}, declared.tape.Entry.{Entry}};
+ghost use Rattle.adapter.specs.{Device.{Device}, OneCommand.{SlotHasNoCommand}, Rules.{InUse}, declared.tape.Entry.{Entry}};
 ghost use Rattle.block_machine.specs.{State.{Pending, Machine}, Steps.{MayStillMove}};
-ghost use Rattle.refinement.specs.{Relation.{StateRelation, ServeDistinctRequests}, Driver.{DriverState, DriverRelation, AllFree, HasNoSlot}, PortFacts.{IsEngineStopped, ShowsFault}, Slots.{SlotStates, Free, Serves, IsOver}, GivingUp.{AllOverAndNoArmedStateIfSt, ids_in_slots, with_all_parked, IsOutstanding}};
+ghost use Rattle.refinement.specs.{Relation.{StateRelation, ServeDistinctRequests}, Driver.{DriverState, DriverRelation, AllFree, HasNoSlot}, PortFacts.{IsEngineStopped, ShowsFault}, Slots.{SlotStates, Free, Serves}, GivingUp.{AllOverAndNoArmedStateIfSt, ids_in_slots, with_all_parked, IsOutstanding}};
 
-/// Where all slots of a port are over, and none is armed on a running one, as on a port that has halted, the driver
-/// gives them all up at once: what it knows stays known. None of them is used then, other ports' are as they were, and
-/// exactly the requests that they served are parked beside those that were. No slot serves one of these then, nor one
-/// that none served before.
-pub fn law_slots_are_given_up()
+/// Where all slots of a port are over, and none is armed on a running one, as on a port whose engine has stopped, the
+/// driver gives them all up at once: what it knows stays known. None of them is used then, other ports' are as they
+/// were, and exactly the requests that they served are parked beside those that were. No slot serves one of these then,
+/// nor one that none served before.
+pub fn law_giving_up_stopped_port_slots_agrees()
     ensures over { (k : DriverState) (m : Machine) (port : ℕ) → DriverRelation m k
         → AllOverAndNoArmedStateIfSt k.slot_states (k.device.port port) port
         → DriverRelation m (with_all_parked k port) }
@@ -45,7 +45,7 @@ pub fn law_given_up_requests_are_parked()
 
 /// Where the machine agrees with the device, a slot in use is outstanding: so is the slot of a fault that the task file
 /// shows. Where every other slot is free, it is the one that isn't.
-pub fn law_fault_is_outstanding()
+pub fn law_slot_in_use_or_faulted_is_outstanding()
     ensures used { (uses : SlotStates) (m : Machine) (d : Device) (port slot : ℕ) → StateRelation uses m d
         → InUse (d.port port) slot
         → IsOutstanding uses m (d.port port) port slot }
@@ -66,7 +66,7 @@ pub fn law_over_slot_is_ended_or_dropped()
         → (d.port port).st ≡ false → ((d.port port).ci slot ≡ false) × ((d.port port).sact slot ≡ false) }
     ensures over_is_ended_or_dropped { (uses : SlotStates) (m : Machine) (d : Device) (port slot : ℕ) (id : RequestId)
         → StateRelation uses m d
-        → uses port slot ≡ Serves id → IsOver (d.port port) slot
+        → uses port slot ≡ Serves id → SlotHasNoCommand (d.port port) slot
         → (e : Pending) × MayStillMove m e × (e.request.id ≡ id)
         × ((e.ended ≡ true) ⊎ (((d.port port).st ≡ false) × (e.ended ≡ false))) }
 {}

@@ -2,13 +2,13 @@
 ghost use Rattle.std.specs.{List.{list_any}, Prelude.{◌≡◌, ◌+◌, ◌*◌, ◌/◌, ◌%◌, ◌<◌, ◌≤◌, ◌∷◌, ◌++◌, ℕ, Bool, true, false, [], List, length, map, Contains, ◌≢◌, ◌⊎◌, None, Some, All}};
 ghost use Rattle.ata_types.specs.{declared.Port.{Port}, declared.memory.TheConstants.{FRAME_BYTES, LIST_BYTES, RECEIVED_FIS_BYTES}, declared.request.ClientId.{ClientId}, declared.request.Frame.{Frame}, declared.request.Outcome.{Outcome}, declared.request.RequestId.{RequestId}};
 ghost use Rattle.hba_regs.specs.{Bits.{bit}, declared.reg.PortReg.TheVariants.{Clb, Clbu, Fb, Fbu, Is, Cmd, Ci, Sact}, declared.reg.Reg.TheVariants.{Px}, declared.reg.Reg.{Reg}};
-ghost use Rattle.adapter.specs.{Access.{Reads, Writes, Loads, Stores, device_after_write, Access, Does}, Commands.{Meaning}, Device.{DevicePort, Device}, FirstRead.{first_read_device}, Idle.{IsIdle}, Memory.{patched}, Rules.{IsInMemoryNotOwnedByDevice, IsOn, HasPort, MayStart, MaySetFre, MayStopReceiving, MayWrite, IsStable}, Steps.{Steps}, declared.command.Operation.{Operation}, declared.tape.Entry.{Entry}};
+ghost use Rattle.adapter.specs.{Access.{Reads, Writes, Loads, Stores, device_after_write, Access, Does}, Commands.{Meaning}, Device.{DevicePort, Device}, FirstRead.{first_read_device}, Idle.{IsIdle}, Memory.{patched}, OneCommand.{SlotHasNoCommand}, Rules.{IsInMemoryNotOwnedByDevice, IsOn, HasPort, MayStart, MaySetFre, MayStopReceiving, MayWrite, IsStable}, Steps.{Steps}, declared.command.Operation.{Operation}, declared.tape.Entry.{Entry}};
 ghost use Rattle.block_machine.specs.{DueRequests.{is_plain, issued_count}, Events.{IsByDevice, AllByDevice, AllEnabled, changes_disk}, Histories.{IsReachable, IsSimulatedBySteps}, Expected.{IsInitial, after, AllStepsFaithful}, Refusals.{MayAccessFrame}, State.{Accepted, Pending, Machine, unanswered}};
 ghost use Rattle.block_machine.specs.{Steps.{Step, Accept, Issue, Age, WaitAgain, Answer, Release, Store, Load, IsEnabled, NoneKept, aged_pending, after_step, is_kept_at_answer, MayStillMove, Revoke}, declared.due.QueueMode.{QueueMode}};
 ghost use Rattle.refinement.specs.{Relation.{StateRelation, IsDiskOf, SameClientFrames, SameSectors, HaveSlotsUnlessParked, ServeDistinctRequests, port_at}, Replug.{replug_candidates}, Acts.{IsIssueStep}};
 ghost use Rattle.refinement.specs.{Driver.{IsInMemoryOfFreeSlot, KeepsSlotStates, KeepsTablesAndScratchUnlessOwn, DriverState, DriverRelation, TapeBacksSteps, IsBackedByDeviceAlone, DriverAdvances, IsOwnCommandPreparedInSlot0, EndsInOneStep, HasNoSlot, OthersStayParked, ParkedStayUnlessKept, with_slot_freed_and_request_parked, with_slot_freed, idle_driver_state, KeepsOtherCmdBits, MissesTableAndHeaderButPrdbc, MissesScratch}, Simulation.{SimulatesSteps}, PreservedParts.{IsPlugEvent}};
 ghost use Rattle.refinement.specs.{MemoryLayout.{command_list_address, scratch_frame_address, received_fis_address}, TrimWitness.{TrimAgrees}, ReadWitness.{PreparedReadWitness, FirstReadWitness, PortDeadReadAgreesServedAndParked, ParkedReadWitness, EndedReadAgrees, OwnCommandAgrees}, TwoReadsWitness.{TwoReadsWitness, TwoStoredReads}};
-ghost use Rattle.refinement.specs.{Slots.{SlotState, Free, Armed, Own, Serves, SlotStates, set_slot_state, serving_count, SlotDecodesTo, HasBlockIfTrim, IsOver, client_operation_of, IsMove}, SparedBook.{IsAsFarOrFurther, AllAsFarOrFurther, KeepsLoansAndPendingsOnlyAdvance, IsNotStepOfPendingRequest}, Tape.{OneAtMost, TellsDeviceSteps}};
+ghost use Rattle.refinement.specs.{Slots.{SlotState, Free, Armed, Own, Serves, SlotStates, set_slot_state, serving_count, SlotDecodesTo, HasBlockIfTrim, client_operation_of, IsMove}, SparedBook.{IsAsFarOrFurther, AllAsFarOrFurther, KeepsLoansAndPendingsOnlyAdvance, IsNotStepOfPendingRequest}, Tape.{OneAtMost, TellsDeviceSteps}};
 ghost use Rattle.hba_regs.specs.declared.reg.Reg.TheVariants as registers;
 
 use super::prerequisites::law_prerequisites;
@@ -16,7 +16,7 @@ use block_machine::laws::law_step_lists_compose;
 
 /// Whatever the device does by itself, the machine follows: what the tape gains are steps of the machine that may come,
 /// and the two agree again. So it is while a reset of the adapter is pending, too, and after one that is stuck.
-pub fn law_device_is_followed()
+pub fn law_device_steps_are_simulated()
     ensures { (uses : SlotStates) (m : Machine) (old new : Device) → IsReachable m → StateRelation uses m old
         → Steps old new
         → SimulatesSteps uses m old new }
@@ -29,13 +29,13 @@ pub fn law_device_steps_are_a_call_part()
 {}
 
 /// Over any reading of a register the two go on agreeing: the machine makes the device's steps and no others.
-pub fn law_reading_is_followed()
+pub fn law_register_reading_is_simulated()
     ensures { (k : DriverState) (r : Reg) (v : ℕ) (new : Device) → Reads r v k.device new
         → IsSimulatedBySteps DriverRelation k (record k { device = new }) (IsBackedByDeviceAlone k.device new) }
 {}
 
-/// Once ST is cleared, an armed slot is free again. A free slot has no bit of PxSACT.
-pub fn law_slots_are_disarmed()
+/// Once ST is clear, an armed slot may be counted free again. A free slot has no bit of PxSACT.
+pub fn law_armed_slot_may_be_freed_once_st_clear()
     ensures disarmed { (k : DriverState) (m : Machine) → DriverRelation m k → (port slot : ℕ)
         → (k.device.port port).st ≡ false
         → k.slot_states port slot ≡ Armed → DriverRelation m (with_slot_freed k port slot) }
@@ -46,7 +46,7 @@ pub fn law_slots_are_disarmed()
 {}
 
 /// A client's store into its frame is the machine's.
-pub fn law_client_store_is_followed()
+pub fn law_client_store_is_machine_store()
     ensures { (k : DriverState) (m : Machine) (client : ClientId) (frame : Frame) (offset : ℕ) (bytes : List ℕ)
         (new : Device)
         → IsReachable m → DriverRelation m k → IsEnabled m (Store client frame offset bytes)
@@ -57,7 +57,7 @@ pub fn law_client_store_is_followed()
 }
 
 /// A client's load from its frame is the machine's: it is told the bytes that the machine's frame holds.
-pub fn law_client_load_is_followed()
+pub fn law_client_load_is_machine_load()
     ensures { (k : DriverState) (m : Machine) (client : ClientId) (frame : Frame) (offset : ℕ) (bytes : List ℕ)
         (new : Device)
         → IsReachable m → DriverRelation m k → MayAccessFrame m.owner m.lent client frame offset (length bytes)
@@ -139,7 +139,8 @@ pub fn law_revoking_agrees()
 
 /// A slot whose command is over is given up, and its request is decided on later.
 pub fn law_parking_agrees()
-    ensures { (k : DriverState) (m : Machine) → DriverRelation m k → (port slot : ℕ) → IsOver (k.device.port port) slot
+    ensures { (k : DriverState) (m : Machine) → DriverRelation m k → (port slot : ℕ)
+        → SlotHasNoCommand (k.device.port port) slot
         → (id : RequestId) → k.slot_states port slot ≡ Serves id
         → DriverRelation m (with_slot_freed_and_request_parked k port slot id) }
 {}
@@ -159,7 +160,7 @@ pub fn law_setting_changes_one_slot()
 
 /// Once the slot of a request is parked, no slot serves it, and it is among the parked; nor does a slot then serve a
 /// request that none served before.
-pub fn law_parking_frees()
+pub fn law_parking_request_frees_its_slot()
     ensures frees { (k : DriverState) (port slot : ℕ) (id : RequestId) → ServeDistinctRequests k.slot_states
         → k.slot_states port slot ≡ Serves id
         → HasNoSlot (with_slot_freed_and_request_parked k port slot id).slot_states id }
@@ -213,7 +214,7 @@ pub fn law_waiting_has_no_slot()
 /// Where no kept request is on the port, each slot that serves a request serves one of those that are issued there, and
 /// no two the same. So no more serve than are issued; and just as many, where each that is issued has a slot, and these
 /// are below n.
-pub fn law_slots_are_counted()
+pub fn law_no_more_slots_serve_than_requests_issued()
     ensures no_more_serve { (uses : SlotStates) (m : Machine) (d : Device) → IsReachable m → StateRelation uses m d
         → (port : Port)
         → NoneKept m port → (n : ℕ) → serving_count uses port.0 n ≤ issued_count (map unanswered m.book) port }
@@ -271,11 +272,11 @@ pub fn law_pages_come_only_for_own_commands()
         (gained : List Entry)
         → IsReachable m → StateRelation uses m old → Steps old new → new.tape ≡ old.tape ++ gained
         → client_operation_of o ≡ None
-        → (uses port 0 ≡ Own o → IsOver (old.port port) 0) → All (λ e. IsMove port o e → ⊥) gained }
+        → (uses port 0 ≡ Own o → SlotHasNoCommand (old.port port) 0) → All (λ e. IsMove port o e → ⊥) gained }
     ensures access { (uses : SlotStates) (m : Machine) (access : Access) (old new : Device) (port : ℕ) (o : Operation)
         (gained : List Entry) → IsReachable m → StateRelation uses m old → Does access old new
         → new.tape ≡ old.tape ++ gained
-        → client_operation_of o ≡ None → (uses port 0 ≡ Own o → IsOver (old.port port) 0)
+        → client_operation_of o ≡ None → (uses port 0 ≡ Own o → SlotHasNoCommand (old.port port) 0)
         → All (λ e. IsMove port o e → ⊥) gained }
     ensures one_at_most { (uses : SlotStates) (m : Machine) (old new : Device) (port : ℕ) (o : Operation)
         (gained : List Entry)
@@ -407,7 +408,7 @@ pub fn law_clear_sact_bits_stay()
 pub fn law_device_owns_no_scratch_page_once_slot_0_over()
     ensures { (uses : SlotStates) (m : Machine) (d : Device) → IsReachable m → StateRelation uses m d → (port : ℕ)
         → port < 4
-        → scratch_frame_address port + 512 ≤ d.memory_size → IsOver (d.port port) 0
+        → scratch_frame_address port + 512 ≤ d.memory_size → SlotHasNoCommand (d.port port) 0
         → IsStable (IsInMemoryNotOwnedByDevice (scratch_frame_address port) 512) d }
 {
     law_prerequisites();
@@ -443,7 +444,7 @@ pub fn law_writes_but_ci_stay_permitted()
 
 /// Where a port's engine stands its command list may be put into its place; and where it receives no FISes, the
 /// received FIS area may.
-pub fn law_placing_areas_is_permitted()
+pub fn law_clb_fb_writes_are_permitted_if_stopped()
     ensures list { (d : Device) (port : Port) → IsOn d → HasPort d port.0 → (d.port port.0).st ≡ false
         → (d.port port.0).cr ≡ false → command_list_address port.0 + LIST_BYTES ≤ d.memory_size
         → IsStable (MayWrite (Px port Clb) (command_list_address port.0)) d }
@@ -459,7 +460,7 @@ pub fn law_placing_areas_is_permitted()
 /// PxCMD may be written as it was last read, but for ST and FRE: with ST set where the port may start; with ST clear
 /// and FRE as it is; with FRE set and ST as it is where the port may receive; and with FRE and ST clear where its
 /// engine stands.
-pub fn law_writing_cmd_is_permitted()
+pub fn law_pxcmd_st_and_fre_writes_are_permitted()
     ensures start { (port : Port) (was v : ℕ) (d : Device) → IsOn d → HasPort d port.0 → (d.port port.0).notes.last_cmd
         ≡ was
         → MayStart (d.port port.0) → KeepsOtherCmdBits true true was v → IsStable (MayWrite (Px port Cmd) v) d }
@@ -495,7 +496,7 @@ pub fn law_own_issuing_is_permitted()
 
 /// A device that is taken over idle agrees with a machine that has nothing in it, where both have the same disks and
 /// client frames, and the machine has put aside what these disks may come back with.
-pub fn law_an_idle_device_agrees()
+pub fn law_idle_device_agrees_with_initial_machine()
     ensures { (m : Machine) (d : Device) → IsInitial m → IsIdle d → ((port : ℕ) → IsDiskOf m (d.port port) port)
         → SameClientFrames m d.memory
         → (d.telling ≡ true → (port : ℕ) → SameSectors m (d.port port).disk port)
@@ -506,7 +507,7 @@ pub fn law_an_idle_device_agrees()
 
 /// There is an adapter whose first read is prepared, and a machine that is reached and agrees with it: the write of
 /// PxCI is permitted, and issues the read.
-pub fn law_a_prepared_read_agrees()
+pub fn law_prepared_read_example_agrees()
     ensures { PreparedReadWitness }
 {
     law_prerequisites();
@@ -514,7 +515,7 @@ pub fn law_a_prepared_read_agrees()
 
 /// There is an adapter with its first read issued, and a machine that is reached and agrees with what its driver knows:
 /// so none of these laws is empty.
-pub fn law_a_first_read_agrees()
+pub fn law_first_read_example_agrees()
     ensures { FirstReadWitness }
 {
     law_prerequisites();
@@ -522,7 +523,7 @@ pub fn law_a_first_read_agrees()
 
 /// There is one whose driver has stopped the port of that read, and has taken it from its slot once the engine stood:
 /// the read may wait again.
-pub fn law_a_parked_read_agrees()
+pub fn law_parked_read_example_agrees()
     ensures { ParkedReadWitness }
 {
     law_prerequisites();
@@ -530,14 +531,14 @@ pub fn law_a_parked_read_agrees()
 
 /// There is one that keeps the read: it was answered PortDead, with its frames lent, while the slot serves it still;
 /// and once the driver has taken it from there, the frames may be given back.
-pub fn law_a_port_dead_read_agrees()
+pub fn law_port_dead_read_example_agrees()
     ensures { PortDeadReadAgreesServedAndParked }
 {
     law_prerequisites();
 }
 
 /// There is one whose device has done the read: its command has ended, and the request is unanswered still.
-pub fn law_an_ended_read_agrees()
+pub fn law_ended_read_example_agrees()
     ensures { EndedReadAgrees }
 {
     law_prerequisites();
@@ -545,20 +546,21 @@ pub fn law_an_ended_read_agrees()
 
 /// There is an adapter with two queued reads, into frames that are apart: both are issued, each by a write that is
 /// permitted, and the device has taken the one while the other waits. A machine agrees with its driver.
-pub fn law_two_queued_reads_agree()
+pub fn law_two_queued_reads_example_agrees()
     ensures { TwoReadsWitness }
 {
     law_prerequisites();
 }
 
-/// And so there is one before, on which both reads are stored and may be issued.
-pub fn law_two_reads_are_stored()
+/// And there is one as it was before that: both reads are stored and may be issued, one after the other, and a machine
+/// agrees with its driver, who uses no slot.
+pub fn law_two_stored_reads_example_agrees()
     ensures { TwoStoredReads }
 {}
 
 /// There is an adapter with a trim, which is issued by a write that is permitted, taken, and done to its end; and a
 /// machine agrees with it all the way.
-pub fn law_a_trim_agrees()
+pub fn law_trim_example_agrees()
     ensures { TrimAgrees }
 {
     law_prerequisites();
@@ -566,7 +568,7 @@ pub fn law_a_trim_agrees()
 
 /// There is an adapter with a command of the driver's own, IDENTIFY DEVICE: prepared, issued by a write that is
 /// permitted, and over once its page has come; and a machine agrees with it all the way.
-pub fn law_an_own_command_agrees()
+pub fn law_own_command_example_agrees()
     ensures { OwnCommandAgrees }
 {
     law_prerequisites();

@@ -3,12 +3,12 @@
 ghost use Rattle.std.specs.Prelude.{ℕ, true, false, ◌≡◌, ◌≢◌, ◌≤◌, ◌+◌, ◌*◌, ◌/◌, ◌%◌, ◌++◌, List, length, drop, Some, None, Contains, All};
 ghost use Rattle.ata_types.specs.{declared.Port.{Port}, declared.memory.TheConstants.{DRIVER_FRAMES, FRAME_BYTES}, declared.request.Frame.{Frame}, declared.request.RequestId.{RequestId}};
 ghost use Rattle.hba_regs.specs.{Bits.{bit}, declared.reg.Reg.{Reg}, declared.reg.Reg.TheVariants.{Ghc, Px}, declared.reg.PortReg.TheVariants.{Is, Ie, Cmd, Tfd, Sig, Ssts, Sctl, Serr, Ci, Sact, Clb, Clbu, Fb, Fbu}, declared.reg.PortReg.{PortReg}};
-ghost use Rattle.adapter.specs.{Access.{Reads, Writes, Loads, Stores, Access, Does, DoesAll, PortShows, notes_after_reading}, Access.Access.{Writing}, Device.{Device, DevicePort}, Device.Halt.{HaltedPlain}, FirstRead.{first_read_device}, Idle.{IsIdle, IsIdlePort}, Rules.{IsInMemoryNotOwnedByDevice, IsOn, MayWrite, IsStable}, Steps.{Steps}, declared.command.Operation.{Operation}, declared.tape.Entry.{Entry}};
+ghost use Rattle.adapter.specs.{Access.{Reads, Writes, Loads, Stores, Access, Does, DoesAll, PortShows, notes_after_reading}, Access.Access.{Writing}, Device.{Device, DevicePort}, Device.Halt.{HaltedPlain}, FirstRead.{first_read_device}, Idle.{IsIdle, IsIdlePort}, OneCommand.{SlotHasNoCommand}, Rules.{IsInMemoryNotOwnedByDevice, IsOn, MayWrite, IsStable}, Steps.{Steps}, declared.command.Operation.{Operation}, declared.tape.Entry.{Entry}};
 ghost use Rattle.block_machine.specs.{Events.{AllByDevice}, Histories.{IsReachable, IsSimulatedBySteps}, Expected.{after}, State.{Pending, Machine}, Steps.{Step, Release, MayStillMove, NoneKept, after_step}};
 ghost use Rattle.refinement.specs.{Relation.{StateRelation}, AwaitedPage.{AwaitsOrHasPage}, BootWitness.{BootWitness}, Fragments.{TapeGrows}, Driver.{DriverState, DriverRelation, IsOwnCommandPreparedInSlot0}, Errors.{KeepsSetBitsOfPxisAndSerrNX, NoDiskComes, LinkErrorsRiseByDisks, ErrorBitsStayClear, NoFatalErrors, NoFaults, ErrorBitsRiseByErrors, IsLeftByReset, ShowsResetStateUntilSerrX, IsCompositional, IsEngineWorkOrErrorOf}};
 ghost use Rattle.refinement.specs.PortFacts.{IsEngineStopped, IsQuiescentPort, FollowsAndHasPageSinceStSet, DeviceOwnsNoByteOfFrame, CommandsAreOver, RunsWell, Undisturbed, ShowsNoTrouble, PxisValueTellsNoTrouble, ClearsNoTrouble, IsHaltedPlainOrQueued, ShowsFault, RecordsFaults, RecordsFaultsIfSt, WhileLinkAwaitedCrIsClearAndDrqSet, CrAndTfesAreClear, IsCleanToStart, StartsCleanAndWritesSctlStopped, EndedOnPort, IsSlotClear};
-ghost use Rattle.refinement.specs.{PreservedParts.{DoesNotWrite, SameAdapter, ControlsChangeOnlyByTheirWrites, NoPlugEvents, KeepsDisk, LinkIsSameOrComesUp, HasDet3IfDiskPresent}, PortNotes.{ReadingNotesChangeByReadOrSctlWriteOnly, NotesLast}, MemoryLayout.{scratch_frame_address}, Slots.{SlotStates, Free, Own, Serves, IsOver, PageCameSinceAndStandsInScratch, set_slot_state}, SparedBook.{IsNotStepOfPendingRequest}, Staying.{StaysOverReadings, StaysOverSteps, StaysOverPermittedWritesWithCmdValue}};
-ghost use Rattle.refinement.specs.StartedPort.{IsUpForStart, IsStoppedAndUpForStartIfShown, IsStarted, WritesCmdOnlyWithStClear, WritesCmdOnlyWithStSet};
+ghost use Rattle.refinement.specs.{PreservedParts.{DoesNotWrite, SameAdapter, ControlsChangeOnlyByTheirWrites, NoPlugEvents, KeepsDisk, LinkIsSameOrComesUp, HasDet3IfDiskPresent}, PortNotes.{NotesChangeOnlyByReadOrSctlWrite, NotesLast}, MemoryLayout.{scratch_frame_address}, Slots.{SlotStates, Free, Own, Serves, PageCameSinceAndStandsInScratch, set_slot_state}, SparedBook.{IsNotStepOfPendingRequest}, Staying.{StaysOverReadings, StaysOverSteps, StaysOverPermittedWritesWithCmdValue}};
+ghost use Rattle.refinement.specs.StartedPort.{IsUpForStart, IsStoppedAndUpForStartIfDet3, IsStarted, WritesCmdOnlyWithStClear, WritesCmdOnlyWithStSet};
 
 use super::prerequisites::law_prerequisites;
 use adapter::laws::law_step_lists_keep_what_steps_keep;
@@ -24,8 +24,8 @@ pub fn law_stopped_engine_stays()
     law_prerequisites();
 }
 
-/// ST is 0 and CR is read 0: the port has halted.
-pub fn law_stopped_engine_is_read()
+/// ST is 0 and CR is read 0: the port's engine has stopped, and no command is issued or taken.
+pub fn law_cr_read_clear_means_engine_stopped()
     ensures { (uses : SlotStates) (m : Machine) (port : Port) (v : ℕ) (old new : Device) → IsReachable m
         → StateRelation uses m old
         → (old.port port.0).st ≡ false → Reads (Px port Cmd) v old new → bit v 15 ≡ false
@@ -39,7 +39,7 @@ pub fn law_stopped_engine_is_read()
 /// of PxIS is set, and what comes since sets N or X. Its engines stand on, whatever the device does, over readings,
 /// and over each write that may be made and sets neither its ST nor its FRE. A port is after a reset exactly if it is
 /// idle.
-pub fn law_reset_is_found()
+pub fn law_hr_read_clear_means_ports_are_quiescent()
     ensures begins { (v : ℕ) (old new : Device) → bit v 0 ≡ true → Writes Ghc v old new → new.hr ≡ true }
     ensures hr_and_ae_are_read { (v : ℕ) (old new : Device) → Reads Ghc v old new → (new.hr ≡ bit v 0)
         × (new.ae ≡ bit v 31) }
@@ -61,7 +61,7 @@ pub fn law_reset_is_found()
 
 /// A request of the book that has ended is issued still. One that may move and has ended leaves its slot clear, also
 /// where ST is 0. And on a running port a slot that serves a request and whose bits are both clear has ended it.
-pub fn law_ended_is_clear()
+pub fn law_slot_is_clear_iff_ended_while_st_set()
     ensures issued { (m : Machine) (e : Pending) → IsReachable m → Contains m.book e → e.ended ≡ true
         → e.issued ≡ true }
     ensures clears { (uses : SlotStates) (m : Machine) (d : Device) (port : Port) (slot : ℕ) (e : Pending)
@@ -78,12 +78,12 @@ pub fn law_ended_is_clear()
 /// that doesn't write the slot's bit of PxCI or PxSACT. And a request that was ended stays so over the device's own
 /// steps, and over each step that isn't of it, so that several that were found ended are answered one after another;
 /// Release alone gives back what is kept.
-pub fn law_over_stays()
-    ensures over { (port slot : ℕ) (old new : Device) → Steps old new → IsOver (old.port port) slot
-        → IsOver (new.port port) slot }
+pub fn law_clear_slots_and_ended_requests_stay_so()
+    ensures over { (port slot : ℕ) (old new : Device) → Steps old new → SlotHasNoCommand (old.port port) slot
+        → SlotHasNoCommand (new.port port) slot }
     ensures over_access { (port : Port) (slot : ℕ) (access : Access) (old new : Device)
         → ((v : ℕ) → access ≡ Writing (Px port Ci) v → bit v slot ≡ false) → Does access old new
-        → IsOver (old.port port.0) slot → IsOver (new.port port.0) slot }
+        → SlotHasNoCommand (old.port port.0) slot → SlotHasNoCommand (new.port port.0) slot }
     ensures clear { (port slot : ℕ) (old new : Device) → Steps old new → IsSlotClear (old.port port) slot
         → IsSlotClear (new.port port) slot }
     ensures clear_access { (port : Port) (slot : ℕ) (access : Access) (old new : Device)
@@ -101,11 +101,11 @@ pub fn law_over_stays()
     law_prerequisites();
 }
 
-/// While the driver waits for the page of a command of its own, over as many readings as it takes. The write of PxCI
-/// begins it; and it goes on, whatever the device does, and over each access that doesn't clear ST and leaves no reset
-/// pending. Once PxCI is read with bit 0 clear, the page that stands in the scratch frame was brought since that
-/// write; and a load of the frame then gives its bytes.
-pub fn law_page_is_awaited()
+/// The driver waits for the page of a command of its own, over as many readings as it takes. The write of PxCI begins
+/// it; and it goes on, whatever the device does, and over each access that doesn't clear ST and leaves no reset
+/// pending. Once PxCI is read with bit 0 clear, the page that stands in the scratch frame was brought since that write;
+/// and a load of the frame then gives its bytes.
+pub fn law_ci_read_clear_means_page_has_come()
     ensures issued { (uses : SlotStates) (m : Machine) (port : Port) (o : Operation) (v : ℕ) (old new : Device)
         → IsReachable m
         → StateRelation uses m old → old.hr ≡ false → IsOwnCommandPreparedInSlot0 uses old port.0 o v
@@ -127,7 +127,8 @@ pub fn law_page_is_awaited()
         × PageCameSinceAndStandsInScratch new.memory new.tape port.0 o since }
     ensures loaded { (uses : SlotStates) (m : Machine) (port : ℕ) (o : Operation) (since : ℕ) (bytes : List ℕ)
         (old new : Device)
-        → IsReachable m → StateRelation uses m old → AwaitsOrHasPage uses port o since old → IsOver (old.port port) 0
+        → IsReachable m → StateRelation uses m old → AwaitsOrHasPage uses port o since old
+        → SlotHasNoCommand (old.port port) 0
         → Loads (scratch_frame_address port) bytes old new → length bytes ≡ 512
         → (b : PageCameSinceAndStandsInScratch new.memory new.tape port o since) × (bytes ≡ b.move.bytes.value) }
 {
@@ -146,7 +147,7 @@ pub fn law_device_never_owns_frames_out_of_use()
         → m.lent frame ≡ None → DRIVER_FRAMES ≤ frame.0 → IsStable (DeviceOwnsNoByteOfFrame frame) d }
     ensures over { (uses : SlotStates) (m : Machine) (d : Device) (port slot : ℕ) (id : RequestId)
         → StateRelation uses m d
-        → uses port slot ≡ Serves id → IsOver (d.port port) slot → CommandsAreOver uses d id }
+        → uses port slot ≡ Serves id → SlotHasNoCommand (d.port port) slot → CommandsAreOver uses d id }
     ensures idle { (d : Device) (frame : Frame) → IsIdle d → IsStable (DeviceOwnsNoByteOfFrame frame) d }
     ensures free { (d : Device) (frame : Frame) (offset n : ℕ) → IsStable (DeviceOwnsNoByteOfFrame frame) d
         → FRAME_BYTES * frame.0 + FRAME_BYTES ≤ d.memory_size → offset + n ≤ FRAME_BYTES
@@ -172,7 +173,7 @@ pub fn law_running_well_stays_if_undisturbed()
 /// driver clears it: where none is set, none was, and nothing went wrong. PxIS alone tells of each, and a healthy port
 /// has none; so where it is read with none, or with none of its own and then PxSERR with none, a port that was healthy
 /// is so still when PxIS is read.
-pub fn law_trouble_is_shown()
+pub fn law_no_trouble_shown_means_undisturbed()
     ensures steps { (port : ℕ) (old new : Device) → old.hr ≡ false → Steps old new → ShowsNoTrouble (new.port port)
         → ShowsNoTrouble (old.port port) × Undisturbed port old new }
     ensures reads { (port : ℕ) (r : Reg) (v : ℕ) (old new : Device) → old.hr ≡ false → Reads r v old new
@@ -206,7 +207,7 @@ pub fn law_trouble_is_shown()
 /// And each error sets bits of its own, which stay until PxIS is written, while no reset is pending: where TFES, bit
 /// 30, is clear, it was, and no fault of the port came; and where 27 to 29 are clear, they were, and no fatal error
 /// came.
-pub fn law_errors_are_shown()
+pub fn law_clear_pxis_error_bits_mean_no_error()
     ensures fault { (port : ℕ) (old new : Device) → old.hr ≡ false → Steps old new → (new.port port).is 30 ≡ false
         → ((old.port port).is 30 ≡ false) × NoFaults port old new }
     ensures fault_access { (port : Port) (access : Access) (old new : Device) → old.hr ≡ false
@@ -228,22 +229,22 @@ pub fn law_errors_are_shown()
 /// each access that doesn't set ST. So it is where no device shows. While no reset is pending, a link that is up stays
 /// so, too, but for a write of PxSCTL, where no disk goes or comes; and whether the engine stands or runs, where the
 /// tape tells of no disturbance of the port.
-pub fn law_shown_link_is_up_for_start()
+pub fn law_link_with_det_3_is_up_for_start()
     ensures comreset { (port : Port) (v : ℕ) (old new : Device) → (old.port port.0).cr ≡ false → v % 16 ≡ 1
-        → Writes (Px port Sctl) v old new → IsStoppedAndUpForStartIfShown (new.port port.0) }
+        → Writes (Px port Sctl) v old new → IsStoppedAndUpForStartIfDet3 (new.port port.0) }
     ensures reset { (v : ℕ) (old new : Device) → old.hr ≡ true → Reads Ghc v old new → bit v 0 ≡ false
-        → (port : ℕ) → NoDiskComes port old new → IsStoppedAndUpForStartIfShown (new.port port) }
-    ensures unlinked { (p : DevicePort) → p.cr ≡ false → p.ssts_det ≢ 3 → IsStoppedAndUpForStartIfShown p }
+        → (port : ℕ) → NoDiskComes port old new → IsStoppedAndUpForStartIfDet3 (new.port port) }
+    ensures unlinked { (p : DevicePort) → p.cr ≡ false → p.ssts_det ≢ 3 → IsStoppedAndUpForStartIfDet3 p }
     ensures steps { (port : ℕ) (old new : Device) → NoDiskComes port old new → Steps old new
-        → IsStoppedAndUpForStartIfShown (old.port port)
-        → IsStoppedAndUpForStartIfShown (new.port port) }
+        → IsStoppedAndUpForStartIfDet3 (old.port port)
+        → IsStoppedAndUpForStartIfDet3 (new.port port) }
     ensures access { (port : Port) (access : Access) (old new : Device) → WritesCmdOnlyWithStClear port access
         → Does access old new
-        → NoDiskComes port.0 old new → IsStoppedAndUpForStartIfShown (old.port port.0)
-        → IsStoppedAndUpForStartIfShown (new.port port.0) }
+        → NoDiskComes port.0 old new → IsStoppedAndUpForStartIfDet3 (old.port port.0)
+        → IsStoppedAndUpForStartIfDet3 (new.port port.0) }
     ensures found { (port : Port) (v : ℕ) (old new : Device) → NoDiskComes port.0 old new
         → Reads (Px port Ssts) v old new
-        → v % 16 ≡ 3 → IsStoppedAndUpForStartIfShown (old.port port.0) → IsUpForStart (new.port port.0) }
+        → v % 16 ≡ 3 → IsStoppedAndUpForStartIfDet3 (old.port port.0) → IsUpForStart (new.port port.0) }
     ensures stays { (port : ℕ) (old new : Device) → old.hr ≡ false → (old.port port).cr ≡ false
         → NoPlugEvents port old new
         → Steps old new → IsUpForStart (old.port port) → IsUpForStart (new.port port) }
@@ -266,7 +267,7 @@ pub fn law_shown_link_is_up_for_start()
 /// well; and so it does where PxIS is read with none. So where ST is set with the link up, and PxIS is read with no
 /// trouble right after that, the port runs well, whatever the tape tells. A port that was started has its link up,
 /// unless COMRESET is being sent: so it may be stopped and started again.
-pub fn law_running_well_is_found()
+pub fn law_started_port_without_trouble_runs_well()
     ensures starts { (port : Port) (v : ℕ) (old new : Device) → old.hr ≡ false → (old.port port.0).st ≡ false
         → (old.port port.0).cr ≡ false → bit v 0 ≡ true → Writes (Px port Cmd) v old new
         → IsUpForStart (old.port port.0)
@@ -293,7 +294,7 @@ pub fn law_running_well_is_found()
 
 /// There is a boot for these laws: COMRESET, the link's coming up, what clears the port's errors, the start, and
 /// readings that tell so; and each write of it is permitted when it is made.
-pub fn law_a_boot_runs_well()
+pub fn law_boot_example_runs_well()
     ensures { BootWitness }
 {
     law_prerequisites();
@@ -337,10 +338,10 @@ pub fn law_undisturbed_has_no_error_or_plug()
     ensures fails { (port : ℕ) (old new : Device) → Undisturbed port old new → NoFaults port old new }
 {}
 
-/// What the adapter is stays over each access: its memory's size, its capabilities and its ports; and so over one
-/// fragment after another. One that is switched on, with no reset pending, stays so over each access but a write of GHC
-/// that clears AE or sets HR, and over any that don't write it.
-pub fn law_adapter_stays()
+/// What the adapter is stays over each access: its memory's size, its capabilities, its ports, and whether its disks
+/// tell their sectors; and so over one fragment after another. One that is switched on, with no reset pending, stays so
+/// over each access but a write of GHC that clears AE or sets HR, and over any that don't write it.
+pub fn law_adapter_stays_the_same_and_switched_on()
     ensures access_keeps_adapter { (access : Access) (old new : Device) → Does access old new → SameAdapter old new }
     ensures adapter_reflexive { (d : Device) → SameAdapter d d }
     ensures adapter_transitive { (old mid new : Device) → SameAdapter old mid → SameAdapter mid new
@@ -371,7 +372,7 @@ pub fn law_loads_and_stores_change_ports_by_steps()
 /// While no reset is pending, what the driver has written of a port's controls stays over each access but a write of
 /// the register: ST and FRE, and when ST was set, and a port that runs goes on running; DET of PxSCTL, and when it was
 /// written; PxIE; and the addresses.
-pub fn law_controls_stay()
+pub fn law_port_controls_stay_until_written()
     ensures { (port : Port) (access : Access) (old new : Device) → old.hr ≡ false → Does access old new
         → ControlsChangeOnlyByTheirWrites access port (old.port port.0) (new.port port.0) }
 {
@@ -380,7 +381,7 @@ pub fn law_controls_stay()
 
 /// And a write of the register sets it: ST and FRE of PxCMD, and with ST going to 1 also CR, and when it was set; DET
 /// of PxSCTL, and when it was written; PxIE; and the addresses.
-pub fn law_controls_are_set()
+pub fn law_writes_set_port_controls()
     ensures command { (port : Port) (v : ℕ) (old new : Device) → Writes (Px port Cmd) v old new
         → ((new.port port.0).st ≡ bit v 0) × ((new.port port.0).fre ≡ bit v 4) }
     ensures start { (port : Port) (v : ℕ) (old new : Device) → (old.port port.0).st ≡ false → bit v 0 ≡ true
@@ -406,7 +407,7 @@ pub fn law_controls_are_set()
 /// after the device's steps or an access, or is read 0, no disk of the port went or came, and it was 0 before. A disk
 /// that goes and comes between the link's coming up and the clearing of PxSERR sets N alone, which the link may have
 /// set, too: that is found only where N is read 0 before it is cleared.
-pub fn law_serr_n_shows_plug_events()
+pub fn law_serr_n_clear_means_no_plug_event()
     ensures steps { (port : ℕ) (old new : Device) → old.hr ≡ false → Steps old new → (new.port port).serr_n ≡ false
         → ((old.port port).serr_n ≡ false) × NoPlugEvents port old new }
     ensures access { (port : Port) (access : Access) (old new : Device) → old.hr ≡ false
@@ -456,11 +457,12 @@ pub fn law_det_3_if_disk_present_stays()
 }
 
 /// The faults of a port since its ST was set stand on the tape, and the task file shows the last one: so it stays,
-/// whatever the device does, over readings, and over each write that may be made, where ST is set on a quiet port
-/// alone: what is asked of the write stays so until it is made, and nothing is asked where commands are issued. Nor is
-/// it of any access that writes neither PxCMD nor PxSCTL of the port. So it is while ST is 0, on a port that runs, and
-/// on one that has failed.
-pub fn law_faults_are_recorded()
+/// whatever the device does, over readings, and over each write that may be made, where ST is set on a port that is
+/// clean to start alone, and PxSCTL is written while the engine stands alone: while no reset is pending, what is asked
+/// of the write stays so until it is made, and nothing is asked where commands are issued. Nor is it of any access that
+/// writes neither PxCMD nor PxSCTL of the port. So it is while ST is 0, on a port that runs, and on one that has
+/// failed.
+pub fn law_tape_and_tfd_keep_faults_since_st()
     ensures steps { (port : ℕ) (old new : Device) → Steps old new → RecordsFaultsIfSt old.tape (old.port port) port
         → RecordsFaultsIfSt new.tape (new.port port) port }
     ensures reads { (port : ℕ) (r : Reg) (v : ℕ) (old new : Device) → Reads r v old new
@@ -507,10 +509,10 @@ pub fn law_drq_is_shown_while_link_awaited()
     law_prerequisites();
 }
 
-/// A port is quiet, so that ST may be set and faults go on to be recorded: PxIS is written with TFES while the engine
-/// stands, TFD is read without DRQ, and then it stays so, whatever the device does, over readings, and over writes that
-/// neither set its ST nor send COMRESET on it.
-pub fn law_clean_to_start_is_found()
+/// A port is clean to start, so that ST may be set and faults go on to be recorded: PxIS is written with TFES while the
+/// engine stands, TFD is read without DRQ, and then it stays so, whatever the device does, over readings, and over
+/// writes that neither set its ST nor send COMRESET on it.
+pub fn law_tfes_and_drq_clear_mean_clean_to_start()
     ensures cleared { (port : Port) (v : ℕ) (old new : Device) → (old.port port.0).cr ≡ false → bit v 30 ≡ true
         → Writes (Px port Is) v old new → CrAndTfesAreClear (new.port port.0) }
     ensures steps { StaysOverSteps CrAndTfesAreClear }
@@ -530,11 +532,11 @@ pub fn law_clean_to_start_is_found()
     law_prerequisites();
 }
 
-/// A fault has halted a running port: TFES of PxIS tells it, and so it stays while ST is 1, whatever the device does,
-/// over readings, and over writes, PxIS among them. TFD then shows status and error of the port's last fault since ST
-/// was set. And where the machine agrees with the device, the slot of a fault that the task file shows, which is still
-/// in use, isn't a free one.
-pub fn law_fault_is_found()
+/// While no reset is pending: where TFES of PxIS is read 1 of a running port, a fault has halted it, and so it stays
+/// while ST is 1, whatever the device does, over readings, and over writes, PxIS among them. TFD then shows status and
+/// error of the port's last fault since ST was set. And where the machine agrees with the device, the slot of a fault
+/// that the task file shows, which is still in use, isn't a free one.
+pub fn law_tfes_read_set_means_fault_halts_port()
     ensures told { (port : Port) (v : ℕ) (old new : Device) → old.hr ≡ false → (old.port port.0).st ≡ true
         → RecordsFaultsIfSt old.tape (old.port port.0) port.0 → Reads (Px port Is) v old new → bit v 30 ≡ true
         → IsHaltedPlainOrQueued (new.port port.0).halt }
@@ -563,7 +565,7 @@ pub fn law_fault_is_found()
 
 /// While no reset is pending, each bit of PxIS that is set stays so until PxIS is written, and N and X of PxSERR until
 /// that is: whatever the device does, and over each access.
-pub fn law_errors_are_kept()
+pub fn law_set_pxis_serr_nx_bits_stay_until_written()
     ensures steps { (port : ℕ) (old new : Device) → old.hr ≡ false → Steps old new
         → KeepsSetBitsOfPxisAndSerrNX (old.port port) (new.port port) }
     ensures causes { (port : Port) (access : Access) (old new : Device) → old.hr ≡ false
@@ -581,7 +583,7 @@ pub fn law_errors_are_kept()
 /// X only for one that comes; and where PxSSTS.DET is 3 and no disk has come, it was 3 before, and none has gone:
 /// whatever the device does, and over each access, and over one fragment after another. No link is due then either, but
 /// after a write of PxSCTL.
-pub fn law_link_errors_rise_by_disks()
+pub fn law_serr_nx_rise_only_by_plugs_if_no_link_due()
     ensures steps { (port : ℕ) (old new : Device) → old.hr ≡ false → (old.port port).link_due ≡ false → Steps old new
         → LinkErrorsRiseByDisks port old new }
     ensures access { (port : Port) (access : Access) (old new : Device) → old.hr ≡ false
@@ -617,7 +619,7 @@ pub fn law_stopped_engine_records_no_work()
 
 /// A write of PxSCTL with DET 1 sends COMRESET: no device shows in PxSSTS, and the status is 7Fh. While no reset is
 /// pending, one with DET 0 after it makes the link due, and no other write of PxSCTL does.
-pub fn law_link_is_reset()
+pub fn law_sctl_det_1_sends_comreset()
     ensures comreset { (port : Port) (v : ℕ) (old new : Device) → v % 16 ≡ 1 → Writes (Px port Sctl) v old new
         → ((new.port port.0).ssts_det ≡ 0) × ((new.port port.0).tfd % 256 ≡ 0x7f) }
     ensures due { (port : Port) (v : ℕ) (old new : Device) → old.hr ≡ false → (old.port port.0).sctl_det ≡ 1
@@ -630,7 +632,7 @@ pub fn law_link_is_reset()
 }
 
 /// A write of PxSERR clears N and X where it has their bits, 16 and 26, and one of PxIS clears each bit that it has.
-pub fn law_errors_are_cleared()
+pub fn law_writing_ones_clears_pxis_and_serr()
     ensures errors { (port : Port) (v : ℕ) (old new : Device) → Writes (Px port Serr) v old new
         → (bit v 16 ≡ true → (new.port port.0).serr_n ≡ false) × (bit v 26 ≡ true → (new.port port.0).serr_x ≡ false) }
     ensures causes { (port : Port) (v : ℕ) (old new : Device) → Writes (Px port Is) v old new → (place : ℕ)
@@ -639,7 +641,7 @@ pub fn law_errors_are_cleared()
 
 /// A reading of a port's register notes the value as the last one read. While no reset is pending it counts the
 /// readings in a row, too, as the adapter's notes do, and shows what the port has then.
-pub fn law_notes_are_set()
+pub fn law_port_register_read_is_noted_as_last()
     ensures command { NotesLast Cmd (λ n. n.last_cmd) }
     ensures link { NotesLast Ssts (λ n. n.last_ssts) }
     ensures task_file { NotesLast Tfd (λ n. n.last_tfd) }
@@ -657,10 +659,10 @@ pub fn law_notes_are_set()
 /// What the readings of a port noted stays, whatever the device does, and over each access: each value but for a
 /// reading of its register, and so its count; those of the link, of busy and of the command also but for a write of
 /// PxSCTL.
-pub fn law_notes_stay()
+pub fn law_noted_reads_change_only_by_read_or_sctl()
     ensures steps { (port : ℕ) (old new : Device) → Steps old new → (new.port port).notes ≡ (old.port port).notes }
     ensures access { (port : Port) (access : Access) (old new : Device) → Does access old new
-        → ReadingNotesChangeByReadOrSctlWriteOnly access port (old.port port.0).notes (new.port port.0).notes }
+        → NotesChangeOnlyByReadOrSctlWrite access port (old.port port.0).notes (new.port port.0).notes }
 {
     law_prerequisites();
 }

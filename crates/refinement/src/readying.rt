@@ -12,7 +12,7 @@ use super::prerequisites::law_prerequisites;
 /// While no reset is pending, what is stored for a slot of a running port stays so, whatever the device does, and over
 /// each access that doesn't clear ST, doesn't write PxCLB and stores nothing in the slot's header or table. No machine
 /// is asked for, but one that agrees.
-pub fn law_stored_stays()
+pub fn law_stored_command_stays_while_st_set()
     ensures steps { (uses : SlotStates) (m : Machine) (port slot : ℕ) (c : Meaning) (places : List ℕ) (old new : Device)
         → IsReachable m → StateRelation uses m old → old.hr ≡ false → Steps old new
         → IsStoredOnPortWithStSet old port slot c places
@@ -71,7 +71,7 @@ pub fn law_one_bit_arms_or_issues_slot()
 {}
 
 /// What is stored for a slot stays so over acts whose accesses leave it.
-pub fn law_stored_stays_over_acts()
+pub fn law_stored_command_stays_over_acts_sparing_it()
     ensures { (port : Port) (slot : ℕ) (c : Meaning) (places : List ℕ) (acts : List Act) (k later : DriverState)
         (m : Machine)
         → IsReachable m → DriverRelation m k → AreActsDone acts k m later

@@ -6,7 +6,7 @@ ghost use Rattle.hba_regs.specs.{Bits.{bit}, declared.reg.Reg.TheVariants.{Px}, 
 ghost use Rattle.adapter.specs.{Access.{Reads, Writes, Access, Does}, Device.{DevicePort, Device}, Device.Halt.{NotHalted}, Steps.{Steps}, declared.command.Operation.{Operation}};
 ghost use Rattle.block_machine.specs.{Histories.{IsReachable}, State.{Machine}};
 ghost use Rattle.refinement.specs.{Relation.{StateRelation}, Acts.{Act, AreActsDone, accesses_of}, Driver.{IsOwnCommandPreparedInSlot0, DriverState, DriverRelation}, Errors.{NoFatalErrors}, PortFacts.{RunsWell, PxisValueTellsNoTrouble, IsCleanToStart}, PreservedParts.{DoesNotWrite, NoPlugEvents}, Slots.{SlotState, SlotStates, Free, Own, set_slot_state}, Staying.{StaysOverStepsIfMachineAgrees, StaysUnlessWrittenIfMachineAgrees}};
-ghost use Rattle.refinement.specs.{StartedPort.{IsUpForStart, IsStarted, WritesCmdOnlyWithStSet}, Halting.{NotLogOnlyAndQueuedHaltHasTakenCommand, NotLogOnlyAndQueuedHaltHasTakenCommandIfSt}, HaltRecovery.{IsLinked, WorksOnUnqueuedCommandsOnly, RunsLinked, PlainSlot0IsIssuedOrNotHalted, FaultLeavesIssued}};
+ghost use Rattle.refinement.specs.{StartedPort.{IsUpForStart, IsStarted, WritesCmdOnlyWithStSet}, Halting.{HaltFitsTakenCommands, HaltFitsTakenCommandsIfSt}, HaltRecovery.{IsLinked, WorksOnUnqueuedCommandsOnly, RunsLinked, PlainSlot0IsIssuedOrNotHalted, FaultLeavesIssued}};
 
 use super::prerequisites::law_prerequisites;
 
@@ -27,9 +27,10 @@ pub fn law_link_stays_online()
 
 /// Where the machine agrees with the device, a port that works on plain commands alone goes on so, whatever the device
 /// does, also over a reset that ends, and over each access but a write of PxSACT: faults halt it in a way that ends
-/// once ST is set. A port that runs without a halt does so exactly if no bit of PxSACT is set. And then the link is up
-/// for a start.
-pub fn law_plain_work_stays()
+/// once ST is set. A port that runs without a halt does so exactly if no bit of PxSACT is set. And where its link is
+/// there, it is up for a start: so where ST is set then, and PxIS is read with no trouble right after that, the port
+/// runs well.
+pub fn law_port_stays_unqueued_until_sact_written()
     ensures steps { StaysOverStepsIfMachineAgrees WorksOnUnqueuedCommandsOnly }
     ensures access { StaysUnlessWrittenIfMachineAgrees Sact WorksOnUnqueuedCommandsOnly }
     ensures runs { (uses : SlotStates) (m : Machine) (port : ℕ) (d : Device) → StateRelation uses m d
@@ -50,15 +51,15 @@ pub fn law_plain_work_stays()
 /// where the machine agrees with the device, whatever the device does, over each access but a write of PxCMD, and over
 /// acts without one. So it is without a halt, and of a port that works on plain commands alone.
 pub fn law_queued_halt_has_taken_command()
-    ensures steps { StaysOverStepsIfMachineAgrees NotLogOnlyAndQueuedHaltHasTakenCommandIfSt }
-    ensures access { StaysUnlessWrittenIfMachineAgrees Cmd NotLogOnlyAndQueuedHaltHasTakenCommandIfSt }
+    ensures steps { StaysOverStepsIfMachineAgrees HaltFitsTakenCommandsIfSt }
+    ensures access { StaysUnlessWrittenIfMachineAgrees Cmd HaltFitsTakenCommandsIfSt }
     ensures acts { (port : Port) (acts : List Act) (k later : DriverState) (m : Machine) → IsReachable m
         → DriverRelation m k
         → AreActsDone acts k m later → All (DoesNotWrite (Px port Cmd)) (accesses_of acts)
-        → NotLogOnlyAndQueuedHaltHasTakenCommandIfSt (k.device.port port.0)
-        → NotLogOnlyAndQueuedHaltHasTakenCommandIfSt (later.device.port port.0) }
-    ensures without_halt { (p : DevicePort) → p.halt ≡ NotHalted → NotLogOnlyAndQueuedHaltHasTakenCommand p }
-    ensures plain { (p : DevicePort) → WorksOnUnqueuedCommandsOnly p → NotLogOnlyAndQueuedHaltHasTakenCommand p }
+        → HaltFitsTakenCommandsIfSt (k.device.port port.0)
+        → HaltFitsTakenCommandsIfSt (later.device.port port.0) }
+    ensures without_halt { (p : DevicePort) → p.halt ≡ NotHalted → HaltFitsTakenCommands p }
+    ensures plain { (p : DevicePort) → WorksOnUnqueuedCommandsOnly p → HaltFitsTakenCommands p }
 {
     law_prerequisites();
 }
@@ -66,7 +67,7 @@ pub fn law_queued_halt_has_taken_command()
 /// ST is set while the engine stands and the link is up: the port runs, though a queued fault may halt it still. It
 /// runs on where the tape tells of no fatal error of the port and of no disk that goes or comes, whatever else the
 /// device does, and over each access that neither clears ST nor writes PxSCTL. It is started where no fault halts it.
-pub fn law_running_goes_on()
+pub fn law_port_runs_on_without_fatal_or_plug()
     ensures starts { (port : Port) (v : ℕ) (old new : Device) → old.hr ≡ false → (old.port port.0).st ≡ false
         → (old.port port.0).cr ≡ false → bit v 0 ≡ true → NoPlugEvents port.0 old new → Writes (Px port Cmd) v old new
         → IsLinked (old.port port.0) → RunsLinked (new.port port.0) }
@@ -121,7 +122,7 @@ pub fn law_own_command_end_ends_halt()
 /// to use, and over each access that clears no ST, writes neither PxSACT nor PxSCTL and leaves no reset pending. So
 /// once PxCI is read with bit 0 clear, TFES is clear: a command that a fault has halted isn't over. And then the port
 /// runs well, where no other bit tells of trouble.
-pub fn law_faults_show_before_the_end()
+pub fn law_unqueued_ci_read_clear_means_tfes_clear()
     ensures starts { (uses : SlotStates) (port : Port) (v : ℕ) (old new : Device) → old.hr ≡ false → bit v 0 ≡ true
         → ((slot : ℕ) → uses port.0 slot ≡ Free) → (old.port port.0).sact 0 ≡ false → IsCleanToStart (old.port port.0)
         → (old.port port.0).st ≡ false → Writes (Px port Cmd) v old new → FaultLeavesIssued uses port.0 new }

@@ -8,7 +8,7 @@ ghost use Rattle.refinement.specs.{Relation.{StateRelation}, Slots.{SlotStates},
 use super::prerequisites::law_prerequisites;
 
 /// There is a port that fails and is stopped, cleared and started again without COMRESET: it runs well.
-pub fn law_a_fault_is_recovered()
+pub fn law_fault_recovery_example_runs_well()
     ensures { RecoveredWitness }
 {
     law_prerequisites();
@@ -23,16 +23,17 @@ pub fn law_a_command_may_have_failed()
 
 /// There is a port that takes READ LOG EXT alone, as after a queued fault, with that command prepared: it is issued and
 /// comes to its end, and the port runs well.
-pub fn law_a_log_ends_a_halt()
+pub fn law_read_log_ext_can_end_halt()
     ensures { LogEndsHaltWitness }
 {
     law_prerequisites();
 }
 
-/// None of the parts of plain work can be left out. Without the bits of PxSACT a queued command that waits is taken;
-/// without the taken commands one that was taken before ST was cleared may fail; and without a machine that agrees, the
-/// device may take a queued command from a slot whose bit of PxSACT is clear.
-pub fn law_plain_work_needs_its_premises()
+/// That plain work goes on needs the bits of PxSACT, the taken commands, and a machine that agrees. Without the bits of
+/// PxSACT a queued command that waits is taken; without the taken commands one that was taken before ST was cleared may
+/// fail; and without a machine that agrees, the device may take a queued command from a slot whose bit of PxSACT is
+/// clear.
+pub fn law_unqueued_needs_sact_taken_and_agreement()
     ensures unarmed { ((uses : SlotStates) (m : Machine) (port : ℕ) (old new : Device) → IsReachable m
         → StateRelation uses m old
         → Steps old new → halt_after_start (old.port port).halt ≡ NotHalted

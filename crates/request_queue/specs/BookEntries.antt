@@ -33,10 +33,10 @@ abbrev pub due_ids : QueueMode → Port → List Unanswered → List RequestId
 due_ids mode port book = map (λ r. r.id) (due_of mode port book)
 
 -- the id of the only request of the book, where it is due on the port
-abbrev pub due_id_of_sole_request : QueueMode → Port → List Unanswered → Option RequestId
-due_id_of_sole_request mode port [] = None
-due_id_of_sole_request mode port (r ∷ []) = if r.port.0 == port.0 && is_due mode (r ∷ []) r then Some r.id else None
-due_id_of_sole_request mode port (r ∷ _ ∷ _) = None
+abbrev pub due_id_if_alone_in_book : QueueMode → Port → List Unanswered → Option RequestId
+due_id_if_alone_in_book mode port [] = None
+due_id_if_alone_in_book mode port (r ∷ []) = if r.port.0 == port.0 && is_due mode (r ∷ []) r then Some r.id else None
+due_id_if_alone_in_book mode port (r ∷ _ ∷ _) = None
 
 -- the request has this id
 abbrev pub has_id : RequestId → BookEntry → Bool

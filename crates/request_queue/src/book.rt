@@ -3,7 +3,7 @@ ghost use Rattle.std.specs.Prelude.{◌≡◌, ◌&&◌, ◌==◌, ◌↔◌, �
 ghost use Rattle.block_machine.specs.{DueRequests.{is_due}, Rules.{HasNoFault, is_same_grant_name}};
 ghost use Rattle.dma_frames.specs.FrameTables.{SetsLoanOnly, lent_to, owner_of};
 ghost use Rattle.request_queue.specs.{BookIndexes.{IndexesMatch}, Blockers.{AreBlockers}};
-ghost use Rattle.request_queue.specs.BookEntries.{due_ids, BookEntry, GivesBack, IsEarlier, IsNewlyAccepted, BookIsWellFormed, IsUnanswered, IsWaiting, IsIssuedBelowLimit, FramesAreLentToIt, HasAnyOverdue, HasOverdueOn, IsOverdueOn, aged_entries, unanswered_of, update_if_id, ids_where, is_among, is_of_port, issued_request, due_id_of_sole_request, aged_request, waiting_again_request, with_requests_under_grant_revoked, with_revoked_mark_if_under_grant, entry_count_of_client, waits_under, without_entry};
+ghost use Rattle.request_queue.specs.BookEntries.{due_ids, BookEntry, GivesBack, IsEarlier, IsNewlyAccepted, BookIsWellFormed, IsUnanswered, IsWaiting, IsIssuedBelowLimit, FramesAreLentToIt, HasAnyOverdue, HasOverdueOn, IsOverdueOn, aged_entries, unanswered_of, update_if_id, ids_where, is_among, is_of_port, issued_request, due_id_if_alone_in_book, aged_request, waiting_again_request, with_requests_under_grant_revoked, with_revoked_mark_if_under_grant, entry_count_of_client, waits_under, without_entry};
 
 use crate::PendingRequest;
 use crate::blocker::Blocker;
@@ -128,8 +128,8 @@ impl Book {
     }
 
     /// The id of the only request of the book, where it is due on the port. Where there are others, `issuable` tells.
-    pub fn due_id_of_sole_request(&self, mode: QueueMode, port: Port) -> Option<RequestId>
-        ensures result_is_due_id_of_sole_request { result ≡ due_id_of_sole_request mode port (unanswered_of self.now) }
+    pub fn due_id_if_alone_in_book(&self, mode: QueueMode, port: Port) -> Option<RequestId>
+        ensures result_is_due_id_if_alone { result ≡ due_id_if_alone_in_book mode port (unanswered_of self.now) }
         ensures is_the_only_due { IfSome result (λ id. due_ids mode port (unanswered_of self.now) ≡ id ∷ []) }
     {
         if self.store.len() != 1 {

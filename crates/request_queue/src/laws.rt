@@ -9,10 +9,10 @@ ghost use Rattle.block_machine.specs.State as machine;
 ghost use Rattle.block_machine.specs.Steps as steps;
 
 use ata_types::{MOST_UNANSWERED_OF_A_CLIENT, MOST_UNANSWERED_OF_ALL_CLIENTS};
-use block_machine::laws::{law_due_in_turn, law_due_list_is_exact};
+use block_machine::laws::{law_due_list_is_exact, law_issuing_due_in_turn_leaves_none_due};
 
 /// Where the machine's book is the book, the machine's due requests are the book's.
-pub fn law_book_dues_agree()
+pub fn law_book_and_machine_agree_on_due_requests()
     ensures book { (entries : List BookEntry) (pending : List machine.Pending) → BookRelation entries pending
         → map unanswered pending ≡ unanswered_of entries }
     ensures sound { (mode : QueueMode) (port : Port) (entries : List BookEntry) (pending : List machine.Pending)
@@ -29,7 +29,7 @@ pub fn law_book_dues_agree()
 }
 
 /// Each step of the machine on requests is a change of the book, or leaves it.
-pub fn law_steps_change_the_book()
+pub fn law_book_changes_match_machine_steps()
     ensures accept { (entries : List BookEntry) (m : Machine) (e : BookEntry) (r : machine.Accepted)
         → BookRelation entries m.book
         → EntryRelation e (steps.newly_accepted r)
@@ -56,8 +56,8 @@ pub fn law_steps_change_the_book()
         → BookRelation entries (steps.after_step m (steps.End p)).book }
 {}
 
-/// A client has as many requests in the machine's book.
-pub fn law_client_counts_agree()
+/// A client has as many requests in the machine's book as in the server's.
+pub fn law_requests_per_client_agree_with_machine()
     ensures { (entries : List BookEntry) (pending : List machine.Pending) (client : ClientId)
         → BookRelation entries pending
         → steps.unanswered_count pending client ≡ entry_count_of_client entries client.0 }
@@ -65,7 +65,7 @@ pub fn law_client_counts_agree()
 
 /// A due request of the book waits, so that it may be issued; and what the book's operations leave of what says which
 /// are due.
-pub fn law_operations_change_the_unanswered()
+pub fn law_unanswered_follow_book_operations()
     ensures waits { (mode : QueueMode) (entries : List BookEntry) (r : Unanswered)
         → IsDue mode (unanswered_of entries) r
         → IsWaiting r.id entries }
@@ -95,7 +95,7 @@ pub fn law_due_requests_go_in_turn()
         → IsWaiting id entries × AreAllDueInOrder mode port ids
         (unanswered_of (map (update_if_id id issued_request) entries)) }
 {
-    law_due_in_turn();
+    law_issuing_due_in_turn_leaves_none_due();
 }
 
 /// Each request of the one book stands in the other.
@@ -168,9 +168,9 @@ pub fn law_book_stays_well_formed()
         → IsInOrder (unanswered_of entries) }
 {}
 
-/// Accepted requests stay so while frames of none of their own change hands: as another request's frames are lent to it
-/// or given back. No frame is lent to two of them.
-pub fn law_well_formed_entries_stay()
+/// Entries stay well formed while no frame of their own is lent or given back, and as requests are issued, wait again,
+/// age, or have their grant revoked. No frame is lent to two of them, and each one's frames are lent to it.
+pub fn law_entries_stay_well_formed()
     ensures frames_are_disjoint { (table : OwnersAndLoans) (a b : BookEntry) → a.request.id ≢ b.request.id
         → IsWellFormedEntry table a
         → IsWellFormedEntry table b

@@ -31,7 +31,7 @@ pub enum Answer<'a> {
     /// The adapter was reset, or a grant was revoked.
     Done,
     /// The adapter didn't end its reset.
-    Stuck,
+    AdapterStuck,
     /// The state of a port.
     State(PortState),
     /// Whether the device did its step.
@@ -219,7 +219,7 @@ impl fmt::Display for Answer<'_> {
             Answer::Replied(reply) => write!(f, "reply {} {}", reply.id.0, Ended(reply.outcome)),
             Answer::Quiet => write!(f, "quiet"),
             Answer::Done => write!(f, "done"),
-            Answer::Stuck => write!(f, "stuck"),
+            Answer::AdapterStuck => write!(f, "stuck"),
             Answer::State(state) => write!(f, "state {}", State(state)),
             Answer::Stepped(true) => write!(f, "did"),
             Answer::Stepped(false) => write!(f, "no"),

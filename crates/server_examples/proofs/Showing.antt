@@ -336,15 +336,15 @@ issued_first : (laws : ShownRunLaws) (first : JointState Device) (asked : Reques
     → 1 ≤ count_by (issues_id e.request.id) (steps_of (events_of (submit ∷ [])))
 issued_first laws first asked id submit e r is says here =
     let run = events_of (submit ∷ []) in
-    let legal = laws.run_steps_are_legal first.abstract run r in
+    let enabled = laws.run_steps_are_enabled first.abstract run r in
     let its : (x : Pending) → Contains (abstract_after_all first.abstract run).machine.book x → x.request.id ≡ id = λ x h. ⊎_elim
-    (λ (c : WasUnansweredBefore first.abstract.machine submit.event.steps x). absurd (nothing c.before (subst (λ (xs : List Pending). Contains xs c.before) legal.0.book_is_empty c.is_in_book)))
+    (λ (c : WasUnansweredBefore first.abstract.machine submit.event.steps x). absurd (nothing c.before (subst (λ (xs : List Pending). Contains xs c.before) enabled.0.book_is_empty c.is_in_book)))
     (λ asks. let e : ◌≡◌ {A = machine.AbstractCallResult} (Submitted (Ok x.request.id)) (Submitted (Ok id)) = sym asks.1 ∙ says in cc)
     (laws.unanswered_was_there_or_asked first.abstract [] submit.event x r h) in
     let ready = ⊎_elim (λ is. is) (λ (dead : ((abstract_after_all first.abstract run).ports.state e.request.port ≡ Dead) × LastServiceOrResetIsStuckReset run).
     let no : ⊥ = subst (λ (q : AbstractCall DeviceStep). LastServiceOrResetIsStuckResetAfter q submit.event.result ⊥) is dead.1 in absurd no) (laws.unanswered_only_where_ready_or_stuck first.abstract run e r here) in
     let issued = laws.lone_request_is_issued first.abstract run e r here ready (λ x h. its x h ∙ sym (its e here)) in
-    let counted = (laws.issues_are_counted first.abstract.machine (steps_of run) e legal.0 legal.1 (subst (λ (m : Machine). Contains m.book e) legal.2 here)).1 in
+    let counted = (laws.issues_are_counted first.abstract.machine (steps_of run) e enabled.0 enabled.1 (subst (λ (m : Machine). Contains m.book e) enabled.2 here)).1 in
     let one : ◌≡◌ {A = ℕ} (cond e.issued 1 0) 1 = ap (λ (b : Bool). cond {A = ℕ} b 1 0) issued in
     omega (arith, counted, one)
   where
@@ -389,8 +389,8 @@ went_again laws wanted first asked id submit one two three fatal service finish 
       count_append p two.event.steps (steps_of (events_of (one ∷ submit ∷ []))),
       count_append p one.event.steps (steps_of (events_of (submit ∷ []))),
     ) in
-    let legal = laws.run_steps_are_legal first.abstract (events_of calls) r7 in
-    let counted = (laws.issues_are_counted first.abstract.machine (steps_of (events_of calls)) e legal.0 legal.1 (subst (λ (m : Machine). Contains m.book e) legal.2 here)).1 in
+    let enabled = laws.run_steps_are_enabled first.abstract (events_of calls) r7 in
+    let counted = (laws.issues_are_counted first.abstract.machine (steps_of (events_of calls)) e enabled.0 enabled.1 (subst (λ (m : Machine). Contains m.book e) enabled.2 here)).1 in
     let is_one : ◌≡◌ {A = ℕ} (cond e.issued 1 0) 1 = ap (λ (b : Bool). cond {A = ℕ} b 1 0) issued in
     (twice, omega (arith, twice, counted, is_one))
 
@@ -512,9 +512,9 @@ shows_a_release device old new request client frame bytes last_bytes id replies 
     ⊎_elim (λ now. id_given x c.0.event id c.2 now)
     (λ more. ⊎_elim (λ now. absurd (device_asks_none x b.0.event _ b.1 now))
     (λ rest. ⊎_elim (λ now. absurd (device_asks_none x a.0.event _ a.1 now)) (λ no. absurd no) rest) more) asked in
-    let legal = laws.run_steps_are_legal r.initial_state.abstract (events_of past) run.0.0 in
+    let enabled = laws.run_steps_are_enabled r.initial_state.abstract (events_of past) run.0.0 in
     let loan = some_of _ (store_refused (abstract_after_all r.initial_state.abstract (events_of (d.0 ∷ before))) e.0.event client frame 0 bytes e.1 e.2 run.0.0.1.result_matches_steps) in
-    let holder = laws.lent_frame_is_of_accepted r.initial_state.abstract.machine (steps_of (events_of past)) frame loan.0 legal.0 legal.1 (ap (λ (m : Machine). m.lent frame) (sym legal.2) ∙ loan.1) in
+    let holder = laws.lent_frame_is_of_accepted r.initial_state.abstract.machine (steps_of (events_of past)) frame loan.0 enabled.0 enabled.1 (ap (λ (m : Machine). m.lent frame) (sym enabled.2) ∙ loan.1) in
     let holds : holder.0.id ≡ id = ⊎_elim (λ x. absurd (store_asks_none holder.0 e.0.event client frame 0 bytes e.1 x))
     (λ past. ⊎_elim (λ x. absurd (service_asks_none holder.0 d.0.event d.1 x)) (given_then holder.0) past)
     (laws.accepted_was_asked r.initial_state.abstract (events_of past) holder.0 run.0.0 holder.1) in

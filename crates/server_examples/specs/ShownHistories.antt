@@ -12,10 +12,10 @@ use Rattle.ata_types.specs.declared.request.Outcome.{Outcome}
 use Rattle.ata_types.specs.declared.request.Outcome.TheVariants.{Ok, PortDead}
 use Rattle.adapter.specs.Device.{Device}
 use Rattle.adapter.specs.declared.access.DeviceStep.{DeviceStep}
-use Rattle.block_machine.specs.Events.{CallRecord, AbstractState, Reset, Service, EveryReadHoldsExpected, IsLawfulAnswer, IsRun, LastServiceOrResetIsStuckReset, answers_of, issues_id, abstract_after_all, replies_of, steps_of}
+use Rattle.block_machine.specs.Events.{CallRecord, AbstractState, Reset, Service, EveryReadHoldsExpected, IsLawfulAnswer, IsRun, LastServiceOrResetIsStuckReset, answers_of, issues_id, abstract_after_all, replies_of, steps_of, AllEnabled}
 use Rattle.block_machine.specs.Confinement.{HasFrame, WasAccepted}
 use Rattle.block_machine.specs.Histories.{JointEvent, JointState, events_of, joint_state_after}
-use Rattle.block_machine.specs.Expected.{IsLegal, IsInitial, after}
+use Rattle.block_machine.specs.Expected.{IsInitial, after}
 use Rattle.block_machine.specs.State.{Accepted, Machine, Pending}
 use Rattle.block_machine.specs.Steps.{Step, Answer, Release}
 use Rattle.driver_history.specs.Claims.{HandlesShownFailure}
@@ -115,12 +115,12 @@ SaysFrameIsReleased said = (id : RequestId) × (reply : Reply) × (reply.outcome
 -- What laws of `block_machine` and `machine_runs` say of runs, and one of `driver_history` of histories: what is shown
 -- rests on them.
 pub record ShownRunLaws : Type 0 where
-  pub run_steps_are_legal : (first : AbstractState) (run : List (CallRecord DeviceStep)) → IsRun first run
-      → IsInitial first.machine × IsLegal first.machine (steps_of run)
+  pub run_steps_are_enabled : (first : AbstractState) (run : List (CallRecord DeviceStep)) → IsRun first run
+      → IsInitial first.machine × AllEnabled first.machine (steps_of run)
       × ((abstract_after_all first run).machine ≡ after first.machine (steps_of run))
   pub lent_frame_is_of_accepted : (start : Machine) (history : List Step) (frame : Frame) (id : RequestId)
       → IsInitial start
-      → IsLegal start history → (after start history).lent frame ≡ Some id
+      → AllEnabled start history → (after start history).lent frame ≡ Some id
       → (r : Accepted) × WasAccepted start history r × (r.id ≡ id) × HasFrame r frame
   pub accepted_was_asked : (first : AbstractState) (run : List (CallRecord DeviceStep)) (r : Accepted) → IsRun first run
       → WasAccepted first.machine (steps_of run) r → WasSubmittedAndGivenId r run
@@ -150,7 +150,7 @@ pub record ShownRunLaws : Type 0 where
       ≡ e.request.id)
       → e.issued ≡ true
   pub issues_are_counted : (start : Machine) (history : List Step) (e : Pending) → IsInitial start
-      → IsLegal start history
+      → AllEnabled start history
       → Contains (after start history).book e → (count_by (issues_id e.request.id) history ≡ e.issue_count)
       × (count_by (issues_id e.request.id) history ≡ count_by (requeues_id e.request.id) history + cond e.issued 1 0)
   pub unanswered_only_where_ready_or_stuck : (first : AbstractState) (run : List (CallRecord DeviceStep)) (e : Pending)

@@ -12,13 +12,13 @@ use ata_types::{
     Call, CallResult, ClientId, Frame, MemFault, Op, Outcome, Port, PortState, Request, RequestId,
     Slot,
 };
-use block_machine::laws::{law_lent_was_accepted, law_runs_are_legal};
+use block_machine::laws::{law_lent_frame_is_of_accepted_request, law_run_steps_are_enabled};
 use block_server::{CallResults, Server};
 use driver_history::troubles::law_services_heed_shown_failures;
 use machine_runs::laws::{
     law_accepted_was_asked, law_answers_are_lawful, law_issues_are_counted, law_ok_was_served,
     law_replied_was_asked, law_sole_book_request_is_issued_if_ready,
-    law_unanswered_on_ready_or_stuck, law_unanswered_was_there_or_just_asked,
+    law_unanswered_has_ready_port_or_stuck_reset, law_unanswered_was_there_or_just_asked,
 };
 use std::alloc::Global;
 
@@ -26,8 +26,8 @@ use std::alloc::Global;
 fn law_shown_run_prerequisites()
     ensures { ShownRunLaws }
 {
-    law_runs_are_legal::<DeviceStep>();
-    law_lent_was_accepted();
+    law_run_steps_are_enabled::<DeviceStep>();
+    law_lent_frame_is_of_accepted_request();
     law_accepted_was_asked::<DeviceStep>();
     law_replied_was_asked::<DeviceStep>();
     law_answers_are_lawful::<DeviceStep>();
@@ -35,7 +35,7 @@ fn law_shown_run_prerequisites()
     law_ok_was_served::<DeviceStep>();
     law_sole_book_request_is_issued_if_ready::<DeviceStep>();
     law_issues_are_counted();
-    law_unanswered_on_ready_or_stuck::<DeviceStep>();
+    law_unanswered_has_ready_port_or_stuck_reset::<DeviceStep>();
     law_services_heed_shown_failures();
 }
 

@@ -7,16 +7,16 @@ use Rattle.port_control.specs.ServiceAccesses.{WritesOnlyHbaIsPxIsCiOrSact}
 use Rattle.refinement.specs.Fragments.{AnySlotStates}
 use Rattle.refinement.specs.Slots.{SlotStates}
 
--- a port is looked at, or what it has issued is looked for; or ports are served by both
+-- a port is looked at; or its PxCI and PxSACT are read; or ports are serviced, with issuing
 pub data AccessPurpose : Type 0 where
   Looking : Port → AccessPurpose
   ReadingMasks : Port → AccessPurpose
-  Serving : AccessPurpose
+  Servicing : AccessPurpose
 
 abbrev pub accesses_for : AccessPurpose → Access → Type 0
 accesses_for (Looking port) = IsPxisSstsOrOwnIsAccess port
 accesses_for (ReadingMasks port) = ReadsCiOrSact port
-accesses_for Serving = WritesOnlyHbaIsPxIsCiOrSact
+accesses_for Servicing = WritesOnlyHbaIsPxIsCiOrSact
 
 abbrev pub slot_uses_for : AccessPurpose → SlotStates → Type 0
 slot_uses_for kind = AnySlotStates

@@ -29,7 +29,8 @@ use Rattle.hba_regs.specs.Bits.{bit}
 use Rattle.hba_regs.specs.declared.reg.PortReg.TheVariants.{Ci, Clb}
 use Rattle.hba_regs.specs.declared.reg.Reg.TheVariants.{Px}
 use Rattle.refinement.specs.GivingUp.{with_all_parked, ids_in_slots}
-use Rattle.refinement.specs.Slots.{Free, IsMove, IsOver, Own, Serves, SlotState, SlotStates, client_operation_of, set_slot_state}
+use Rattle.adapter.specs.OneCommand.{SlotHasNoCommand}
+use Rattle.refinement.specs.Slots.{Free, IsMove, Own, Serves, SlotState, SlotStates, client_operation_of, set_slot_state}
 use Rattle.block_machine.specs.Ports.{PortsWellFormed, Ports}
 use Rattle.block_machine.specs.Rules.{HasGrantName}
 use Rattle.block_machine.specs.State.{Accepted, Machine, Pending}
@@ -39,7 +40,7 @@ use Rattle.dma_frames.specs.FrameTables.{OwnersAndLoans}
 use Rattle.request_queue.specs.BookEntries.{BookEntry, IsWellFormedEntry, BookIsWellFormed, aged_entries, unanswered_of}
 use Rattle.request_queue.specs.BookRelation.{BookRelation}
 use Rattle.block_machine.specs.Confinement.{HasFrame, IsGranted, WasAccepted, KeepsLimitsAndHoldsOwnFrames}
-use Rattle.block_machine.specs.Expected.{IsLegal, IsInitial, after}
+use Rattle.block_machine.specs.Expected.{IsInitial, after}
 use Rattle.block_machine.specs.Histories.{JointState, IsReachable, IsSimulatedBySteps, JointEvent, joint_state_after}
 use Rattle.block_machine.specs.Events.{AllByDevice, AllEnabled}
 use Rattle.refinement.specs.SparedBook.{AllAsFarOrFurther, IsAsFarOrFurther, KeepsLoansAndPendingsOnlyAdvance}
@@ -92,7 +93,7 @@ pub record SlotLaws : Type 0 where
       → DriverRelation (after_step m (Revoke client number)) k
   -- a request is taken from its slot, once its command is over
   pub parked_agrees : (k : DriverState) (m : Machine) → DriverRelation m k → (port slot : ℕ)
-      → IsOver (k.device.port port) slot
+      → SlotHasNoCommand (k.device.port port) slot
       → (id : RequestId) → k.slot_states port slot ≡ Serves id
       → DriverRelation m (with_slot_freed_and_request_parked k port slot id)
   pub parked_frees : (k : DriverState) (port slot : ℕ) (id : RequestId) → ServeDistinctRequests k.slot_states
@@ -131,7 +132,7 @@ pub record SlotLaws : Type 0 where
       (o : Operation)
       (gained : List TapeEntry) → IsReachable m → StateRelation uses m old → Does access old new
       → new.tape ≡ old.tape ++ gained
-      → client_operation_of o ≡ None → (uses port 0 ≡ Own o → IsOver (old.port port) 0)
+      → client_operation_of o ≡ None → (uses port 0 ≡ Own o → SlotHasNoCommand (old.port port) 0)
       → All (λ e. IsMove port o e → ⊥) gained
   -- slots that are given up, or put to another use, and requests that have none
   pub giving_up_frees_slots : (k : DriverState) (port : ℕ) → AllFree (with_all_parked k port).slot_states port
@@ -156,11 +157,11 @@ pub record SlotLaws : Type 0 where
       → (e : Pending)
       → Contains m.book e → e.issued ≡ false → HasNoSlot uses e.request.id
   -- a command that is over stays so
-  pub over_stays_over_steps : (port slot : ℕ) (old new : Device) → Steps old new → IsOver (old.port port) slot
-      → IsOver (new.port port) slot
+  pub over_stays_over_steps : (port slot : ℕ) (old new : Device) → Steps old new → SlotHasNoCommand (old.port port) slot
+      → SlotHasNoCommand (new.port port) slot
   pub over_stays_unless_ci_bit_is_written : (port : Port) (slot : ℕ) (access : Access) (old new : Device)
       → ((v : ℕ) → access ≡ Writing (Px port Ci) v → bit v slot ≡ false) → Does access old new
-      → IsOver (old.port port.0) slot → IsOver (new.port port.0) slot
+      → SlotHasNoCommand (old.port port.0) slot → SlotHasNoCommand (new.port port.0) slot
   -- the bytes of a slot say one command
   pub decoding_is_unique : (memory : ℕ → ℕ) (list slot : ℕ) (m n : Meaning) (xs ys : List ℕ)
       → DecodesTo memory list slot m xs
@@ -206,10 +207,11 @@ pub record AgeLaws : Type 0 where
 
 -- requests that are unanswered or kept
 pub record FrameHolderLaws : Type 0 where
-  pub legal_histories_stay_in_limits : (start : Machine) (history : List Step) → IsInitial start → IsLegal start history
+  pub enabled_histories_stay_in_limits : (start : Machine) (history : List Step) → IsInitial start
+      → AllEnabled start history
       → KeepsLimitsAndHoldsOwnFrames (after start history)
   pub frame_holders_were_accepted : (start : Machine) (history : List Step) (e : Pending) → IsInitial start
-      → IsLegal start history
+      → AllEnabled start history
       → IsInBookOrKept (after start history) e → WasAccepted start history e.request
   pub acceptable_is_granted : (m : Machine) (r : Accepted) → MayAccept m r → IsGranted m.rows r
   pub rows_shrink_and_owners_stay : (start : Machine) (history : List Step)

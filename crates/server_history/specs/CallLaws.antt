@@ -16,7 +16,7 @@ use Rattle.hba_regs.specs.declared.reg.PortReg.{PortReg}
 use Rattle.hba_regs.specs.declared.reg.PortReg.TheVariants.{Ci, Is, Sact, Sctl, Ssts}
 use Rattle.hba_regs.specs.declared.reg.Reg.TheVariants.{Ghc, Px}
 use Rattle.refinement.specs.Fragments.{IsDrivenBy, SparesOtherPorts, OnlyDeviceChangesPort, GainsNoMove, TapeGrows}
-use Rattle.refinement.specs.Errors.{NoDiskComes, IsFatalErrorOf}
+use Rattle.refinement.specs.Errors.{NoDiskComes, IsFatalEntryOf}
 use Rattle.refinement.specs.Laws.{FragmentLaws}
 use Rattle.refinement.specs.PortFacts.{IsHaltedPlainOrQueued, RecordsFaultsIfSt, RunsWell, ShowsNoTrouble, PxisValueTellsNoTrouble, Undisturbed, IsFaultOf}
 use Rattle.block_machine.specs.Events.{AbstractCall, AbstractState, AbstractCallResult, Service}
@@ -29,7 +29,7 @@ use Rattle.driver_history.specs.PortTurn.{HasTurnIn, EvidenceAgreesOn, call_acce
 use Rattle.driver_history.specs.AccessTrace.{WritesOneToNoTroubleBit, ResetsLink}
 use Rattle.port_control.specs.Engines.{Stops}
 use Rattle.port_control.specs.PortEvents.{TakesEvent, port_event_of, IsPxisSstsOrOwnIsAccess}
-use Rattle.port_control.specs.ServiceAccesses.{OldShowsChangeOrNoDeviceOrPlugEventComes, WritesOnlyHbaIsCiSactOrOtherPxIs, WritesOnlyHbaIsPxIsCiOrSact, HidesNoPlugEvent, HidesNoFatal, HidesNoFault}
+use Rattle.port_control.specs.ServiceAccesses.{ShowedLossOrHadPlugEvent, WritesOnlyHbaIsCiSactOrOtherPxIs, WritesOnlyHbaIsPxIsCiOrSact, HidesNoPlugEvent, HidesNoFatal, HidesNoFault}
 use Rattle.port_control.specs.declared.events.PortEvent.{PortEvent}
 use Rattle.port_control.specs.declared.events.PortEvent.TheVariants.{FatalError, TaskFileError, LinkChanged, NoEvent}
 use Rattle.server_history.specs.AccessPurposes.{AccessPurpose, slot_uses_for, accesses_for}
@@ -98,7 +98,7 @@ pub record LookLaws : Type 0 where
       → IsDrivenBy (WritesOnlyHbaIsCiSactOrOtherPxIs port) old new
       → HidesNoPlugEvent port.0 old new
   pub link_changed_means_loss : (port : Port) (old new : Device) → IsOn old → TakesEvent port LinkChanged old new
-      → (old.port port.0).link_due ≡ false → OldShowsChangeOrNoDeviceOrPlugEventComes port.0 old new
+      → (old.port port.0).link_due ≡ false → ShowedLossOrHadPlugEvent port.0 old new
   -- accesses that serve ports
   pub fragments : FragmentLaws AccessPurpose accesses_for slot_uses_for
   pub look_access_is_service_access : (port : Port) (access : Access) → IsPxisSstsOrOwnIsAccess port access
@@ -208,10 +208,10 @@ pub record CallLaws : Type 0 where
   -- what came since ST was set
   pub fatal_in_part_is_in_whole : (port : ℕ) (old start end new : Device) → TapeGrows old start → TapeGrows end new
       → (new.port port).notes.st_set_at ≡ (end.port port).notes.st_set_at
-      → GainsSinceStart (IsFatalErrorOf port) port start end
-      → GainsSinceStart (IsFatalErrorOf port) port old new
+      → GainsSinceStart (IsFatalEntryOf port) port start end
+      → GainsSinceStart (IsFatalEntryOf port) port old new
   pub untroubled_since_st_is_calm : (port : ℕ) (old mid new : Device) → TapeGrows old mid → TapeGrows mid new
       → (new.port port).notes.st_set_at
       ≤ length mid.tape → NoPlugEvents port old new
-      → (GainsSinceStart (IsFaultOf port) port old new → ⊥) → (GainsSinceStart (IsFatalErrorOf port) port old new → ⊥)
+      → (GainsSinceStart (IsFaultOf port) port old new → ⊥) → (GainsSinceStart (IsFatalEntryOf port) port old new → ⊥)
       → Undisturbed port mid new

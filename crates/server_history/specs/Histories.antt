@@ -6,8 +6,8 @@ use Rattle.adapter.specs.declared.access.DeviceStep.{DeviceStep}
 use Rattle.block_machine.specs.Events.{AbstractCall, AbstractCallResult, Stored, Loaded}
 use Rattle.block_machine.specs.Histories.{JointState, JointEvent}
 use Rattle.block_machine.specs.Histories as histories
-use Rattle.driver_history.specs.Histories.{IsFirstInstant, CallCorresponds}
-use Rattle.server_history.specs.ServerState.{ServerState, ports_of, SettledInvariant, MachineRelation}
+use Rattle.driver_history.specs.Histories.{HasDriverInvariantAeAndIe, CallCorresponds}
+use Rattle.server_history.specs.ServerState.{ServerState, ports_of, InvariantWithNoneDue, MachineRelation}
 use Rattle.server_history.specs.StuckServer.{StuckInvariant}
 
 -- An instant of a history is where the server stands: the device is its own, the ports are what it says, and the
@@ -29,7 +29,7 @@ load_result (Err fault) bytes = Loaded (Err fault)
 
 -- the history leads to the server
 abbrev pub LeadsToServer : JointState Device → List (JointEvent Device DeviceStep) → ServerState → Type 0
-LeadsToServer first past s = histories.LeadsTo (IsFirstInstant s.wanted)
+LeadsToServer first past s = histories.LeadsTo (HasDriverInvariantAeAndIe s.wanted)
     (CallCorresponds s.wanted) ServerRelation first past s
 
 -- To every history that leads to the old server, a call that asked this and said that adds one event, which leads to
@@ -41,9 +41,9 @@ ExtendsHistory old new ask said = (first : JointState Device) (past : List (Join
     × LeadsToServer first (h ∷ past) new
 
 -- So it does; and the new server's adapter is on, and each request is issued that is due.
-pub record ExtendsToSettled (old new : ServerState) (ask : AbstractCall DeviceStep) (said : AbstractCallResult) : Type 0
+pub record ExtendsToNoneDue (old new : ServerState) (ask : AbstractCall DeviceStep) (said : AbstractCallResult) : Type 0
   where
-    pub settled_invariant : SettledInvariant new
+    pub invariant_with_none_due : InvariantWithNoneDue new
     pub extends_history : ExtendsHistory old new ask said
 
 -- So it does; and the new server's adapter hasn't been seen to end a reset.
@@ -55,7 +55,7 @@ pub record ExtendsToStuck (old new : ServerState) (ask : AbstractCall DeviceStep
 -- What holds of a server between calls, by whether its last reset got stuck: its adapter is on, and each request is
 -- issued that is due; or the adapter hasn't been seen to end that reset.
 abbrev pub InvariantBetweenCalls : Bool → ServerState → Type 0
-InvariantBetweenCalls false s = SettledInvariant s
+InvariantBetweenCalls false s = InvariantWithNoneDue s
 InvariantBetweenCalls true s = StuckInvariant s
 
 -- So it does, and it is for the new server as it was.

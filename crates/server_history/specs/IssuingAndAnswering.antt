@@ -18,7 +18,7 @@ use Rattle.block_machine.specs.Steps.{Step, Answer, Issue, AllTouched}
 use Rattle.dma_frames.specs.FrameTables.{OwnersAndLoans, SetsLoanOnly}
 use Rattle.hba_regs.specs.Bits.{bit}
 use Rattle.commands.specs.Masks.{ReadsDone}
-use Rattle.commands.specs.Batches.{BatchSlotsAreUnused, IsBatchIssued, IsBatchAccess, IsSlotOf, PlacedTask}
+use Rattle.commands.specs.Batches.{BatchSlotsAreUnused, IsBatchIssued, IsCommandIssueAccess, IsSlotOf, PlacedTask}
 use Rattle.commands.specs.declared.ncq.Task.{Task}
 use Rattle.request_queue.specs.BookEntries.{BookEntry, BookIsWellFormed, IsWellFormedEntry, IsEarlier, as_unanswered, unanswered_of, update_if_id, due_ids, issued_request, without_entry}
 use Rattle.request_queue.specs.BookRelation.{EntryRelation}
@@ -59,7 +59,7 @@ pub record PollsSlots (port : Port) (slots : PortSlots) (mask : ℕ) (replies : 
   pub answered_iff_done : (slot : ℕ) (used : SlotUse) → slot < 32 → use_at slots slot ≡ Some used → bit done slot ≡ true
       ↔ IsAnsweredIn used.id replies
   pub none_done_answers_none : IsEmptyMask done → (replies ≡ []) × (new ≡ device_after_read)
-  pub only_issuing_follows : IsDrivenBy (IsBatchAccess port) device_after_read new
+  pub only_issuing_follows : IsDrivenBy (IsCommandIssueAccess port) device_after_read new
 
 -- The slots that are used were checked. Where none is, nothing was read, nobody was answered, and that was all.
 pub record PollsUsedSlots (port : Port) (slots : PortSlots) (replies : List Reply) (old new : Device) : Type 0 where

@@ -12,9 +12,9 @@ pub record GivesBackLoans (old new : OwnersAndLoans) (Such : Lending → Type 0)
   pub other_loans_are_kept : (f : Frame) → ((loan : Lending) → Such loan → Contains loan.frames f → ⊥) → lent_to new f
       ≡ lent_to old f
 
--- Loans end one after another. Where some have ended, a loan of another request is lent out still; where others end
--- then, all of them have ended; and it doesn't matter in which order they are told.
-pub record LoansEndInTurn : Type 0 where
+-- Loans may be given back in parts. Where some have ended, a loan of another request is lent out still; where others
+-- end then, all of them have ended; and it doesn't matter in which order they are told.
+pub record GivingBackLoansComposes : Type 0 where
   pub other_loan_stays_lent_out : (old new : OwnersAndLoans) (ended : List Lending) (loan : Lending)
       → GivesBackLoans old new (Contains ended)
       → ((other : Lending) → Contains ended other → IsLentOut old other × DifferInRequest other loan)

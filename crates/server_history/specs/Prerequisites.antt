@@ -2,6 +2,7 @@
 -- rest on them.
 use Rattle.std.specs.Prelude.{ℕ, true, false, ◌≡◌, ◌≢◌, ◌+◌, ◌*◌, ◌%◌, ◌≤◌, ◌<◌, ◌↔◌, List, [], ◌∷◌, ◌++◌, map, Option, None, Some, All, Contains, length, Bool, filter}
 use Rattle.ata_types.specs.declared.Port.{Port}
+use Rattle.ata_types.specs.declared.limits.TheConstants.{MOST_UNANSWERED_OF_A_CLIENT}
 use Rattle.ata_types.specs.declared.memory.TheConstants.{DRIVER_BYTES, FRAME_BYTES}
 use Rattle.ata_types.specs.declared.request.Frame.{Frame}
 use Rattle.ata_types.specs.declared.request.Outcome.{Outcome}
@@ -29,7 +30,7 @@ use Rattle.refinement.specs.Replug.{replug_candidates}
 use Rattle.adapter.specs.Idle.{IsIdle}
 use Rattle.refinement.specs.Driver.{EndsInOneStep, EndsInSteps, TapeBacksSteps, DriverState, DriverRelation, idle_driver_state}
 use Rattle.refinement.specs.Slots.{Own, SlotStates, client_operation_of}
-use Rattle.refinement.specs.Vacant.{HasFirstFisIfShown, IsVacant}
+use Rattle.refinement.specs.Vacant.{HasFirstFisIfDet3, IsVacant}
 use Rattle.block_machine.specs.DueRequests.{AreAllDueInOrder, IsDue, IsInOrder, due_of, requests_of_port, with_issued, without_request, with_waiting}
 use Rattle.refinement.specs.Errors.{NoDiskComes}
 use Rattle.block_machine.specs.State.{Machine, Pending}
@@ -51,7 +52,7 @@ use Rattle.port_boot.specs.States.{StaysRunningIfUndisturbed, IsBootAccess}
 use Rattle.port_control.specs.Engines.{EngineFalls, EngineSticks}
 use Rattle.error_recovery.specs.Recovery.{IsRecoveryAccess}
 use Rattle.commands.specs.Masks.{ReadsDone, ReadsCiOrSact}
-use Rattle.commands.specs.Batches.{IsBatchAccess, IssuesBatch, MayServeBatch, PlacedTask, issues_newest_first, with_serving_batch}
+use Rattle.commands.specs.Batches.{IsCommandIssueAccess, IssuesBatch, MayServeBatch, PlacedTask, issues_newest_first, with_serving_batch}
 use Rattle.commands.specs.Tasks.{IsTaskOf}
 use Rattle.port_control.specs.EventLaws.{Laws}
 use Rattle.request_queue.specs.BookEntries.{BookEntry, IsWellFormedEntry, IsEarlier, IsNewlyAccepted, BookIsWellFormed, IsWaiting, IsIssuedBelowLimit, with_requests_under_grant_revoked, unanswered_of, update_if_id, issued_request, waiting_again_request, entry_count_of_client, without_entry}
@@ -92,7 +93,8 @@ pub record PrerequisiteLaws : Type 0 where
   pub appending_keeps_book_well_formed : (entries : List BookEntry) (e : BookEntry) → BookIsWellFormed entries
       → All (λ x. IsEarlier x e) entries
       → IsNewlyAccepted e.request
-      → 1 ≤ e.request.client.0 → e.request.client.0 ≤ 8 → entry_count_of_client entries e.request.client.0 < 16
+      → 1 ≤ e.request.client.0 → e.request.client.0 ≤ 8 → entry_count_of_client entries e.request.client.0
+      < MOST_UNANSWERED_OF_A_CLIENT
       → BookIsWellFormed (entries ++ e ∷ [])
   pub issuing_keeps_book_well_formed : (entries : List BookEntry) (id : RequestId) → BookIsWellFormed entries
       → IsWaiting id entries
@@ -195,7 +197,7 @@ pub record PrerequisiteLaws : Type 0 where
       → IsReachable m → DriverRelation m (driver_state_of_slots s old) → MayServeBatch port tasks mode es s m
       → (q : ℕ) (o : Operation) → client_operation_of o ≡ None → (s.slot_states q 0 ≡ Own o → ⊥)
       → GainsNoMove q o old new
-  pub batch_access_is_of_port : (port : Port) (access : Access) → IsBatchAccess port access
+  pub batch_access_is_of_port : (port : Port) (access : Access) → IsCommandIssueAccess port access
       → SparesOtherPorts port access
   -- it is found done
   pub mask_access_is_of_port : (port : Port) (access : Access) → ReadsCiOrSact port access
@@ -297,12 +299,12 @@ pub record PrerequisiteLaws : Type 0 where
       → (old.port port.0).present ≡ false → (new.port port.0).present ≡ false
   pub vacant_port_stays_vacant_if_no_disk_comes : (port : Port) (access : Access) (old new : Device)
       → NoDiskComes port.0 old new → Does access old new → IsVacant (old.port port.0) → IsVacant (new.port port.0)
-  pub first_fis_if_shown_stays_if_no_disk_comes : (port : Port) (access : Access) (old new : Device)
+  pub first_fis_if_det_3_stays_if_no_disk_comes : (port : Port) (access : Access) (old new : Device)
       → NoDiskComes port.0 old new → Does access old new
-      → HasFirstFisIfShown (old.port port.0) → HasFirstFisIfShown (new.port port.0)
-  pub comreset_has_first_fis_if_shown : (port : Port) (v : ℕ) (old new : Device) → v % 16 ≡ 1
+      → HasFirstFisIfDet3 (old.port port.0) → HasFirstFisIfDet3 (new.port port.0)
+  pub comreset_has_first_fis_if_det_3 : (port : Port) (v : ℕ) (old new : Device) → v % 16 ≡ 1
       → Writes (Px port Sctl) v old new
-      → HasFirstFisIfShown (new.port port.0)
+      → HasFirstFisIfDet3 (new.port port.0)
   pub plug_events_are_told : (port : Port) (m : Machine) (gained : List TapeEntry) (steps : List Step)
       → TellsDeviceSteps m gained steps
       → (e : TapeEntry) → Contains gained e → IsPlugEvent port.0 e → list_any (changes_disk port) steps ≡ true

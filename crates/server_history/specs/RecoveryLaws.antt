@@ -18,7 +18,7 @@ use Rattle.refinement.specs.Fragments.{IsDrivenBy, SparesOtherPorts, GainsNoMove
 use Rattle.refinement.specs.Driver.{DriverAdvances, DriverState, DriverRelation}
 use Rattle.refinement.specs.Errors.{NoFatalErrors}
 use Rattle.refinement.specs.PortFacts.{RecordsFaultsIfSt, Undisturbed}
-use Rattle.refinement.specs.Halting.{NotLogOnlyAndQueuedHaltHasTakenCommand, NotLogOnlyAndQueuedHaltHasTakenCommandIfSt}
+use Rattle.refinement.specs.Halting.{HaltFitsTakenCommands, HaltFitsTakenCommandsIfSt}
 use Rattle.refinement.specs.PreservedParts.{HasDet3IfDiskPresent, KeepsDisk, NoPlugEvents, SameAdapter, DoesNotWrite}
 use Rattle.refinement.specs.HaltRecovery.{WorksOnUnqueuedCommandsOnly}
 use Rattle.refinement.specs.Slots.{Serves, SlotState, SlotStates, set_slot_state, serving_count}
@@ -114,14 +114,14 @@ pub record PortErrorLaws : Type 0 where
       → IsReachable m
       → DriverRelation m k
       → AreActsDone acts k m later → All (DoesNotWrite (Px port Cmd)) (accesses_of acts)
-      → NotLogOnlyAndQueuedHaltHasTakenCommandIfSt (k.device.port port.0)
-      → NotLogOnlyAndQueuedHaltHasTakenCommandIfSt (later.device.port port.0)
+      → HaltFitsTakenCommandsIfSt (k.device.port port.0)
+      → HaltFitsTakenCommandsIfSt (later.device.port port.0)
   pub halt_of_taken_stays_but_for_cmd_write : (uses : SlotStates) (m : Machine) (port : Port) (access : Access)
       (old new : Device)
       → IsReachable m
       → StateRelation uses m old → DoesNotWrite (Px port Cmd) access → Does access old new
-      → NotLogOnlyAndQueuedHaltHasTakenCommandIfSt (old.port port.0)
-      → NotLogOnlyAndQueuedHaltHasTakenCommandIfSt (new.port port.0)
-  pub unhalted_has_no_halt : (p : DevicePort) → p.halt ≡ NotHalted → NotLogOnlyAndQueuedHaltHasTakenCommand p
+      → HaltFitsTakenCommandsIfSt (old.port port.0)
+      → HaltFitsTakenCommandsIfSt (new.port port.0)
+  pub not_halted_fits_taken_commands : (p : DevicePort) → p.halt ≡ NotHalted → HaltFitsTakenCommands p
   pub plain_port_halt_is_of_taken : (p : DevicePort) → WorksOnUnqueuedCommandsOnly p
-      → NotLogOnlyAndQueuedHaltHasTakenCommand p
+      → HaltFitsTakenCommands p

@@ -10,8 +10,8 @@ use Rattle.server_history.specs.ErrorHandling.{book_and_loans_of}
 use Rattle.server_history.specs.ServerState.{ServerState}
 
 -- the server without the client's grant of this number, and with each request marked that was accepted under it
-abbrev pub with_grant_removed_and_its_requests_marked : ClientId → ℕ → ServerState → ServerState
-with_grant_removed_and_its_requests_marked client number s = record s {
+abbrev pub with_grant_revoked : ClientId → ℕ → ServerState → ServerState
+with_grant_revoked client number s = record s {
   grants = without_row client number s.grants;
   book = with_requests_under_grant_revoked client number s.book;
 }
@@ -21,9 +21,9 @@ with_grant_removed_and_its_requests_marked client number s = record s {
 pub record RevokesGrant (client : ClientId) (number : ℕ) (replies : List Reply) (old new : ServerState) : Type 0 where
   pub has_grant_row : HasRow client number old.grants
   pub waiting_are_told_revoked : CompletesAllWith (waits_under client number) Revoked replies
-      (book_and_loans_of has_grant_row.0.port (with_grant_removed_and_its_requests_marked client number old))
+      (book_and_loans_of has_grant_row.0.port (with_grant_revoked client number old))
       (book_and_loans_of has_grant_row.0.port new)
-  pub server_is : new ≡ record (with_grant_removed_and_its_requests_marked client number old) {
+  pub server_is : new ≡ record (with_grant_revoked client number old) {
     table = new.table;
     book = new.book;
   }

@@ -13,7 +13,7 @@ use Rattle.adapter.specs.Device.{Device}
 use Rattle.adapter.specs.Rules.{IsOn, HasPort}
 use Rattle.refinement.specs.Fragments.{driver_state_of}
 use Rattle.refinement.specs.Driver.{DriverRelation}
-use Rattle.refinement.specs.Halting.{NotLogOnlyAndQueuedHaltHasTakenCommand}
+use Rattle.refinement.specs.Halting.{HaltFitsTakenCommands}
 use Rattle.refinement.specs.PreservedParts.{HasDet3IfDiskPresent}
 use Rattle.refinement.specs.ReadySlots.{IsStoredOnPortWithStSet}
 use Rattle.refinement.specs.Slots.{Free, Serves, SlotState, SlotStates}
@@ -160,19 +160,19 @@ abbrev pub with_slot : List PortSlots → ℕ → ℕ → Option SlotUse → Lis
 with_slot slots port slot used = slice_set slots port (with_use (slice_index_or slots port no_slots) slot used)
 
 -- it serves its request, or is free
-abbrev pub slot_state_of : Option SlotUse → SlotState
-slot_state_of None = Free
-slot_state_of (Some used) = Serves used.id
+abbrev pub slot_state_of_use : Option SlotUse → SlotState
+slot_state_of_use None = Free
+slot_state_of_use (Some used) = Serves used.id
 
 -- A slot is used as the server has it, unless its port is dead: there an engine was awaited in vain, or the adapter
 -- isn't on, so that what was in the slot may be there still, and nobody asks for it until the adapter is reset.
-abbrev pub SlotUseAgreesUnlessDead : ProbeResult → Option SlotUse → SlotState → Type 0
-SlotUseAgreesUnlessDead found used u = found ≢ Unready Dead → u ≡ slot_state_of used
+abbrev pub SlotStateAgreesUnlessDead : ProbeResult → Option SlotUse → SlotState → Type 0
+SlotStateAgreesUnlessDead found used u = found ≢ Unready Dead → u ≡ slot_state_of_use used
 
--- each slot of each port is used so
-abbrev pub SlotUsesAgreeUnlessDead : ServerState → SlotStates → Type 0
-SlotUsesAgreeUnlessDead s uses = (port slot : ℕ)
-    → SlotUseAgreesUnlessDead (probe_result_of s.probe_results port) (used_for s.slots port slot) (uses port slot)
+-- so each slot of each port agrees
+abbrev pub SlotStatesAgreeUnlessDead : ServerState → SlotStates → Type 0
+SlotStatesAgreeUnlessDead s uses = (port slot : ℕ)
+    → SlotStateAgreesUnlessDead (probe_result_of s.probe_results port) (used_for s.slots port slot) (uses port slot)
 
 -- the loans of the port that are kept
 abbrev pub quarantined_at : List (List Lending) → ℕ → List Lending
@@ -203,7 +203,7 @@ pub record KeptRequestsRelation (found : List ProbeResult) (kept : List (List Le
 -- and its next id.
 pub record MachineRelation (s : ServerState) (m : Machine) : Type 0 where
   pub uses : SlotStates
-  pub slot_uses_agree_unless_dead : SlotUsesAgreeUnlessDead s uses
+  pub slot_states_agree_unless_dead : SlotStatesAgreeUnlessDead s uses
   pub awaiting_disposition : ℕ → List RequestId
   pub only_dead_ports_park : (port : ℕ) → probe_result_of s.probe_results port ≢ Unready Dead
       → awaiting_disposition port ≡ []
@@ -234,9 +234,9 @@ pub record PortInvariant (wanted : List Wanted) (found : List ProbeResult) (port
   pub ready_engine_runs : state_of (probe_result_of found port) ≡ ReadyState → EngineRuns port d
   pub bad_disk_is_shown_if_in : FoundUnusableDevice (state_of (probe_result_of found port))
       → HasDet3IfDiskPresent (d.port port)
-  pub ready_has_disk_if_shown : state_of (probe_result_of found port) ≡ ReadyState → ShownDiskIsIn (d.port port)
-  pub ready_is_not_log_only_and_halt_is_of_taken : state_of (probe_result_of found port) ≡ ReadyState
-      → NotLogOnlyAndQueuedHaltHasTakenCommand (d.port port)
+  pub ready_has_disk_if_det_3 : state_of (probe_result_of found port) ≡ ReadyState → ShownDiskIsIn (d.port port)
+  pub ready_halt_fits_taken_commands : state_of (probe_result_of found port) ≡ ReadyState
+      → HaltFitsTakenCommands (d.port port)
 
 -- how many slots of a port may be used: those of its mode, if it is ready
 abbrev pub usable_slots_of : ProbeResult → QueueMode → ℕ
@@ -311,9 +311,9 @@ pub record InCallInvariant (s : ServerState) : Type 0 where
   pub machine_relation : MachineRelation s machine
 
 -- Between calls each request is issued that is due.
-pub record SettledInvariant (s : ServerState) : Type 0 where
+pub record InvariantWithNoneDue (s : ServerState) : Type 0 where
   pub in_call_invariant : InCallInvariant s
-  pub nothing_is_due : (port : Port) → NoneDue (mode_in s port) (unanswered_of s.book) port
+  pub none_is_due : (port : Port) → NoneDue (mode_in s port) (unanswered_of s.book) port
 
 -- A server as it is made: what was found and wanted of four ports, of which it remembers nothing else, at most 64
 -- grants that differ in name, owners that are clients 1 to 8, no frame lent, nothing asked or kept, and no id handed

@@ -12,7 +12,7 @@ use Rattle.adapter.specs.declared.tape.Fault as tape_fault
 use Rattle.refinement.specs.Relation.{port_at}
 use Rattle.refinement.specs.Fragments.{SparesOtherPorts, GainsNoMove}
 use Rattle.refinement.specs.Driver.{TapeBacksSteps}
-use Rattle.block_machine.specs.Events.{AbstractCall, AnswersAndWaitsLawful, AllEnabled, AnswersOkWhatHadEnded, AreStepsOfCall, UnpluggedOutcomeExcludesDeadAndSameSerialAndSize, ShownDiskWasInOrCame, IsByDevice, IssueIsLastOfRequest, AbstractState, IssuedOnPortAreIssuedInSteps, Replied, Service, RepliesMatch, Tick, UnpluggedOutcomeEmptiesPort}
+use Rattle.block_machine.specs.Events.{AbstractCall, AnswersAndWaitsLawful, AllEnabled, AnswersOkWhatHadEnded, AreStepsOfCall, UnpluggedExcludesDeadAndSameDisk, ShownDiskWasInOrCame, IsByDevice, IssueIsLastOfRequest, AbstractState, IssuedOnPortAreIssuedInSteps, Replied, Service, RepliesMatch, Tick, UnpluggedOutcomeEmptiesPort}
 use Rattle.block_machine.specs.DueRequests.{requests_of_port}
 use Rattle.block_machine.specs.Histories.{JointEvent, JointState, IsReachable}
 use Rattle.block_machine.specs.Expected.{after}
@@ -35,7 +35,7 @@ use Rattle.port_control.specs.declared.events.PortError.TheVariants.{TimedOut}
 use Rattle.server_history.specs.ErrorHandling.{HandlesPortError}
 use Rattle.server_history.specs.Probing.{ProbesPort}
 use Rattle.server_history.specs.IssuingAndAnswering.{TurnAnswers, PollsInTurnWithoutEvent}
-use Rattle.server_history.specs.ServerState.{ServerState, MachineRelation, SettledInvariant, mode_at, mode_in, ports_of, remembered_at, slots_at, state_of, used_for}
+use Rattle.server_history.specs.ServerState.{ServerState, MachineRelation, InvariantWithNoneDue, mode_at, mode_in, ports_of, remembered_at, slots_at, state_of, used_for}
 use Rattle.slots.specs.declared.SlotUse.{SlotUse}
 
 -- the abstract and the joint state in which a machine stands for the server
@@ -156,28 +156,28 @@ pub record RestartsPort (port : Port) (accesses : List Access) (old new : Server
   pub answers_ok_what_had_ended : AnswersOkWhatHadEnded m steps port
   pub is_stopped_or_stuck : IsStoppedOrStuck evidence port
   pub issued_are_issued_in_steps : IssuedOnPortAreIssuedInSteps steps (after m steps) port
-  pub unplugged_lost_its_disk : UnpluggedOutcomeExcludesDeadAndSameSerialAndSize steps (ports_of old) (ports_of new)
+  pub unplugged_lost_its_disk : UnpluggedExcludesDeadAndSameDisk steps (ports_of old) (ports_of new)
   pub shown_disk_was_in_or_came : ShownDiskWasInOrCame (abstract_state_of old m) steps
       (abstract_state_of new (after m steps)) port
 
 -- What a turn does of requeues, aborts, Revoked and faults. In a service requests wait again, are aborted, told Revoked
 -- or a fault, on ports alone that failed; of a port that isn't ready no fault is told, and no loss. A restart restarts
 -- the port, and tells no fault. Where a port rests nothing is done.
-abbrev pub RequeuesOnFailedPortsOrRestartsOrRestsByTurn : Turn → Port → List Access → ServerState → ServerState
+abbrev pub RequeuesAndAbortsFitTurn : Turn → Port → List Access → ServerState → ServerState
     → Machine
     → Evidence → List Step
     → Type 0
-RequeuesOnFailedPortsOrRestartsOrRestsByTurn ServingReady port accesses old new m evidence steps =
+RequeuesAndAbortsFitTurn ServingReady port accesses old new m evidence steps =
     OnlyFailedPortsRequeueAbortRevokeOrFault evidence
     steps
-RequeuesOnFailedPortsOrRestartsOrRestsByTurn InProbe port accesses old new m evidence steps =
+RequeuesAndAbortsFitTurn InProbe port accesses old new m evidence steps =
     OnlyFailedPortsRequeueAbortRevokeOrFault evidence steps
     × (evidence.faults ≡ [])
     × (evidence.lost ≡ [])
-RequeuesOnFailedPortsOrRestartsOrRestsByTurn InRestart port accesses old new m evidence steps =
+RequeuesAndAbortsFitTurn InRestart port accesses old new m evidence steps =
     RestartsPort port accesses old new m evidence steps
     × (evidence.faults ≡ [])
-RequeuesOnFailedPortsOrRestartsOrRestsByTurn RestingInTick port accesses old new m evidence steps = (accesses ≡ [])
+RequeuesAndAbortsFitTurn RestingInTick port accesses old new m evidence steps = (accesses ≡ [])
     × (steps ≡ [])
     × (evidence.faults ≡ [])
     × (IsStoppedOrStuck evidence port → ⊥)
@@ -199,7 +199,7 @@ pub record SimulatesTurn (turn : Turn) (port : Port) (replies : List Reply) (acc
   pub issues_are_last : IssueIsLastOfRequest steps
   pub names_only_port : PortListsNameOnly port evidence
   pub answers_are_lawful : AnswersAndWaitsLawful (abstract_state_of old m) evidence (ports_of new) steps
-  pub requeues_on_failed_port_or_restarts_by_turn : RequeuesOnFailedPortsOrRestartsOrRestsByTurn turn port
+  pub requeues_and_aborts_fit_turn : RequeuesAndAbortsFitTurn turn port
       accesses old new m evidence steps
   pub replies_match : RepliesMatch steps replies
   pub unplugged_outcome_empties_port : UnpluggedOutcomeEmptiesPort steps (after m steps)
@@ -273,10 +273,10 @@ abbrev pub EachPortTakesTurn : (Port → List Reply → ServerState → ServerSt
 EachPortTakesTurn Such Other port [] replies old new = (replies ≡ []) × (new ≡ old)
 EachPortTakesTurn Such Other port (Ready info ∷ rest) replies old new =
     (mid : ServerState) × (its later : List Reply) × (replies ≡ its ++ later)
-    × SettledInvariant mid × Such (port_at port) its old mid
+    × InvariantWithNoneDue mid × Such (port_at port) its old mid
     × EachPortTakesTurn Such Other (port + 1) rest later mid new
 EachPortTakesTurn Such Other port (Unready state ∷ rest) replies old new =
-    (mid : ServerState) × SettledInvariant mid × Other (port_at port) old mid
+    (mid : ServerState) × InvariantWithNoneDue mid × Other (port_at port) old mid
     × EachPortTakesTurn Such Other (port + 1) rest replies mid new
 EachPortTakesTurn Such Other port (Unserved ∷ rest) replies old new =
     EachPortTakesTurn Such Other (port + 1) rest replies old new

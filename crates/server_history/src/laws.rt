@@ -2,9 +2,9 @@
 ghost use Rattle.std.specs.Prelude.{ℕ, Bool, true, false, ◌≡◌, ◌≢◌, ◌<◌, ◌≤◌, ◌+◌, ◌*◌, ◌/◌, ◌%◌, ◌++◌, List, [], ◌∷◌, Some, None, Ok, Err, length, All, Contains, count_by, not};
 ghost use Rattle.ata_types.specs.{declared.Port.{Port}, declared.PortState.TheVariants.{Dead, Ready as ReadyState}, declared.grant.GrantRow.{GrantRow}, declared.memory.TheConstants.{FRAME_BYTES}, declared.refusal.MemFault.{MemFault}, declared.refusal.Refusal.{Refusal}, declared.request.ClientId.{ClientId}, declared.request.Frame.{Frame}, declared.request.Reply.{Reply}, declared.request.Request.{Request}};
 ghost use Rattle.ata_types.specs.{declared.request.RequestId.{RequestId}, declared.PortState.{PortState}};
-ghost use Rattle.adapter.specs.{Access.{Loads, Stores}, AskedSteps.{DoesOrFailsStep}, Device.{Device}, Idle.{IsIdle, DisksAreKnownIfTelling}, Rules.{HasPort, IsInMemoryNotOwnedByDevice, IsOn, IsStable}, Steps.{Steps}, declared.access.DeviceStep.{DeviceStep}};
-ghost use Rattle.refinement.specs.{Fragments.{SomeMachineAgreesWith, AnySlotStates, IsSimulated}, PortFacts.{RunsWell, Undisturbed}, Slots.{IsOver}};
-ghost use Rattle.block_machine.specs.{DueRequests.{IsDue, is_plain}, Events.{Submit, StoreAt, LoadAt, RevokeOf, Service, State, Tick, StepDevice as Told, Submitted, Replied, PortStateShown, Stepped, WasRevoked}, Refusals.{IsAcceptable, IsFirstRefusal, MayAccessFrame, IsFirstMemFault}, Rules.{HasRow, IsNamed}};
+ghost use Rattle.adapter.specs.{Access.{Loads, Stores}, AskedSteps.{DoesOrFailsStep}, Device.{Device}, Idle.{IsIdle, DisksAreKnownIfTelling}, OneCommand.{SlotHasNoCommand}, Rules.{HasPort, IsInMemoryNotOwnedByDevice, IsOn, IsStable}, Steps.{Steps}, declared.access.DeviceStep.{DeviceStep}};
+ghost use Rattle.refinement.specs.{Fragments.{SomeMachineAgreesWith, AnySlotStates, IsSimulated}, PortFacts.{RunsWell, Undisturbed}};
+ghost use Rattle.block_machine.specs.{DueRequests.{IsDue, is_plain}, Events.{Submit, StoreAt, LoadAt, RevokeOf, Service, State, Tick, StepDevice, Submitted, Replied, PortStateShown, Stepped, WasRevoked}, Refusals.{IsAcceptable, IsFirstRefusal, MayAccessFrame, IsFirstMemFault}, Rules.{HasRow, IsNamed}};
 ghost use Rattle.command_table.specs.TableStores.{IsSlotStateFree};
 ghost use Rattle.dma_frames.specs.FrameTables.{OwnersAndLoans, SetsLoanOnly, owner_of, lent_to};
 ghost use Rattle.host_boot.specs.{TakeOver.{probe_result_of, TakesOver}, declared.ProbeResult.TheVariants.{Ready, Unready}, declared.Host.{Host}};
@@ -12,8 +12,8 @@ ghost use Rattle.identify.specs.declared.DiskInfo.{DiskInfo};
 ghost use Rattle.hba_regs.specs.Bits.{bit};
 ghost use Rattle.commands.specs.{Batches.{PlacedTask}, Masks.{ReadsDone, FindsEachClearSlot}};
 ghost use Rattle.request_queue.specs.BookEntries.{BookEntry, as_unanswered, unanswered_of, due_ids};
-ghost use Rattle.server_history.specs.{Histories.{ExtendsToSettled, ExtendsAndHasInvariantByStuck, ExtendsHistory, StartsHistory, InvariantBetweenCalls, load_result, store_result}, KeptLoans.{LoansEndInTurn}, Revoking.{RevokesGrant}, IssuingAndAnswering.{AcceptsAndIssues, AnswersDoneAndIssues, AnswersOne, IsEmptyMask, IsMaskOf, IssuesDueOfPort, IssuesTogetherIfAny, ChangesOnlySlotsAndBook, FindsSlotFor, PutsInSlot, PutsInSlots, with_accepted}};
-ghost use Rattle.server_history.specs.{StuckServer.{ServerInvariant}, Probing.{ProbesPort}, Turns.{IsPortTurn, InRestart, ServicesEachPort, ServicesPort, Ticks, ProbesUnready, a_tick_older}, ServerState.{ServerState, probed_mode, InCallInvariant, IsNewServer, SettledInvariant, quarantined_at, mode_in, ports_of, admission_context, slots_at, state_of, used_for}};
+ghost use Rattle.server_history.specs.{Histories.{ExtendsToNoneDue, ExtendsAndHasInvariantByStuck, ExtendsHistory, StartsHistory, InvariantBetweenCalls, load_result, store_result}, KeptLoans.{GivingBackLoansComposes}, Revoking.{RevokesGrant}, IssuingAndAnswering.{AcceptsAndIssues, AnswersDoneAndIssues, AnswersOne, IsEmptyMask, IsMaskOf, IssuesDueOfPort, IssuesTogetherIfAny, ChangesOnlySlotsAndBook, FindsSlotFor, PutsInSlot, PutsInSlots, with_accepted}};
+ghost use Rattle.server_history.specs.{StuckServer.{ServerInvariant}, Probing.{ProbesPort}, Turns.{IsPortTurn, InRestart, ServicesEachPort, ServicesPort, Ticks, ProbesUnready, a_tick_older}, ServerState.{ServerState, probed_mode, InCallInvariant, IsNewServer, InvariantWithNoneDue, quarantined_at, mode_in, ports_of, admission_context, slots_at, state_of, used_for}};
 ghost use Rattle.server_history.specs.ErrorHandling.{AreAllQueuedAs, IsErrorHandled, HasResolved, HandlesPortError, requests_of};
 ghost use Rattle.port_control.specs.{declared.events.PortError.TheVariants.{TimedOut}, PortEvents.{IsPxisSstsOrOwnIsAccess, TakesEvent}, declared.events.PortEvent.TheVariants.{TaskFileError, NoEvent}, Ports.{IsStopped}, declared.Stopped.{Stopped}};
 ghost use Rattle.slots.specs.{SlotUses.{IsLowestFree, IsTaken}, declared.SlotUse.{SlotUse}};
@@ -22,25 +22,25 @@ ghost use Rattle.port_boot.specs.States.{IsOnWithPortMemoryAndFreeSlots};
 
 use super::prerequisites::{law_frame_holder_prerequisites, law_history_prerequisites};
 use ata_types::MOST_READINGS;
-use host_boot::laws::law_what_was_taken_over_may_be_served;
+use host_boot::laws::law_taken_over_ports_are_as_their_state_says;
 
 /// A ready port of a new server runs well, if nothing went wrong on it since the adapter was idle.
-pub fn law_new_undisturbed_ready_ports_run_well()
+pub fn law_new_ready_ports_run_well_if_undisturbed()
     ensures { (s : ServerState) (host : Host) (idle : Device) (port : Port) → InCallInvariant s → IsIdle idle
         → TakesOver s.wanted host idle s.device → s.probe_results ≡ host.ports
         → state_of (probe_result_of s.probe_results port.0) ≡ ReadyState
         → Undisturbed port.0 idle s.device → RunsWell (s.device.port port.0) }
 {
-    law_what_was_taken_over_may_be_served();
+    law_taken_over_ports_are_as_their_state_says();
 }
 
 /// A server of an adapter that was taken over holds what a server keeps, and a history without calls leads to it.
 pub fn law_new_server_starts_history()
     ensures { (s : ServerState) (host : Host) (idle : Device) → IsIdle idle → DisksAreKnownIfTelling idle
-        → TakesOver s.wanted host idle s.device → IsNewServer host s → SettledInvariant s × StartsHistory s }
+        → TakesOver s.wanted host idle s.device → IsNewServer host s → InvariantWithNoneDue s × StartsHistory s }
 {
     law_history_prerequisites();
-    law_what_was_taken_over_may_be_served();
+    law_taken_over_ports_are_as_their_state_says();
 }
 
 /// A device that does what it is told adds an event, and so does one that can't. Where the adapter isn't on, it isn't
@@ -48,9 +48,9 @@ pub fn law_new_server_starts_history()
 pub fn law_device_steps_extend_history()
     ensures did { (stuck : Bool) (s : ServerState) (new : Device) (step : DeviceStep) → InvariantBetweenCalls stuck s
         → DoesOrFailsStep step s.device new → Steps s.device new
-        → ExtendsAndHasInvariantByStuck stuck s (record s { device = new }) (Told step) (Stepped true) }
+        → ExtendsAndHasInvariantByStuck stuck s (record s { device = new }) (StepDevice step) (Stepped true) }
     ensures did_not { (stuck : Bool) (s : ServerState) (step : DeviceStep) → InvariantBetweenCalls stuck s
-        → ExtendsHistory s s (Told step) (Stepped false) }
+        → ExtendsHistory s s (StepDevice step) (Stepped false) }
 {
     law_history_prerequisites();
 }
@@ -88,7 +88,7 @@ pub fn law_device_never_owns_accessible_frames()
 }
 
 /// Bytes that a client stores or loads, in a frame that it may access, add an event, whether or not the adapter is on.
-pub fn law_client_bytes_extend_history()
+pub fn law_client_loads_and_stores_extend_history()
     ensures store { (stuck : Bool) (s : ServerState) (new : Device) (client : ClientId) (frame : Frame) (offset : ℕ)
         (bytes : List ℕ) → InvariantBetweenCalls stuck s
         → MayAccessFrame (owner_of s.table) (lent_to s.table) client frame offset (length bytes)
@@ -183,7 +183,8 @@ pub fn law_requests_preserve_invariant()
     ensures answered { (s new : ServerState) (port : Port) (request : BookEntry) → InCallInvariant s
         → state_of (probe_result_of s.probe_results port.0)
         ≡ ReadyState
-        → (one : AnswersOne port request s new) → IsOver (s.device.port port.0) one.slot → InCallInvariant new }
+        → (one : AnswersOne port request s new) → SlotHasNoCommand (s.device.port port.0) one.slot
+        → InCallInvariant new }
     ensures issued { (s new : ServerState) (port : Port) (ids : List RequestId) → InCallInvariant s
         → IssuesTogetherIfAny port ids s new → InCallInvariant new }
     ensures revoked { (s new : ServerState) (client : ClientId) (number : ℕ) (replies : List Reply) → InCallInvariant s
@@ -193,11 +194,11 @@ pub fn law_requests_preserve_invariant()
 }
 
 /// Once requests are answered whose commands are over, and then what is due on their port is issued, nothing is due.
-pub fn law_answer_and_issue_settle()
-    ensures { (s new : ServerState) (port : Port) (done : ℕ) (replies : List Reply) → SettledInvariant s
+pub fn law_answer_and_issue_leave_none_due()
+    ensures { (s new : ServerState) (port : Port) (done : ℕ) (replies : List Reply) → InvariantWithNoneDue s
         → state_of (probe_result_of s.probe_results port.0) ≡ ReadyState
-        → ((slot : ℕ) → slot < 32 → bit done slot ≡ true → IsOver (s.device.port port.0) slot)
-        → AnswersDoneAndIssues port done replies s new → SettledInvariant new }
+        → ((slot : ℕ) → slot < 32 → bit done slot ≡ true → SlotHasNoCommand (s.device.port port.0) slot)
+        → AnswersDoneAndIssues port done replies s new → InvariantWithNoneDue new }
 {
     law_history_prerequisites();
 }
@@ -218,7 +219,7 @@ pub fn law_looks_preserve_invariant()
         → InCallInvariant s
         → state_of (probe_result_of s.probe_results port.0) ≡ ReadyState → IsMaskOf (slots_at s.slots port.0) mask
         → slot < 32
-        → ReadsDone port mask done s.device new → bit done slot ≡ true → IsOver (new.port port.0) slot }
+        → ReadsDone port mask done s.device new → bit done slot ≡ true → SlotHasNoCommand (new.port port.0) slot }
     ensures empty_look_is_simulated { (port : Port) (device : Device)
         → IsSimulated (IsPxisSstsOrOwnIsAccess port) AnySlotStates device device }
 {
@@ -228,13 +229,13 @@ pub fn law_looks_preserve_invariant()
 /// How a ready port is served: it is looked at. Where the look told of an error, it is handled; where the port uses
 /// no slot, that is all; else the slots that it uses are checked, those that are found done are answered, and what is
 /// due then is issued.
-pub fn law_a_port_is_served()
-    ensures no_slot_is_used { (s : ServerState) (seen : Device) (port : Port) → SettledInvariant s
+pub fn law_handling_look_result_is_a_service_turn()
+    ensures no_slot_is_used { (s : ServerState) (seen : Device) (port : Port) → InvariantWithNoneDue s
         → state_of (probe_result_of s.probe_results port.0)
         ≡ ReadyState
         → TakesEvent port NoEvent s.device seen → IsSimulated (IsPxisSstsOrOwnIsAccess port) AnySlotStates s.device seen
         → IsMaskOf (slots_at s.slots port.0) 0 → ServicesPort port [] s (record s { device = seen }) }
-    ensures none_is_done { (s : ServerState) (seen new : Device) (port : Port) (mask : ℕ) → SettledInvariant s
+    ensures none_is_done { (s : ServerState) (seen new : Device) (port : Port) (mask : ℕ) → InvariantWithNoneDue s
         → state_of (probe_result_of s.probe_results port.0) ≡ ReadyState → TakesEvent port NoEvent s.device seen
         → IsSimulated (IsPxisSstsOrOwnIsAccess port) AnySlotStates s.device seen
         → IsMaskOf (slots_at s.slots port.0) mask
@@ -243,36 +244,36 @@ pub fn law_a_port_is_served()
         → IsEmptyMask done → ServicesPort port [] s (record s { device = new }) }
     ensures some_are_done { (s new : ServerState) (seen found : Device) (port : Port) (mask done : ℕ)
         (replies : List Reply)
-        → SettledInvariant s → state_of (probe_result_of s.probe_results port.0) ≡ ReadyState
+        → InvariantWithNoneDue s → state_of (probe_result_of s.probe_results port.0) ≡ ReadyState
         → TakesEvent port NoEvent s.device seen → IsSimulated (IsPxisSstsOrOwnIsAccess port) AnySlotStates s.device seen
         → IsMaskOf (slots_at s.slots port.0) mask → (IsEmptyMask mask → ⊥) → ReadsDone port mask done seen found
         → FindsEachClearSlot port mask done seen → (IsEmptyMask done → ⊥)
         → AnswersDoneAndIssues port done replies (record s { device = found }) new → ServicesPort port replies s new }
-    ensures error_handled { (s new : ServerState) (port : Port) (replies : List Reply) → SettledInvariant s
+    ensures error_handled { (s new : ServerState) (port : Port) (replies : List Reply) → InvariantWithNoneDue s
         → state_of (probe_result_of s.probe_results port.0) ≡ ReadyState → (r : HandlesPortError port replies s new)
         → r.has_resolved.error_handled.port_error ≢ TimedOut
         → IsSimulated (IsPxisSstsOrOwnIsAccess port) AnySlotStates s.device
         r.has_resolved.error_handled.device_after_look
-        → ServicesPort port replies s new × SettledInvariant new }
+        → ServicesPort port replies s new × InvariantWithNoneDue new }
 {
     law_history_prerequisites();
 }
 
 /// How a port is restarted of which a request is hung: its error is handled, and that is its turn in a tick.
-pub fn law_a_timed_out_port_is_restarted()
-    ensures { (s new : ServerState) (port : Port) (replies : List Reply) → SettledInvariant s
+pub fn law_handling_timeout_is_a_restart_turn()
+    ensures { (s new : ServerState) (port : Port) (replies : List Reply) → InvariantWithNoneDue s
         → state_of (probe_result_of s.probe_results port.0)
         ≡ ReadyState
         → (r : HandlesPortError port replies s new) → r.has_resolved.error_handled.port_error ≡ TimedOut
         → IsPortTurn InRestart port replies s new
-        × SettledInvariant new }
+        × InvariantWithNoneDue new }
 {
     law_history_prerequisites();
 }
 
 /// A ready port that a look tells a failure of may be recovered once its masks were read: a fault has halted it, and it
 /// shows a device. Of plain commands a port has one alone, in slot 0.
-pub fn law_port_errors_may_be_handled()
+pub fn law_recover_preconditions_hold_after_look()
     ensures may_recover { (s : ServerState) (seen found : Device) (port : Port) (mask done : ℕ) → InCallInvariant s
         → state_of (probe_result_of s.probe_results port.0) ≡ ReadyState → TakesEvent port TaskFileError s.device seen
         → IsSimulated (IsPxisSstsOrOwnIsAccess port) AnySlotStates s.device seen → ReadsDone port mask done seen found
@@ -294,7 +295,7 @@ pub fn law_port_errors_may_be_handled()
 /// What comes after a recovery. A port that has to be booted may be; how it takes commands is what it was, by what the
 /// adapter is capable of; there is a place for the loan of each request of the port that is issued; once its requests
 /// were resolved, the server goes on; and nothing is due on a port that isn't ready.
-pub fn law_a_port_goes_on_after_its_errors()
+pub fn law_handled_port_errors_keep_invariant()
     ensures bootable { (s mid : ServerState) (device : Device) (port : Port) (token : Stopped) → InCallInvariant s
         → state_of (probe_result_of s.probe_results port.0) ≡ ReadyState → (r : IsErrorHandled port s mid device)
         → IsSimulated (IsPxisSstsOrOwnIsAccess port) AnySlotStates s.device r.device_after_look → r.result.next
@@ -324,9 +325,9 @@ pub fn law_a_port_goes_on_after_its_errors()
 
 /// A request that is accepted adds an event.
 pub fn law_acceptances_extend_history()
-    ensures { (s new : ServerState) (port : Port) (r : Request) (id : RequestId) → SettledInvariant s
+    ensures { (s new : ServerState) (port : Port) (r : Request) (id : RequestId) → InvariantWithNoneDue s
         → IsAcceptable (admission_context s) r → AcceptsAndIssues port r id s new
-        → ExtendsToSettled s new (Submit r) (Submitted (Ok id)) }
+        → ExtendsToNoneDue s new (Submit r) (Submitted (Ok id)) }
 {
     law_history_prerequisites();
 }
@@ -334,18 +335,18 @@ pub fn law_acceptances_extend_history()
 /// A client's grant that is revoked adds an event: the requests that waited under it are answered, and what is due on
 /// its port is issued.
 pub fn law_revocations_extend_history()
-    ensures { (s mid new : ServerState) (client : ClientId) (number : ℕ) (replies : List Reply) → SettledInvariant s
+    ensures { (s mid new : ServerState) (client : ClientId) (number : ℕ) (replies : List Reply) → InvariantWithNoneDue s
         → (revokes : RevokesGrant client number replies s mid) → IssuesDueOfPort revokes.has_grant_row.0.port mid new
-        → ExtendsToSettled s new (RevokeOf client number) (WasRevoked (Some replies)) }
+        → ExtendsToNoneDue s new (RevokeOf client number) (WasRevoked (Some replies)) }
 {
     law_history_prerequisites();
 }
 
 /// Ports that have their turns in a service one after another add an event: ready ones are served, and others probed.
 pub fn law_services_extend_history()
-    ensures { (s new : ServerState) (replies : List Reply) → SettledInvariant s
+    ensures { (s new : ServerState) (replies : List Reply) → InvariantWithNoneDue s
         → ServicesEachPort 0 s.probe_results replies s new
-        → ExtendsToSettled s new Service (Replied replies) }
+        → ExtendsToNoneDue s new Service (Replied replies) }
 {
     law_history_prerequisites();
 }
@@ -354,7 +355,7 @@ pub fn law_services_extend_history()
 /// Once it was looked at, it may be given up, and booted then, where it has stopped. All this is a part of a service,
 /// after which the server goes on. (In between it needn't: a look at an absent port that finds a device has read a
 /// value of PxSSTS that no absent port was left with.)
-pub fn law_an_unready_port_is_probed()
+pub fn law_probe_of_unready_port_is_a_service_turn()
     ensures look_keeps_relation { (s : ServerState) (seen : Device) (port : Port) (state : PortState)
         → InCallInvariant s
         → probe_result_of s.probe_results port.0 ≡ Unready state → state ≢ Dead
@@ -366,32 +367,32 @@ pub fn law_an_unready_port_is_probed()
         → IsSimulated (IsPxisSstsOrOwnIsAccess port) AnySlotStates s.device seen
         → StopsOrSticksForReset port 0 true result seen stopped → result.next ≡ Restart token
         → (token.port ≡ port) × IsOnWithPortMemoryAndFreeSlots port stopped × IsStopped (stopped.port port.0) }
-    ensures probe_is_a_turn { (s new : ServerState) (port : Port) → SettledInvariant s
+    ensures probe_is_a_turn { (s new : ServerState) (port : Port) → InvariantWithNoneDue s
         → (probes : ProbesPort port s new)
         → (probes.state ≢ Dead
         → IsSimulated (IsPxisSstsOrOwnIsAccess port) AnySlotStates s.device probes.device_after_look)
         → ProbesUnready port s new
-        × SettledInvariant new }
+        × InvariantWithNoneDue new }
 {
     law_history_prerequisites();
 }
 
 /// A server goes on while its requests get older.
 pub fn law_aging_keeps_invariant()
-    ensures { (s : ServerState) → SettledInvariant s → SettledInvariant (a_tick_older s) }
+    ensures { (s : ServerState) → InvariantWithNoneDue s → InvariantWithNoneDue (a_tick_older s) }
 {
     law_history_prerequisites();
 }
 
 /// A tick adds an event: requests get older, and ready ports have their turns one after another.
 pub fn law_ticks_extend_history()
-    ensures { (s new : ServerState) (replies : List Reply) → SettledInvariant s → Ticks replies s new
-        → ExtendsToSettled s new Tick (Replied replies) }
+    ensures { (s new : ServerState) (replies : List Reply) → InvariantWithNoneDue s → Ticks replies s new
+        → ExtendsToNoneDue s new Tick (Replied replies) }
 {
     law_history_prerequisites();
 }
 
-/// Loans end one after another.
-pub fn law_loans_end_in_turn()
-    ensures { LoansEndInTurn }
+/// Loans may be given back in parts, one after another, in any order.
+pub fn law_giving_back_loans_composes()
+    ensures { GivingBackLoansComposes }
 {}

@@ -34,7 +34,7 @@ pub fn law_quarantined_loans_are_lent()
 }
 
 /// The requests of one port are resolved, and those of the others may still.
-pub fn law_may_resolve_persists()
+pub fn law_resolving_one_port_lets_others_resolve()
     ensures { (s new : ServerState) (port : Port) (replies : List Reply) → port.0 < 4 → MayResolve s
         → ResolvesPort port replies s new → MayResolve new }
 {

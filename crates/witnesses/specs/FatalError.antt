@@ -17,14 +17,14 @@ use Rattle.adapter.specs.declared.access.DeviceStep.TheVariants.{Fatal}
 use Rattle.adapter.specs.declared.access.FatalError.TheVariants.{Interface}
 use Rattle.refinement.specs.Relation.{port_at}
 use Rattle.refinement.specs.ReadWitness.{first_id}
-use Rattle.block_machine.specs.Events.{Submit, Service, StepDevice as Told, Submitted, Replied, Stepped}
+use Rattle.block_machine.specs.Events.{Submit, Service, StepDevice, Submitted, Replied, Stepped}
 use Rattle.block_machine.specs.Histories.{JointState, JointEvent, joint_state_after}
 use Rattle.block_machine.specs.Ports.{Evidence}
 use Rattle.identify.specs.declared.wanted.Wanted.TheVariants.{Any}
 use Rattle.error_recovery.specs.Evidence.{ShowsFatal}
 use Rattle.driver_history.specs.Histories.{IsDriverHistory, PortCorresponds}
 use Rattle.witnesses.specs.AllowedAccesses.{AreAllowed}
-use Rattle.witnesses.specs.Restart.{restart_evidence, restart_accesses}
+use Rattle.witnesses.specs.Restart.{lost_and_stopped_evidence, stop_and_comreset_accesses}
 
 -- PxIS shows IFS, and is cleared, and so is the port's bit of IS; PxSSTS shows a device
 abbrev pub fatal_look_accesses : List Access
@@ -33,11 +33,11 @@ fatal_look_accesses =
     ∷ Reading (Px (port_at 0) Ssts) 3 ∷ []
 
 abbrev pub fatal_accesses : List Access
-fatal_accesses = fatal_look_accesses ++ restart_accesses
+fatal_accesses = fatal_look_accesses ++ stop_and_comreset_accesses
 
 -- what is named: port 0 failed by a fatal error, was stopped, and has lost its disk
 abbrev pub fatal_evidence : Evidence
-fatal_evidence = restart_evidence (port_at 0 ∷ [])
+fatal_evidence = lost_and_stopped_evidence (port_at 0 ∷ [])
 
 -- A read of port 0 is accepted and issued. The device is told to meet a fatal error of the port's link, and the port
 -- shows it. The service finds it, gives the port up, and boots it anew, which finds no ATA disk: the port is unfit, and
@@ -50,7 +50,7 @@ pub record FatalErrorIsAHistory : Type 0 where
   pub asked_is_read : asked.op ≡ Read
   pub submits : (submit.event.call ≡ Submit asked) × (submit.event.result ≡ Submitted (Ok first_id))
   pub fatal_step : JointEvent Device DeviceStep
-  pub device_is_told : (fatal_step.event.call ≡ Told (Fatal (port_at 0) Interface))
+  pub device_is_told : (fatal_step.event.call ≡ StepDevice (Fatal (port_at 0) Interface))
       × (fatal_step.event.result ≡ Stepped true)
   pub shows : ShowsFatal (fatal_step.device.port 0)
   pub ready : fatal_step.event.ports.state (port_at 0) ≡ Ready

@@ -10,7 +10,7 @@ use Rattle.adapter.specs.Device.{Device}
 use Rattle.adapter.specs.declared.access.DeviceStep.{DeviceStep}
 use Rattle.adapter.specs.declared.access.DeviceStep.TheVariants as asked
 use Rattle.refinement.specs.Relation.{port_at}
-use Rattle.block_machine.specs.Events.{StepDevice as Told, Service, Stepped, Replied}
+use Rattle.block_machine.specs.Events.{StepDevice, Service, Stepped, Replied}
 use Rattle.block_machine.specs.Histories.{JointState, JointEvent, joint_state_after}
 use Rattle.identify.specs.declared.wanted.Wanted.TheVariants.{Any}
 use Rattle.driver_history.specs.Histories.{IsDriverHistory, PortCorresponds}
@@ -38,7 +38,8 @@ pub record MissingDiskIsAHistory : Type 0 where
   pub both_are_unfit : ((joint_state_after initial_state past).abstract.ports.state (port_at 0) ≡ Unfit 8)
       × ((joint_state_after initial_state past).abstract.ports.state (port_at 1) ≡ Unfit 8)
   pub unplug : JointEvent Device DeviceStep
-  pub disk_is_unplugged : (unplug.event.call ≡ Told (asked.Unplug (port_at 0))) × (unplug.event.result ≡ Stepped true)
+  pub disk_is_unplugged : (unplug.event.call ≡ StepDevice (asked.Unplug (port_at 0)))
+      × (unplug.event.result ≡ Stepped true)
   pub port_0_shows_unfit_still : unplug.event.ports.state (port_at 0) ≡ Unfit 8
   pub service : JointEvent Device DeviceStep
   pub service_has_no_replies : (service.event.call ≡ Service) × (service.event.result ≡ Replied [])

@@ -34,12 +34,12 @@ comreset_accesses =
     ∷ Reading (Px (port_at 0) Tfd) 0x77 ∷ Reading (Px (port_at 0) Sig) 0xeb140101 ∷ []
 
 -- all of them, one after another
-abbrev pub restart_accesses : List Access
-restart_accesses = mask_accesses ++ (stop_accesses ++ (placing_accesses ++ comreset_accesses))
+abbrev pub stop_and_comreset_accesses : List Access
+stop_and_comreset_accesses = mask_accesses ++ (stop_accesses ++ (placing_accesses ++ comreset_accesses))
 
 -- what is named: port 0 was stopped, and has lost its disk; and these ports have failed, each by a fatal error
-abbrev pub restart_evidence : List Port → Evidence
-restart_evidence failed = record {
+abbrev pub lost_and_stopped_evidence : List Port → Evidence
+lost_and_stopped_evidence failed = record {
   faults = [];
   lost = port_at 0 ∷ [];
   link_changed = [];

@@ -18,9 +18,9 @@ use Rattle.block_machine.specs.State.{Pending}
 use Rattle.identify.specs.declared.wanted.Wanted.TheVariants.{Any}
 use Rattle.driver_history.specs.Histories.{IsDriverHistory, PortCorresponds}
 
--- HR of GHC is set, and is read 1 still
+-- HR of GHC is set, and is read 1 twice
 abbrev pub stuck_reset_accesses : List Access
-stuck_reset_accesses = Writing Ghc 0x80000001 ∷ Reading Ghc 0x80000001 ∷ []
+stuck_reset_accesses = Writing Ghc 0x80000001 ∷ Reading Ghc 0x80000001 ∷ Reading Ghc 0x80000001 ∷ []
 
 -- A request is accepted; then a reset doesn't end, which leaves both ports dead and answers nobody; and a service that
 -- makes no access answers the request PortDead: its frames are kept. Each port's part in the reset and in the service

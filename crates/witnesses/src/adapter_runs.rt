@@ -3,7 +3,9 @@ ghost use Rattle.std.specs.Prelude.{◌≡◌, ◌≢◌, ◌⊎◌, ◌<◌, Bo
 ghost use Rattle.adapter.specs.{Device.{Device, IsValidSector}, Steps.{Can}, Steps.DeviceTransition.{FetchFault as SenselessFetch, Plug}};
 ghost use Rattle.witnesses.specs.{AdapterRuns.{StepCanCome, CanComeWithGuardedCommands, FirstHasFailed, ResetIsPendingWithTwoUsedPorts, CommandBytesAreGuarded, TransitionKind, SecondEndsFirst}, AdapterRuns.TransitionKind.{FetchFault}};
 
-use adapter::laws::{law_decoding_is_unique, law_kept_bytes_stay};
+use adapter::laws::{
+    law_kept_bytes_stay_over_device_steps, law_slot_decodes_to_at_most_one_command,
+};
 
 /// Each kind of step of the device can come, in a state that an idle adapter comes to by accesses, each of which the
 /// rules allow in the state in which it is made: and where its commands stand on bytes that no step changes, but for
@@ -12,8 +14,8 @@ pub fn law_each_step_can_come()
     ensures safely { (kind : TransitionKind) → kind ≢ FetchFault → CanComeWithGuardedCommands kind }
     ensures senseless { StepCanCome FetchFault }
 {
-    law_kept_bytes_stay();
-    law_decoding_is_unique();
+    law_kept_bytes_stay_over_device_steps();
+    law_slot_decodes_to_at_most_one_command();
 }
 
 /// Where the commands stand on bytes that no step changes, none is taken for no command.
@@ -23,17 +25,17 @@ pub fn law_guarded_commands_cannot_fail_fetch()
 {}
 
 /// A queued command may end while another, in a lower slot, is taken still.
-pub fn law_a_second_command_ends_first()
+pub fn law_second_queued_command_may_end_first()
     ensures { SecondEndsFirst }
 {
-    law_kept_bytes_stay();
+    law_kept_bytes_stay_over_device_steps();
 }
 
 /// A queued command may fail beside another.
-pub fn law_a_command_fails_beside_another()
+pub fn law_queued_command_may_fail_beside_another()
     ensures { FirstHasFailed }
 {
-    law_kept_bytes_stay();
+    law_kept_bytes_stay_over_device_steps();
 }
 
 /// A reset of the adapter may be pending while two of its ports are in use.

@@ -5,7 +5,7 @@ use super::Server;
 use adapter::Adapter;
 use ata_types::{ClientId, FRAME_BYTES, Frame, MemFault};
 use server_history::laws::{
-    law_client_bytes_extend_history, law_device_never_owns_accessible_frames,
+    law_client_loads_and_stores_extend_history, law_device_never_owns_accessible_frames,
     law_refusals_extend_history,
 };
 use server_history::stuck_server::law_in_call_gives_server_invariant;
@@ -72,7 +72,7 @@ impl<A: Adapter> Server<A> {
             (StoreAt client frame offset bytes.now) (store_result result) }
         ensures cost { MakesAtMost 1 (A.access_count self.old.adapter) (A.access_count self.new.adapter) }
     {
-        law_client_bytes_extend_history();
+        law_client_loads_and_stores_extend_history();
         let address = self.open_frame_address(client, frame, offset, bytes.len())?;
         self.adapter.store(address, bytes);
         Ok(())
@@ -91,7 +91,7 @@ impl<A: Adapter> Server<A> {
             (LoadAt client frame offset (length out.old)) (load_result result out.new) }
         ensures cost { MakesAtMost 1 (A.access_count self.old.adapter) (A.access_count self.new.adapter) }
     {
-        law_client_bytes_extend_history();
+        law_client_loads_and_stores_extend_history();
         let address = self.open_frame_address(client, frame, offset, out.len())?;
         self.adapter.load(address, out);
         Ok(())

@@ -4,7 +4,7 @@ ghost use Rattle.std.specs.Prelude.{[], IfErr, IfOk, None, Ok, Err, Some};
 use super::Server;
 use adapter::Adapter;
 use ata_types::{ClientId, NoSuchGrant, Replies};
-use request_queue::laws::{law_book_stays_well_formed, law_well_formed_entries_stay};
+use request_queue::laws::{law_book_stays_well_formed, law_entries_stay_well_formed};
 use server_history::laws::{
     law_refusals_extend_history, law_requests_preserve_invariant, law_revocations_extend_history,
 };
@@ -62,7 +62,7 @@ impl<A: Adapter> Server<A> {
         ensures cost { MakesAtMost MOST_REVOKE_ACCESSES (A.access_count self.old.adapter)
             (A.access_count self.new.adapter) }
     {
-        law_well_formed_entries_stay();
+        law_entries_stay_well_formed();
         law_book_stays_well_formed();
         law_in_call_gives_server_invariant();
         law_requests_preserve_invariant();

@@ -2,8 +2,8 @@ use Rattle.std.proofs.Common.{inl, inr, refl, sym, ◌∙◌, subst}
 use Rattle.ata_types.specs.declared.Port.{Port}
 use Rattle.refinement.specs.Fragments.{AnySlotStates, ReadsPortOrWrites, IsSimulated}
 use Rattle.refinement.specs.Driver.{AllFree}
-use Rattle.port_control.specs.Calls.{ResetsAndFindsDisk, ResetsAndFindsFault, MayBeStarted, MayResetLink, StaysReceivingWithLinkUpIfShown, Starts}
-use Rattle.port_control.specs.Ports.{IsCommandRegister, IsResetRegister}
+use Rattle.port_control.specs.Calls.{ResetsAndFindsDisk, ResetsAndFindsFault, MayBeStarted, MayResetLink, StaysReceivingWithLinkUpIfDet3, Starts}
+use Rattle.port_control.specs.Ports.{IsCommandRegister, IsSctlSerrOrIs}
 use Rattle.port_boot.proofs.Bringing.{fault_ends, placed_bootable, reset_bootable, reset_boots, reset_since, ends_early, up_boots, brought_up}
 use Rattle.port_boot.proofs.Identifying.{faulty_boots, stuck_boots}
 use Rattle.port_boot.proofs.bring_up.Goals as goal
@@ -28,9 +28,9 @@ returns-in_default-clause-fails g c =
 
 pub returns-in-Err-clause-fails : goal.returns-in-Err-clause-fails
 returns-in-Err-clause-fails g c =
-    let P : Port → Type 0 = λ p. IsSimulated (ReadsPortOrWrites IsResetRegister p) AnySlotStates (g.A.Adapter.device c.receive.new.adapter) (g.A.Adapter.device c.comreset.new.adapter) in
+    let P : Port → Type 0 = λ p. IsSimulated (ReadsPortOrWrites IsSctlSerrOrIs p) AnySlotStates (g.A.Adapter.device c.receive.new.adapter) (g.A.Adapter.device c.comreset.new.adapter) in
     let second = subst P c.in-Ok.ensures.token_is_of_port c.comreset.ensures.followed in
-    let F : Port → Type 0 = λ p. StaysReceivingWithLinkUpIfShown p (g.A.Adapter.device c.receive.new.adapter) (g.A.Adapter.device c.comreset.new.adapter) × ResetsAndFindsFault p c.in-Err.fault (g.A.Adapter.device c.receive.new.adapter) (g.A.Adapter.device c.comreset.new.adapter) in
+    let F : Port → Type 0 = λ p. StaysReceivingWithLinkUpIfDet3 p (g.A.Adapter.device c.receive.new.adapter) (g.A.Adapter.device c.comreset.new.adapter) × ResetsAndFindsFault p c.in-Err.fault (g.A.Adapter.device c.receive.new.adapter) (g.A.Adapter.device c.comreset.new.adapter) in
     let f = subst F c.in-Ok.ensures.token_is_of_port (c.comreset.ensures.stays_receiving, c.in-Err.ensures.fault.1) in
     let told = c.state_of.ensures in
     record {
@@ -44,10 +44,10 @@ returns-in-Err-clause-fails g c =
 pub start-requires : goal.start-requires
 start-requires g c =
     let at = c.in-Ok.ensures.token_is_of_port in
-    let P : Port → Type 0 = λ p. IsSimulated (ReadsPortOrWrites IsResetRegister p) AnySlotStates (g.A.Adapter.device c.receive.new.adapter) (g.A.Adapter.device c.comreset.new.adapter) in
+    let P : Port → Type 0 = λ p. IsSimulated (ReadsPortOrWrites IsSctlSerrOrIs p) AnySlotStates (g.A.Adapter.device c.receive.new.adapter) (g.A.Adapter.device c.comreset.new.adapter) in
     let second = subst P at c.comreset.ensures.followed in
     let found = c.in-Ok-comreset.ensures.finds in
-    let F : Port → Type 0 = λ p. StaysReceivingWithLinkUpIfShown p (g.A.Adapter.device c.receive.new.adapter) (g.A.Adapter.device c.comreset.new.adapter) × ResetsAndFindsDisk p (g.A.Adapter.device c.receive.new.adapter) (g.A.Adapter.device c.comreset.new.adapter) in
+    let F : Port → Type 0 = λ p. StaysReceivingWithLinkUpIfDet3 p (g.A.Adapter.device c.receive.new.adapter) (g.A.Adapter.device c.comreset.new.adapter) × ResetsAndFindsDisk p (g.A.Adapter.device c.receive.new.adapter) (g.A.Adapter.device c.comreset.new.adapter) in
     let f = subst F at (c.comreset.ensures.stays_receiving, found.1) in
     let b = reset_bootable c.law_prerequisites.ensures c.args.stopped.port _ _ _ c.requires.bootable c.in-Ok.ensures.receives.is_simulated second in
     let M : Port → Type 0 = λ p. MayBeStarted p (g.A.Adapter.device c.comreset.new.adapter) in
@@ -58,7 +58,7 @@ start-requires g c =
 pub returns-clause-rises : goal.returns-clause-rises
 returns-clause-rises g c =
     let at = c.in-Ok.ensures.token_is_of_port in
-    let P : Port → Type 0 = λ p. IsSimulated (ReadsPortOrWrites IsResetRegister p) AnySlotStates (g.A.Adapter.device c.receive.new.adapter) (g.A.Adapter.device c.comreset.new.adapter) in
+    let P : Port → Type 0 = λ p. IsSimulated (ReadsPortOrWrites IsSctlSerrOrIs p) AnySlotStates (g.A.Adapter.device c.receive.new.adapter) (g.A.Adapter.device c.comreset.new.adapter) in
     let second = subst P at c.comreset.ensures.followed in
     let found = c.in-Ok-comreset.ensures.finds in
     let then = found.0 ∙ at in

@@ -14,12 +14,12 @@ use Rattle.adapter.specs.Device.{DevicePort, Device}
 use Rattle.adapter.specs.Rules.{IsOn}
 use Rattle.adapter.specs.Steps.{Steps}
 use Rattle.refinement.specs.Fragments.{TapeGrows, IsDrivenBy}
-use Rattle.refinement.specs.Errors.{IsFatalErrorOf, NoFaults, NoFatalErrors}
+use Rattle.refinement.specs.Errors.{IsFatalEntryOf, NoFaults, NoFatalErrors}
 use Rattle.refinement.specs.PortFacts.{IsFaultOf}
 use Rattle.refinement.specs.PreservedParts.{LinkIsSameOrComesUp, NoPlugEvents, DoesNotWrite}
 use Rattle.port_control.specs.EventLaws.{Laws}
 use Rattle.port_control.specs.PortEvents.{TakesEvent}
-use Rattle.port_control.specs.ServiceAccesses.{OldShowsChangeOrNoDeviceOrPlugEventComes, WritesOnlyHbaIsPxIsCiOrSact, WritesOnlyHbaIsCiSactOrOtherPxIs, HidesNoPlugEvent, HidesNoFatal, HidesNoFault, ShowsNoFatal}
+use Rattle.port_control.specs.ServiceAccesses.{ShowedLossOrHadPlugEvent, WritesOnlyHbaIsPxIsCiOrSact, WritesOnlyHbaIsCiSactOrOtherPxIs, HidesNoPlugEvent, HidesNoFatal, HidesNoFault, ShowsNoFatal}
 use Rattle.port_control.specs.declared.events.PortEvent.{PortEvent}
 use Rattle.port_control.specs.declared.events.PortEvent.TheVariants.{LinkChanged}
 use Rattle.port_control.proofs.looks.Seeing.{cleared_on, left_set, rest, seen_on}
@@ -146,7 +146,7 @@ module _ (laws : Laws) where
         look_over laws ShowsNoFatal NoFatalErrors laws.tape.no_fatal_errors_reflexive laws.tape.no_fatal_errors_transitive port (fatal_over port) result old new l on
         (write_over laws ShowsNoFatal NoFatalErrors laws.tape.no_fatal_errors_reflexive laws.tape.no_fatal_errors_transitive port (laws.steps_hide_no_fatal port.0) l.causes l.after_is_read l.cleared off l.clears
         (λ clear place from to. was_clear port l.causes place l.after_is_read l.cleared off l.clears (unread place from to) (clear place from to))
-        (λ tape. record { new_entries = []; tape_is = sym tape ∙ sym (append-nil l.clears.at_access.tape); no_such_entry = All-nil (λ e. IsFatalErrorOf port.0 e → ⊥) }))
+        (λ tape. record { new_entries = []; tape_is = sym tape ∙ sym (append-nil l.clears.at_access.tape); no_such_entry = All-nil (λ e. IsFatalEntryOf port.0 e → ⊥) }))
 
     -- the write of PxIS is none of PxSERR
     pub look_disks : HidesNoPlugEvent port.0 old new
@@ -165,7 +165,7 @@ module _ (laws : Laws) where
     }
 
     -- It told a loss: so it had one to tell when it began, or a disk went or came meanwhile.
-    pub tells_loss : (old.port port.0).link_due ≡ false → result ≡ LinkChanged → OldShowsChangeOrNoDeviceOrPlugEventComes port.0 old new
+    pub tells_loss : (old.port port.0).link_due ≡ false → result ≡ LinkChanged → ShowedLossOrHadPlugEvent port.0 old new
     tells_loss undue is = ⊎_elim
         (λ x. by_change (inr x))
         (λ more. ⊎_elim (λ n. by_change (inl n)) by_link more)
@@ -189,13 +189,13 @@ module _ (laws : Laws) where
         parts : NoPlugEvents port.0 old new → NoPlugEvents port.0 old l.acknowledged × NoPlugEvents port.0 l.acknowledged new
         parts = laws.tape.no_plug_events_in_parts port.0 old l.acknowledged new linked.0.0.0 showing.0 linked.0.0.1 showing.1
 
-        by_change : (bit l.causes 22 ≡ true) ⊎ (bit l.causes 6 ≡ true) → OldShowsChangeOrNoDeviceOrPlugEventComes port.0 old new
+        by_change : (bit l.causes 22 ≡ true) ⊎ (bit l.causes 6 ≡ true) → ShowedLossOrHadPlugEvent port.0 old new
         by_change told = ⊎_elim
             (λ n. inl (inl n))
             (λ more. ⊎_elim (λ x. inl (inr x)) (λ came. inr (inr (λ none. came (laws.tape.no_plug_events_in_parts port.0 old l.after_is_read new reading.0 later.0 reading.1 later.1 none).0))) more)
             (laws.change_read_has_cause port l.causes old l.after_is_read on.no_reset undue l.reads told)
 
-        by_link : l.status % 16 ≢ 3 → OldShowsChangeOrNoDeviceOrPlugEventComes port.0 old new
+        by_link : l.status % 16 ≢ 3 → ShowedLossOrHadPlugEvent port.0 old new
         by_link other = ⊎_elim
             (λ (shows : (old.port port.0).ssts_det ≡ 3). inr (inr (λ none.
             let still = linked.0.1 (parts none).0 undue shows in

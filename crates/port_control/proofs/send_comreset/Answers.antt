@@ -16,5 +16,5 @@ returns-clause-sends g c = record {
   comreset_is_sent = was_reset c.law_prerequisites.ensures _ _ _ c.requires.usable c.requires.receives c.write.ensures.does _ c.write-2.ensures.does;
   receives = reset_receives c.law_prerequisites.ensures _ _ _ c.requires.usable c.requires.receives c.write.ensures.does _ c.write-2.ensures.does;
   shows_drq_till_link = reset_awaited c.law_prerequisites.ensures _ _ _ c.requires.usable c.requires.receives c.write.ensures.does _ c.write-2.ensures.does;
-  link_is_up_if_shown_unless_disk_comes = reset_coming c.law_prerequisites.ensures _ _ _ c.requires.usable c.requires.receives c.write.ensures.does _ c.write-2.ensures.does;
+  link_is_up_if_det_3_unless_disk_comes = reset_coming c.law_prerequisites.ensures _ _ _ c.requires.usable c.requires.receives c.write.ensures.does _ c.write-2.ensures.does;
 }

@@ -4,13 +4,13 @@ ghost use Rattle.ata_types.specs.declared.Port.{Port};
 ghost use Rattle.hba_regs.specs.{Bits.{bit}, declared.reg.PortReg.{PortReg}, declared.reg.PortReg.TheVariants.{Ci, Is, Sact, Ssts}, declared.reg.Reg.TheVariants.{Ghc, Px}};
 ghost use Rattle.adapter.specs.{Access.{Access, Reads}, Device.{Device}, Rules.{IsOn}};
 ghost use Rattle.refinement.specs.{Fragments.{SameSlotStates, SomeMachineAgrees, IsDrivenBy, IsSimulated, SparesOtherPorts}, Errors.{KeepsSetBitsOfPxisAndSerrNX, NoDiskComes}, PortFacts.{IsHaltedPlainOrQueued, RecordsFaultsIfSt, RunsWell, ShowsNoTrouble, PxisValueTellsNoTrouble, Undisturbed}, PreservedParts.{SameAdapter, DoesNotWrite}, Slots.{SlotStates}};
-ghost use Rattle.port_control.specs.{PortEvents.{port_event_of, IsPxisSstsOrOwnIsAccess, TakesEvent}, ServiceAccesses.{OldShowsChangeOrNoDeviceOrPlugEventComes, WritesOnlyHbaIsPxIsCiOrSact, WritesOnlyHbaIsCiSactOrOtherPxIs, SerrNXStaySet, HidesNoPlugEvent, HidesNoFatal, HidesNoFault}, declared.events.PortEvent.{PortEvent}};
+ghost use Rattle.port_control.specs.{PortEvents.{port_event_of, IsPxisSstsOrOwnIsAccess, TakesEvent}, ServiceAccesses.{ShowedLossOrHadPlugEvent, WritesOnlyHbaIsPxIsCiOrSact, WritesOnlyHbaIsCiSactOrOtherPxIs, SerrNXStaySet, HidesNoPlugEvent, HidesNoFatal, HidesNoFault}, declared.events.PortEvent.{PortEvent}};
 ghost use Rattle.port_control.specs.declared.events.PortEvent.TheVariants as look;
 
 use super::prerequisites::law_prerequisites;
 
-/// The accesses of a look serve ports, and are ordinary for each other port.
-pub fn law_looks_are_services()
+/// The accesses of a look are service accesses, and write no other port's PxIS.
+pub fn law_looks_make_only_service_accesses()
     ensures is_service_access { (port : Port) (access : Access) → IsPxisSstsOrOwnIsAccess port access
         → WritesOnlyHbaIsPxIsCiOrSact access }
     ensures leaves_other_px_is { (port other : Port) (access : Access) → port.0 ≢ other.0
@@ -22,7 +22,7 @@ pub fn law_looks_are_services()
 
 /// A look touches no register of another port, nor another port's bit of IS: so what is said of such accesses
 /// (`SparesOtherPorts`) is so of each.
-pub fn law_looks_are_of_one_port()
+pub fn law_looks_spare_other_ports()
     ensures { (port : Port) (access : Access) → IsPxisSstsOrOwnIsAccess port access → SparesOtherPorts port access }
 {}
 
@@ -59,7 +59,7 @@ pub fn law_services_keep_ports_running()
 }
 
 /// Accesses that serve ports write of each port PxIS, PxCI and PxSACT alone, and not GHC.
-pub fn law_services_spare_registers()
+pub fn law_service_accesses_write_only_is_ci_sact()
     ensures ghc_is_unwritten { (access : Access) → WritesOnlyHbaIsPxIsCiOrSact access → DoesNotWrite Ghc access }
     ensures port_register_is_unwritten { (port : Port) (r : PortReg) → r ≢ Is → r ≢ Ci → r ≢ Sact → (access : Access)
         → WritesOnlyHbaIsPxIsCiOrSact access
@@ -86,7 +86,7 @@ pub fn law_port_event_tells_bits_read()
 /// PxIS was read. It is `LinkChanged` where N or X of PxSERR was set; and where no device was seen, no link was due,
 /// and no disk came in the call. Of a port that runs well it is `NoEvent`, and it runs well still, where nothing goes
 /// wrong in the call.
-pub fn law_errors_are_seen()
+pub fn law_looks_see_errors_and_link_changes()
     ensures no_event_means_no_trouble { (port : Port) (result : PortEvent) (old new : Device) → IsOn old
         → (l : TakesEvent port result old new)
         → result ≡ look.NoEvent → ShowsNoTrouble (old.port port.0) × Undisturbed port.0 old l.after_is_read }
@@ -103,10 +103,10 @@ pub fn law_errors_are_seen()
     law_prerequisites();
 }
 
-/// What tells of trouble isn't hidden. Ordinary accesses leave each bit of the port's PxIS, and N and X of its PxSERR,
-/// set where they are set. So does a look with N and X; and with each bit of PxIS that it hasn't read, also one that is
-/// set between the reading and the write.
-pub fn law_set_error_bits_stay_set()
+/// What tells of trouble isn't hidden. Service accesses that don't write the port's PxIS leave each bit of the port's
+/// PxIS, and N and X of its PxSERR, set where they are set. So does a look with N and X; and with each bit of PxIS that
+/// it hasn't read, also one that is set between the reading and the write.
+pub fn law_unread_error_bits_stay_set()
     ensures services_keep_errors { (port : Port) (old new : Device) → IsOn old
         → IsDrivenBy (WritesOnlyHbaIsCiSactOrOtherPxIs port) old new
         → KeepsSetBitsOfPxisAndSerrNX (old.port port.0) (new.port port.0) }
@@ -161,7 +161,7 @@ pub fn law_looks_and_services_hide_no_error()
         → HidesNoPlugEvent port.0 old new }
     ensures link_change_is_backed { (port : Port) (old new : Device) → IsOn old
         → TakesEvent port look.LinkChanged old new
-        → (old.port port.0).link_due ≡ false → OldShowsChangeOrNoDeviceOrPlugEventComes port.0 old new }
+        → (old.port port.0).link_due ≡ false → ShowedLossOrHadPlugEvent port.0 old new }
 {
     law_prerequisites();
 }

@@ -3,21 +3,25 @@
 ghost use Rattle.port_control.specs.EventLaws.{Laws};
 
 use adapter::laws::{
-    law_port_register_accesses, law_step_lists_keep_what_steps_keep, law_steps_compose,
+    law_port_access_is_steps_then_port_effect, law_step_lists_keep_what_steps_keep,
+    law_steps_compose,
 };
 use refinement::access_kinds::law_fragment_prerequisites;
-use refinement::disks::law_looks_tell_trouble;
+use refinement::disks::law_pxis_and_det_readings_tell_trouble;
 use refinement::fragments::{law_other_ports_are_untouched, law_tape_prerequisites};
 use refinement::laws::{
     law_clear_sact_bits_stay, law_hba_is_write_after_pxis_is_permitted,
     law_writes_but_ci_stay_permitted,
 };
 use refinement::port_facts::{
-    law_adapter_stays, law_clear_error_bits_stay_clear, law_controls_stay, law_errors_are_kept,
-    law_errors_are_shown, law_fault_is_found, law_faults_are_recorded,
-    law_link_is_same_or_comes_up_without_plugs, law_loads_and_stores_change_ports_by_steps,
-    law_notes_are_set, law_notes_stay, law_running_well_is_found,
-    law_running_well_stays_if_undisturbed, law_serr_n_shows_plug_events, law_trouble_is_shown,
+    law_adapter_stays_the_same_and_switched_on, law_clear_error_bits_stay_clear,
+    law_clear_pxis_error_bits_mean_no_error, law_link_is_same_or_comes_up_without_plugs,
+    law_loads_and_stores_change_ports_by_steps, law_no_trouble_shown_means_undisturbed,
+    law_noted_reads_change_only_by_read_or_sctl, law_port_controls_stay_until_written,
+    law_port_register_read_is_noted_as_last, law_running_well_stays_if_undisturbed,
+    law_serr_n_clear_means_no_plug_event, law_set_pxis_serr_nx_bits_stay_until_written,
+    law_started_port_without_trouble_runs_well, law_tape_and_tfd_keep_faults_since_st,
+    law_tfes_read_set_means_fault_halts_port,
 };
 use std::marker::Brand;
 
@@ -25,25 +29,25 @@ use std::marker::Brand;
 pub fn law_prerequisites()
     ensures { Laws }
 {
-    law_port_register_accesses();
+    law_port_access_is_steps_then_port_effect();
     law_steps_compose();
     law_step_lists_keep_what_steps_keep();
-    law_looks_tell_trouble();
-    law_adapter_stays();
+    law_pxis_and_det_readings_tell_trouble();
+    law_adapter_stays_the_same_and_switched_on();
     law_clear_error_bits_stay_clear();
-    law_controls_stay();
-    law_errors_are_kept();
-    law_errors_are_shown();
-    law_fault_is_found();
-    law_faults_are_recorded();
+    law_port_controls_stay_until_written();
+    law_set_pxis_serr_nx_bits_stay_until_written();
+    law_clear_pxis_error_bits_mean_no_error();
+    law_tfes_read_set_means_fault_halts_port();
+    law_tape_and_tfd_keep_faults_since_st();
     law_running_well_stays_if_undisturbed();
     law_link_is_same_or_comes_up_without_plugs();
     law_loads_and_stores_change_ports_by_steps();
-    law_notes_are_set();
-    law_notes_stay();
-    law_serr_n_shows_plug_events();
-    law_running_well_is_found();
-    law_trouble_is_shown();
+    law_port_register_read_is_noted_as_last();
+    law_noted_reads_change_only_by_read_or_sctl();
+    law_serr_n_clear_means_no_plug_event();
+    law_started_port_without_trouble_runs_well();
+    law_no_trouble_shown_means_undisturbed();
     law_fragment_prerequisites::<Brand>();
     law_hba_is_write_after_pxis_is_permitted();
     law_clear_sact_bits_stay();

@@ -12,7 +12,8 @@ use Rattle.adapter.specs.Device.{DevicePort, Device}
 use Rattle.adapter.specs.Steps.{Steps, halt_after_start}
 use Rattle.block_machine.specs.State.{Machine}
 use Rattle.refinement.specs.StepLaws.{StepLaws}
-use Rattle.refinement.specs.Slots.{SlotState, Free, Own, Serves, SlotStates, IsInSomeStage, IsOver, RelatesSlot, Armed}
+use Rattle.adapter.specs.OneCommand.{SlotHasNoCommand}
+use Rattle.refinement.specs.Slots.{SlotState, Free, Own, Serves, SlotStates, IsInSomeStage, RelatesSlot, Armed}
 use Rattle.refinement.specs.Relation.{StateRelation, port_at}
 use Rattle.refinement.proofs.device.FactsOverAccesses.{noted_on, written_on}
 use Rattle.refinement.proofs.relation.OtherSlots.{some_none, true_false}
@@ -26,7 +27,7 @@ pub steps_clear : StepLaws → (port slot : ℕ) (old new : Device) → Steps ol
 steps_clear laws port slot old new s u = ((laws.steps_keep _ _ s).port_bits_only_fall port).sact_stays_clear slot u
 
 -- a slot in use whose command is over has no bit
-pub over_unarmed : (uses : SlotStates) (m : Machine) (d : Device) (port slot : ℕ) → StateRelation uses m d → (uses port slot ≡ Armed → ⊥) → IsOver (d.port port) slot → (d.port port).sact slot ≡ false
+pub over_unarmed : (uses : SlotStates) (m : Machine) (d : Device) (port slot : ℕ) → StateRelation uses m d → (uses port slot ≡ Armed → ⊥) → SlotHasNoCommand (d.port port) slot → (d.port port).sact slot ≡ false
 over_unarmed uses m d port slot a unarmed over = by (uses port slot) refl (a.relates_slots port slot)
   where
     by : (u : SlotState) → uses port slot ≡ u → RelatesSlot m d.memory d.tape (d.port port) port slot u → (d.port port).sact slot ≡ false

@@ -21,10 +21,10 @@ use Rattle.refinement.specs.PreservedParts.{HasDet3IfDiskPresent}
 use Rattle.refinement.proofs.device.FactsOverAccesses.{access_steps, effect_keeps}
 use Rattle.refinement.proofs.device.ErrorBits.{comes_parts, comes_before, command_beside}
 use Rattle.refinement.proofs.device.TapeGains.{NoneOf, gained_none}
-use Rattle.refinement.proofs.device.HaltedPort.{reset_read, law_reset_is_found, reset_idle}
+use Rattle.refinement.proofs.device.HaltedPort.{reset_read, law_hr_read_clear_means_ports_are_quiescent, reset_idle}
 use Rattle.refinement.proofs.device.HealthyPort.{at_port}
 use Rattle.refinement.proofs.device.AdapterReset.{ghc_told}
-use Rattle.refinement.specs.Vacant.{IsVacant, HasFirstFisIfShown}
+use Rattle.refinement.specs.Vacant.{IsVacant, HasFirstFisIfDet3}
 
 -- ---- facts of a port that its steps keep while no disk comes
 
@@ -130,19 +130,19 @@ vacant_access laws port access old new none x h =
 -- ---- a disk that shows has sent its first FIS
 
 module _ (port : ℕ) (d : Device) (gained : List Entry) (none : NoneOf (IsDiskComing port) gained) where
-  step_fresh : (step : DeviceTransition) → Can step d → (device_after step d).tape ≡ d.tape ++ gained → HasFirstFisIfShown (d.port port) → HasFirstFisIfShown ((device_after step d).port port)
-  step_fresh (Fetch p slot c places) can is h = at_port HasFirstFisIfShown HasFirstFisIfShown d p port _ h (λ e x. x) (λ ne x. x)
-  step_fresh (FetchFault p slot queued kept_bits) can is h = at_port HasFirstFisIfShown HasFirstFisIfShown d p port _ h (λ e x. x) (λ ne x. x)
-  step_fresh (Move p slot t bytes) can is h = at_port HasFirstFisIfShown HasFirstFisIfShown d p port _ h (λ e x. x) (λ ne x. x)
-  step_fresh (Clear p slot t first count) can is h = at_port HasFirstFisIfShown HasFirstFisIfShown d p port _ h (λ e x. x) (λ ne x. x)
-  step_fresh (Done p slot flag t) can is h = at_port HasFirstFisIfShown HasFirstFisIfShown d p port _ h (λ e x. x) (λ ne x. x)
-  step_fresh (Fault p slot error kept_bits t) can is h = at_port HasFirstFisIfShown HasFirstFisIfShown d p port _ h (λ e x. x) (λ ne x. x)
-  step_fresh (Fatal p place) can is h = at_port HasFirstFisIfShown HasFirstFisIfShown d p port _ h (λ e x. x) (λ ne x. x)
-  step_fresh (Fall p) can is h = at_port HasFirstFisIfShown HasFirstFisIfShown d p port _ h (λ e x. x) (λ ne x. x)
-  step_fresh (FrFall p) can is h = at_port HasFirstFisIfShown HasFirstFisIfShown d p port _ h (λ e x. x) (λ ne x. x)
-  step_fresh (LinkUp p sig n) can is h = at_port HasFirstFisIfShown HasFirstFisIfShown d p port _ h (λ e x _. refl) (λ ne x. x)
-  step_fresh (Unplug p) can is h = at_port HasFirstFisIfShown HasFirstFisIfShown d p port _ h (λ e x z. not_three z) (λ ne x. x)
-  step_fresh (Plug p disk) can is h = at_port HasFirstFisIfShown HasFirstFisIfShown d p port _ h (λ e x. absurd (gained_none (IsDiskComing port) d.tape _ gained is none e)) (λ ne x. x)
+  step_fresh : (step : DeviceTransition) → Can step d → (device_after step d).tape ≡ d.tape ++ gained → HasFirstFisIfDet3 (d.port port) → HasFirstFisIfDet3 ((device_after step d).port port)
+  step_fresh (Fetch p slot c places) can is h = at_port HasFirstFisIfDet3 HasFirstFisIfDet3 d p port _ h (λ e x. x) (λ ne x. x)
+  step_fresh (FetchFault p slot queued kept_bits) can is h = at_port HasFirstFisIfDet3 HasFirstFisIfDet3 d p port _ h (λ e x. x) (λ ne x. x)
+  step_fresh (Move p slot t bytes) can is h = at_port HasFirstFisIfDet3 HasFirstFisIfDet3 d p port _ h (λ e x. x) (λ ne x. x)
+  step_fresh (Clear p slot t first count) can is h = at_port HasFirstFisIfDet3 HasFirstFisIfDet3 d p port _ h (λ e x. x) (λ ne x. x)
+  step_fresh (Done p slot flag t) can is h = at_port HasFirstFisIfDet3 HasFirstFisIfDet3 d p port _ h (λ e x. x) (λ ne x. x)
+  step_fresh (Fault p slot error kept_bits t) can is h = at_port HasFirstFisIfDet3 HasFirstFisIfDet3 d p port _ h (λ e x. x) (λ ne x. x)
+  step_fresh (Fatal p place) can is h = at_port HasFirstFisIfDet3 HasFirstFisIfDet3 d p port _ h (λ e x. x) (λ ne x. x)
+  step_fresh (Fall p) can is h = at_port HasFirstFisIfDet3 HasFirstFisIfDet3 d p port _ h (λ e x. x) (λ ne x. x)
+  step_fresh (FrFall p) can is h = at_port HasFirstFisIfDet3 HasFirstFisIfDet3 d p port _ h (λ e x. x) (λ ne x. x)
+  step_fresh (LinkUp p sig n) can is h = at_port HasFirstFisIfDet3 HasFirstFisIfDet3 d p port _ h (λ e x _. refl) (λ ne x. x)
+  step_fresh (Unplug p) can is h = at_port HasFirstFisIfDet3 HasFirstFisIfDet3 d p port _ h (λ e x z. not_three z) (λ ne x. x)
+  step_fresh (Plug p disk) can is h = at_port HasFirstFisIfDet3 HasFirstFisIfDet3 d p port _ h (λ e x. absurd (gained_none (IsDiskComing port) d.tape _ gained is none e)) (λ ne x. x)
   step_fresh ResetEnds can is h = λ z. not_three z
   step_fresh (Scribble p slot at bytes) can is h = h
 
@@ -155,16 +155,16 @@ command_fresh v tape p = by (bit v 0) p.st refl
     by true true is = ap (λ (x : DevicePort). x.fresh) (cond-true p.st p _ is)
     by true false is = ap (λ (x : DevicePort). x.fresh) (cond-false p.st p _ is)
 
-written_fresh : (r : PortReg) (v tape : ℕ) (p : DevicePort) → HasFirstFisIfShown p → HasFirstFisIfShown (port_after_write r v tape p)
+written_fresh : (r : PortReg) (v tape : ℕ) (p : DevicePort) → HasFirstFisIfDet3 p → HasFirstFisIfDet3 (port_after_write r v tape p)
 written_fresh Cmd v tape p h = λ up. command_fresh v tape p ∙ h (sym (command_beside v tape p).3 ∙ up)
 written_fresh Sctl v tape p h = λ up. h (det_was (nat_eq (v % 16) 1) p.ssts_det up)
 written_fresh _ v tape p h = h
 
-pub fresh_steps : StepLaws → (port : ℕ) (old new : Device) → NoDiskComes port old new → Steps old new → HasFirstFisIfShown (old.port port) → HasFirstFisIfShown (new.port port)
-fresh_steps laws port old new none s h = leads_without laws port HasFirstFisIfShown (step_fresh port) s.steps old new s.lead none h
+pub fresh_steps : StepLaws → (port : ℕ) (old new : Device) → NoDiskComes port old new → Steps old new → HasFirstFisIfDet3 (old.port port) → HasFirstFisIfDet3 (new.port port)
+fresh_steps laws port old new none s h = leads_without laws port HasFirstFisIfDet3 (step_fresh port) s.steps old new s.lead none h
 
-pub fresh_access : StepLaws → (port : Port) (access : Access) (old new : Device) → NoDiskComes port.0 old new → Does access old new → HasFirstFisIfShown (old.port port.0) → HasFirstFisIfShown (new.port port.0)
-fresh_access laws port access old new none x h = access_without laws port HasFirstFisIfShown (step_fresh port.0) (λ p r v y. y) (λ p y. y) written_fresh access old new none x h
+pub fresh_access : StepLaws → (port : Port) (access : Access) (old new : Device) → NoDiskComes port.0 old new → Does access old new → HasFirstFisIfDet3 (old.port port.0) → HasFirstFisIfDet3 (new.port port.0)
+fresh_access laws port access old new none x h = access_without laws port HasFirstFisIfDet3 (step_fresh port.0) (λ p r v y. y) (λ p y. y) written_fresh access old new none x h
 
 -- ---- where it begins
 
@@ -177,7 +177,7 @@ module _ (laws : StepLaws) (v : ℕ) (old new : Device) (on : old.hr ≡ true) (
       let parts = comes_parts port old (device_after ResetEnds s.0) new a.new_entries b.new_entries a.tape_grows b.tape_grows none in
       (vacant_steps laws) port (device_after ResetEnds s.0) new parts.1 s.1 (is_vacant _ (out_steps laws port old (device_after ResetEnds s.0) parts.0 s.2 out, λ z. not_three z))
 
-  pub fresh_reset : HasFirstFisIfShown (new.port port)
+  pub fresh_reset : HasFirstFisIfDet3 (new.port port)
   fresh_reset =
       let s = reset_read v old new on call clear in
       let a : KeepsOverSteps old (device_after ResetEnds s.0) = laws.steps_keep _ _ s.2 in
@@ -185,10 +185,10 @@ module _ (laws : StepLaws) (v : ℕ) (old new : Device) (on : old.hr ≡ true) (
       let parts = comes_parts port old (device_after ResetEnds s.0) new a.new_entries b.new_entries a.tape_grows b.tape_grows none in
       (fresh_steps laws) port (device_after ResetEnds s.0) new parts.1 s.1 (λ z. not_three z)
 
-pub fresh_comreset : (port : Port) (v : ℕ) (old new : Device) → v % 16 ≡ 1 → Writes (Px port Sctl) v old new → HasFirstFisIfShown (new.port port.0)
+pub fresh_comreset : (port : Port) (v : ℕ) (old new : Device) → v % 16 ≡ 1 → Writes (Px port Sctl) v old new → HasFirstFisIfDet3 (new.port port.0)
 fresh_comreset port v old new one call =
-    subst HasFirstFisIfShown (sym (ap (λ (d : Device). d.port port.0) call.effect ∙ changed_same call.at_access.port port.0 _))
-    (subst (λ (n : ℕ). HasFirstFisIfShown (port_after_det_write n (length call.at_access.tape) (call.at_access.port port.0))) (sym one) (λ z. not_three z))
+    subst HasFirstFisIfDet3 (sym (ap (λ (d : Device). d.port port.0) call.effect ∙ changed_same call.at_access.port port.0 _))
+    (subst (λ (n : ℕ). HasFirstFisIfDet3 (port_after_det_write n (length call.at_access.tape) (call.at_access.port port.0))) (sym one) (λ z. not_three z))
 
 pub device_shown : (port : Port) (v : ℕ) (old new : Device) → Reads (Px port Ssts) v old new → v % 16 ≡ 3 → HasDet3IfDiskPresent (new.port port.0)
 device_shown port v old new call three =
@@ -199,5 +199,5 @@ device_shown port v old new call three =
 pub reset_read_idle : StepLaws → (v : ℕ) (old new : Device) → old.hr ≡ true → Reads Ghc v old new → bit v 0 ≡ false → IsIdle new
 reset_read_idle laws v old new on call clear = record {
   no_reset = (ghc_told v old new call).0 ∙ clear;
-  ports_are_idle = λ port. reset_idle (new.port port) (law_reset_is_found laws v old new on call clear port);
+  ports_are_idle = λ port. reset_idle (new.port port) (law_hr_read_clear_means_ports_are_quiescent laws v old new on call clear port);
 }

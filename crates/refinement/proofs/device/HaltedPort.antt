@@ -23,7 +23,8 @@ use Rattle.refinement.specs.StepLaws.{StepLaws}
 use Rattle.refinement.specs.Relation.{StateRelation, port_at}
 use Rattle.refinement.specs.PortFacts.{IsEngineStopped, IsQuiescentPort}
 use Rattle.refinement.specs.Simulation.{SimulatesSteps}
-use Rattle.refinement.specs.Slots.{SlotState, Free, Own, Serves, SlotStates, IsInSomeStage, OwnAwaitsFetch, OwnIsTaken, OwnIsOverWithPageIfSt, IsOver, RelatesSlot, Armed}
+use Rattle.adapter.specs.OneCommand.{SlotHasNoCommand}
+use Rattle.refinement.specs.Slots.{SlotState, Free, Own, Serves, SlotStates, IsInSomeStage, OwnAwaitsFetch, OwnIsTaken, OwnIsOverWithPageIfSt, RelatesSlot, Armed}
 use Rattle.refinement.proofs.device.FactsOverAccesses.{noted_on, written_on}
 use Rattle.refinement.proofs.steps.FollowedSteps.{steps_follow}
 use Rattle.refinement.proofs.device.ClearSactBits.{if_false}
@@ -149,18 +150,18 @@ reset_writes laws port r v old new may off x h =
 
 -- with ST and CR 0 no slot waits or is taken
 over_of : (m : Machine) (d : Device) (port slot : ℕ) (u : SlotState) → (d.port port).st ≡ false → (d.port port).cr ≡ false →
-    RelatesSlot m d.memory d.tape (d.port port) port slot u → IsOver (d.port port) slot
+    RelatesSlot m d.memory d.tape (d.port port) port slot u → SlotHasNoCommand (d.port port) slot
 over_of m d port slot Free st cr h = record { is_not_issued = h.is_not_issued; is_not_taken = h.is_not_taken }
 over_of m d port slot Armed st cr h = record { is_not_issued = h.is_not_issued; is_not_taken = h.is_not_taken }
 over_of m d port slot (Own o) st cr h = of h.stage
   where
-    of : OwnAwaitsFetch (d.port port) slot ⊎ (OwnIsTaken d.memory d.tape (d.port port) port slot h.command ⊎ OwnIsOverWithPageIfSt d.memory d.tape (d.port port) port slot h.command) → IsOver (d.port port) slot
+    of : OwnAwaitsFetch (d.port port) slot ⊎ (OwnIsTaken d.memory d.tape (d.port port) port slot h.command ⊎ OwnIsOverWithPageIfSt d.memory d.tape (d.port port) port slot h.command) → SlotHasNoCommand (d.port port) slot
     of (inl w) = absurd (both_ways _ st w.started)
     of (inr (inl t)) = absurd (both_ways _ cr t.running)
     of (inr (inr x)) = x.over
 over_of m d port slot (Serves id) st cr h = of h.stage
   where
-    of : IsInSomeStage d.memory (d.port port) port slot h.pending h.command h.places → IsOver (d.port port) slot
+    of : IsInSomeStage d.memory (d.port port) port slot h.pending h.command h.places → SlotHasNoCommand (d.port port) slot
     of (inl w) = absurd (both_ways _ st w.started)
     of (inr (inl t)) = absurd (both_ways _ cr t.running)
     of (inr (inr (inl x))) = record { is_not_issued = x.is_not_issued; is_not_taken = x.is_not_taken }
@@ -168,12 +169,12 @@ over_of m d port slot (Serves id) st cr h = of h.stage
 
 pub stopped_halts : (uses : SlotStates) (m : Machine) (d : Device) (port : ℕ) → StateRelation uses m d → (d.port port).st ≡ false → (d.port port).cr ≡ false → IsEngineStopped (d.port port)
 stopped_halts uses m d port a st cr =
-    let over : (slot : ℕ) → IsOver (d.port port) slot = λ slot. over_of m d port slot (uses port slot) st cr (a.relates_slots port slot) in
+    let over : (slot : ℕ) → SlotHasNoCommand (d.port port) slot = λ slot. over_of m d port slot (uses port slot) st cr (a.relates_slots port slot) in
     record { st_is_clear = st; cr_is_clear = cr; no_command_is_issued = λ s. (over s).is_not_issued; no_command_is_taken = λ s. (over s).is_not_taken }
 
-pub law_stopped_engine_is_read : StepLaws → (uses : SlotStates) (m : Machine) (port : Port) (v : ℕ) (old new : Device) → IsReachable m → StateRelation uses m old →
+pub law_cr_read_clear_means_engine_stopped : StepLaws → (uses : SlotStates) (m : Machine) (port : Port) (v : ℕ) (old new : Device) → IsReachable m → StateRelation uses m old →
     (old.port port.0).st ≡ false → Reads (Px port Cmd) v old new → bit v 15 ≡ false → IsEngineStopped (new.port port.0)
-law_stopped_engine_is_read laws uses m port v old new reached a st call clear =
+law_cr_read_clear_means_engine_stopped laws uses m port v old new reached a st call clear =
     let f : SimulatesSteps uses m old call.at_access = steps_follow uses m old call.at_access reached a call.steps in
     let k : PortBitsOnlyFallFreeSlotsStay (old.port port.0) (call.at_access.port port.0) = (laws.steps_keep _ _ call.steps).port_bits_only_fall port.0 in
     let h : IsEngineStopped (call.at_access.port port.0) = stopped_halts uses (left.after m f.steps) call.at_access port.0 f.state_relation (k.st_stays_clear st) (sym call.shows.3 ∙ clear) in
@@ -219,7 +220,7 @@ reset_read v old new on call clear =
     subst (Ends old) (sym call.effect) (reset_ends call.steps.steps old call.at_access on (sym call.shows.0 ∙ clear) call.steps.lead)
 
 -- what it leaves stays
-pub law_reset_is_found : StepLaws → (v : ℕ) (old new : Device) → old.hr ≡ true → Reads Ghc v old new → bit v 0 ≡ false → (port : ℕ) → IsQuiescentPort (new.port port)
-law_reset_is_found laws v old new on call clear port =
+pub law_hr_read_clear_means_ports_are_quiescent : StepLaws → (v : ℕ) (old new : Device) → old.hr ≡ true → Reads Ghc v old new → bit v 0 ≡ false → (port : ℕ) → IsQuiescentPort (new.port port)
+law_hr_read_clear_means_ports_are_quiescent laws v old new on call clear port =
     let s = reset_read v old new on call clear in
     (reset_stays laws) port (device_after ResetEnds s.0) new s.1 (reset_left s.0 port)

@@ -16,7 +16,7 @@ use Rattle.adapter.specs.Steps.DeviceTransition.{Fetch, FetchFault, Move, Clear,
 use Rattle.adapter.specs.declared.tape.Entry.{Entry}
 use Rattle.adapter.proofs.Changed.{changed_same}
 use Rattle.refinement.specs.StepLaws.{StepLaws}
-use Rattle.refinement.specs.Errors.{NoFatalErrors, IsFatalErrorOf}
+use Rattle.refinement.specs.Errors.{NoFatalErrors, IsFatalEntryOf}
 use Rattle.refinement.specs.PreservedParts.{DoesNotWrite, NoPlugEvents, KeepsDisk, SameLink, ComesUp, LinkIsSameOrComesUp, IsPlugEvent}
 use Rattle.refinement.specs.StartedPort.{IsUpForStart, IsStarted, WritesCmdOnlyWithStSet}
 use Rattle.refinement.proofs.device.FactsOverAccesses.{access_steps, effect_keeps}
@@ -64,7 +64,7 @@ runs_of p h = (h.st_is_set, h.cr_is_set, h.det_is_3, h.present, h.fresh, h.no_li
 is_running : (p : DevicePort) → Runs p → RunsLinked p
 is_running p h = record { st_is_set = h.0; cr_is_set = h.1; det_is_3 = h.2; present = h.3; fresh = h.4; no_link_is_due = h.5; is_not_broken = h.6 }
 
-module _ (port : ℕ) (d : Device) (gained others : List Entry) (none : NoneOf (IsPlugEvent port) gained) (calm : NoneOf (IsFatalErrorOf port) others) where
+module _ (port : ℕ) (d : Device) (gained others : List Entry) (none : NoneOf (IsPlugEvent port) gained) (calm : NoneOf (IsFatalEntryOf port) others) where
   step_runs : (step : DeviceTransition) → d.hr ≡ false → Can step d → (device_after step d).tape ≡ d.tape ++ gained → (device_after step d).tape ≡ d.tape ++ others → Runs (d.port port) → Runs ((device_after step d).port port)
   step_runs (Fetch p slot c places) off can is too h = at_port Runs Runs d p port _ h (λ e x. x) (λ ne x. x)
   step_runs (FetchFault p slot queued kept_bits) off can is too h = at_port Runs Runs d p port _ h (λ e x. x) (λ ne x. x)
@@ -73,7 +73,7 @@ module _ (port : ℕ) (d : Device) (gained others : List Entry) (none : NoneOf (
   step_runs (Done p slot flag t) off can is too h = at_port Runs Runs d p port _ h (λ e x. x) (λ ne x. x)
   step_runs (Fault p slot error kept_bits t) off can is too h = at_port Runs Runs d p port _ h (λ e x. x) (λ ne x. x)
   step_runs (Fatal p place) off can is too h = at_port Runs Runs d p port _ h
-      (λ e x. absurd (gained_none (IsFatalErrorOf port) d.tape _ others too calm e)) (λ ne x. x)
+      (λ e x. absurd (gained_none (IsFatalEntryOf port) d.tape _ others too calm e)) (λ ne x. x)
   step_runs (Fall p) off can is too h = at_port Runs Runs d p port _ h (λ e x. absurd (both_ways _ can.0 x.0)) (λ ne x. x)
   step_runs (FrFall p) off can is too h = at_port Runs Runs d p port _ h (λ e x. x) (λ ne x. x)
   step_runs (LinkUp p sig n) off can is too h = at_port Runs Runs d p port _ h (λ e x. absurd (both_ways _ x.5 can.link_is_due)) (λ ne x. x)

@@ -18,7 +18,7 @@ use Rattle.adapter.proofs.Changed.{changed_same}
 use Rattle.refinement.specs.StepLaws.{StepLaws}
 use Rattle.refinement.specs.Relation.{port_at}
 use Rattle.refinement.specs.PreservedParts.{DoesNotWrite}
-use Rattle.refinement.specs.PortNotes.{DoesNotRead, ReadingNotesChangeByReadOrSctlWriteOnly}
+use Rattle.refinement.specs.PortNotes.{DoesNotRead, NotesChangeOnlyByReadOrSctlWrite}
 use Rattle.refinement.proofs.device.HealthyPort.{at_port}
 
 -- ---- what is noted
@@ -66,11 +66,11 @@ shown_after laws port r v old new off x = (laws.reading_shows_register port r v 
 
 -- ---- what leaves it
 
-pub law_notes_stay : StepLaws → (port : ℕ) (old new : Device) → Steps old new → (new.port port).notes ≡ (old.port port).notes
-law_notes_stay laws port old new s = (laws.steps_keep _ _ s).notes_are_kept port
+pub law_noted_reads_change_only_by_read_or_sctl : StepLaws → (port : ℕ) (old new : Device) → Steps old new → (new.port port).notes ≡ (old.port port).notes
+law_noted_reads_change_only_by_read_or_sctl laws port old new s = (laws.steps_keep _ _ s).notes_are_kept port
 
 module _ (access : Access) (port : Port) (first : Notes) where
-  -- the fields of `ReadingNotesChangeByReadOrSctlWriteOnly`
+  -- the fields of `NotesChangeOnlyByReadOrSctlWrite`
   abbrev Leaves : DevicePort → Type 0
   Leaves p =
       (DoesNotRead (Px port Cmd) access → (p.notes.last_cmd ≡ first.last_cmd) × (p.notes.engine_wait_count ≡ first.engine_wait_count))
@@ -150,14 +150,14 @@ writing_leaves port first Bohc v d h = h
 
 access_leaves : StepLaws → (port : Port) (access : Access) (old new : Device) → Does access old new → Leaves access port (old.port port.0).notes (new.port port.0)
 access_leaves laws port (Reading r v) old new x = subst (λ (d : Device). Leaves (Reading r v) port (old.port port.0).notes (d.port port.0)) (sym x.effect)
-    (reading_leaves port (old.port port.0).notes r v x.at_access (left_notes (Reading r v) port (old.port port.0).notes (x.at_access.port port.0) (law_notes_stay laws port.0 old x.at_access x.steps)))
+    (reading_leaves port (old.port port.0).notes r v x.at_access (left_notes (Reading r v) port (old.port port.0).notes (x.at_access.port port.0) (law_noted_reads_change_only_by_read_or_sctl laws port.0 old x.at_access x.steps)))
 access_leaves laws port (Writing r v) old new x = subst (λ (d : Device). Leaves (Writing r v) port (old.port port.0).notes (d.port port.0)) (sym x.effect)
-    (writing_leaves port (old.port port.0).notes r v x.at_access (left_notes (Writing r v) port (old.port port.0).notes (x.at_access.port port.0) (law_notes_stay laws port.0 old x.at_access x.steps)))
-access_leaves laws port (Loading at bytes) old new x = left_notes (Loading at bytes) port (old.port port.0).notes (new.port port.0) (law_notes_stay laws port.0 old new x.steps)
+    (writing_leaves port (old.port port.0).notes r v x.at_access (left_notes (Writing r v) port (old.port port.0).notes (x.at_access.port port.0) (law_noted_reads_change_only_by_read_or_sctl laws port.0 old x.at_access x.steps)))
+access_leaves laws port (Loading at bytes) old new x = left_notes (Loading at bytes) port (old.port port.0).notes (new.port port.0) (law_noted_reads_change_only_by_read_or_sctl laws port.0 old new x.steps)
 access_leaves laws port (Storing at bytes) old new x = left_notes (Storing at bytes) port (old.port port.0).notes (new.port port.0)
-    (ap (λ (d : Device). (d.port port.0).notes) x.effect ∙ law_notes_stay laws port.0 old x.at_access x.steps)
+    (ap (λ (d : Device). (d.port port.0).notes) x.effect ∙ law_noted_reads_change_only_by_read_or_sctl laws port.0 old x.at_access x.steps)
 
-pub access_notes : StepLaws → (port : Port) (access : Access) (old new : Device) → Does access old new → ReadingNotesChangeByReadOrSctlWriteOnly access port (old.port port.0).notes (new.port port.0).notes
+pub access_notes : StepLaws → (port : Port) (access : Access) (old new : Device) → Does access old new → NotesChangeOnlyByReadOrSctlWrite access port (old.port port.0).notes (new.port port.0).notes
 access_notes laws port access old new x =
     let h : Leaves access port (old.port port.0).notes (new.port port.0) = access_leaves laws port access old new x in
     record { command = h.0; link = h.1; task_file = h.2; issued = h.3; active = h.4; signature = h.5 }

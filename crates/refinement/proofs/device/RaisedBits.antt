@@ -16,7 +16,7 @@ use Rattle.adapter.specs.declared.tape.Entry.TheVariants as entry
 use Rattle.adapter.proofs.Changed.{changed_other}
 use Rattle.refinement.specs.StepLaws.{StepLaws}
 use Rattle.refinement.specs.Relation.{port_at}
-use Rattle.refinement.specs.Errors.{IsFatalErrorOf, ErrorBitsRiseByErrors}
+use Rattle.refinement.specs.Errors.{IsFatalEntryOf, ErrorBitsRiseByErrors}
 use Rattle.refinement.specs.PortFacts.{IsFaultOf}
 use Rattle.refinement.proofs.device.FactsOverAccesses.{access_steps, effect_keeps}
 use Rattle.refinement.proofs.device.ErrorBits.{command_beside}
@@ -108,13 +108,13 @@ no_fatal place e (inr z) = omega (arith, e, z)
 pub steps_raise : StepLaws → (port : ℕ) (old new : Device) → Steps old new → ErrorBitsRiseByErrors port old new
 steps_raise laws port old new s = record {
   fatal = λ none place low up h.
-      (steps_unset laws) (IsFatalErrorOf port) port place low (λ f e z. no_fault place up z) (λ at e z. e) old new s (fatal_gains port old new none) h;
+      (steps_unset laws) (IsFatalEntryOf port) port place low (λ f e z. no_fault place up z) (λ at e z. e) old new s (fatal_gains port old new none) h;
   fault = λ none h. steps_unset laws (IsFaultOf port) port 30 (omega arith) (λ f e z. e) (λ at e z. no_fatal 30 refl z) old new s (fails_gains port old new none) h;
 }
 
 pub access_raises : StepLaws → (port : Port) (access : Access) (old new : Device) → Does access old new → ErrorBitsRiseByErrors port.0 old new
 access_raises laws port access old new x = record {
   fatal = λ none place low up h.
-      (access_unset laws) (IsFatalErrorOf port.0) port.0 place low (λ f e z. no_fault place up z) (λ at e z. e) access old new x (fatal_gains port.0 old new none) h;
+      (access_unset laws) (IsFatalEntryOf port.0) port.0 place low (λ f e z. no_fault place up z) (λ at e z. e) access old new x (fatal_gains port.0 old new none) h;
   fault = λ none h. access_unset laws (IsFaultOf port.0) port.0 30 (omega arith) (λ f e z. e) (λ at e z. no_fatal 30 refl z) access old new x (fails_gains port.0 old new none) h;
 }

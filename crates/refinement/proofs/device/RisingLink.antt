@@ -19,7 +19,7 @@ use Rattle.adapter.proofs.Changed.{changed_same}
 use Rattle.refinement.specs.StepLaws.{StepLaws}
 use Rattle.refinement.specs.Errors.{IsDiskComing, NoDiskComes}
 use Rattle.refinement.specs.PreservedParts.{DoesNotWrite, NoPlugEvents, SameLink, ComesUp}
-use Rattle.refinement.specs.StartedPort.{IsUpForStart, IsStoppedAndUpForStartIfShown, WritesCmdOnlyWithStClear}
+use Rattle.refinement.specs.StartedPort.{IsUpForStart, IsStoppedAndUpForStartIfDet3, WritesCmdOnlyWithStClear}
 use Rattle.refinement.proofs.device.FactsOverAccesses.{access_steps, effect_keeps}
 use Rattle.refinement.proofs.device.ErrorBits.{comes_parts, comes_before, plugs_come}
 use Rattle.refinement.proofs.device.TapeGains.{NoneOf, gained_none}
@@ -42,18 +42,18 @@ up_of p u = (u.det_is_3, u.present, u.fresh, u.no_link_is_due, u.comreset_is_ove
 pub is_up : (p : DevicePort) → Up p → IsUpForStart p
 is_up p u = record { det_is_3 = u.0; present = u.1; fresh = u.2; no_link_is_due = u.3; comreset_is_over = u.4; start_ends_halt = u.5 }
 
-coming_of : (p : DevicePort) → IsStoppedAndUpForStartIfShown p → Coming p
-coming_of p h = (h.cr_is_clear, λ det. up_of p (h.is_up_if_shown det))
+coming_of : (p : DevicePort) → IsStoppedAndUpForStartIfDet3 p → Coming p
+coming_of p h = (h.cr_is_clear, λ det. up_of p (h.is_up_if_det_3 det))
 
-is_coming : (p : DevicePort) → Coming p → IsStoppedAndUpForStartIfShown p
-is_coming p h = record { cr_is_clear = h.0; is_up_if_shown = λ det. is_up p (h.1 det) }
+is_coming : (p : DevicePort) → Coming p → IsStoppedAndUpForStartIfDet3 p
+is_coming p h = record { cr_is_clear = h.0; is_up_if_det_3 = λ det. is_up p (h.1 det) }
 
 -- no device shows
 not_three : {A : Type 0} → ◌≡◌ {A = ℕ} 0 3 → A
 not_three e = absurd (omega (arith, e))
 
-pub unlinked : (p : DevicePort) → p.cr ≡ false → p.ssts_det ≢ 3 → IsStoppedAndUpForStartIfShown p
-unlinked p stands other = record { cr_is_clear = stands; is_up_if_shown = λ det. absurd (other det) }
+pub unlinked : (p : DevicePort) → p.cr ≡ false → p.ssts_det ≢ 3 → IsStoppedAndUpForStartIfDet3 p
+unlinked p stands other = record { cr_is_clear = stands; is_up_if_det_3 = λ det. absurd (other det) }
 
 -- ---- a step
 
@@ -88,7 +88,7 @@ leads_coming laws port (step ∷ steps) old new (can, lead) none h =
     let parts = comes_parts port old (device_after step old) new k.new_entries l.new_entries k.tape_grows l.tape_grows none in
     leads_coming laws port steps (device_after step old) new lead parts.1 (step_coming port old parts.0.new_entries parts.0.no_such_entry h step can parts.0.tape_is)
 
-pub steps_coming : StepLaws → (port : ℕ) (old new : Device) → NoDiskComes port old new → Steps old new → IsStoppedAndUpForStartIfShown (old.port port) → IsStoppedAndUpForStartIfShown (new.port port)
+pub steps_coming : StepLaws → (port : ℕ) (old new : Device) → NoDiskComes port old new → Steps old new → IsStoppedAndUpForStartIfDet3 (old.port port) → IsStoppedAndUpForStartIfDet3 (new.port port)
 steps_coming laws port old new none s h = is_coming (new.port port) (leads_coming laws port s.steps old new s.lead none (coming_of (old.port port) h))
 
 -- ---- an access
@@ -120,7 +120,7 @@ written_coming Sctl v tape p off h = control_coming v tape p (v % 16) h
 written_coming _ v tape p off h = h
 
 module _ (laws : StepLaws) (port : Port) (access : Access) (old new : Device) (off : WritesCmdOnlyWithStClear port access) (x : Does access old new) where
-  pub access_coming : NoDiskComes port.0 old new → IsStoppedAndUpForStartIfShown (old.port port.0) → IsStoppedAndUpForStartIfShown (new.port port.0)
+  pub access_coming : NoDiskComes port.0 old new → IsStoppedAndUpForStartIfDet3 (old.port port.0) → IsStoppedAndUpForStartIfDet3 (new.port port.0)
   access_coming none h =
       let s = access_steps access old new x in
       let c = leads_coming laws port.0 s.1.steps old s.0 s.1.lead (comes_before port.0 old s.0 new s.2 none) (coming_of (old.port port.0) h) in
@@ -130,13 +130,13 @@ module _ (laws : StepLaws) (port : Port) (access : Access) (old new : Device) (o
 
 -- ---- it begins
 
-pub comreset_comes : StepLaws → (port : Port) (v : ℕ) (old new : Device) → (old.port port.0).cr ≡ false → v % 16 ≡ 1 → Writes (Px port Sctl) v old new → IsStoppedAndUpForStartIfShown (new.port port.0)
+pub comreset_comes : StepLaws → (port : Port) (v : ℕ) (old new : Device) → (old.port port.0).cr ≡ false → v % 16 ≡ 1 → Writes (Px port Sctl) v old new → IsStoppedAndUpForStartIfDet3 (new.port port.0)
 comreset_comes laws port v old new stands one call =
     let k : PortBitsOnlyFallFreeSlotsStay (old.port port.0) (call.at_access.port port.0) = (laws.steps_keep _ _ call.steps).port_bits_only_fall port.0 in
-    subst IsStoppedAndUpForStartIfShown (sym (ap (λ (d : Device). d.port port.0) call.effect ∙ changed_same call.at_access.port port.0 _))
+    subst IsStoppedAndUpForStartIfDet3 (sym (ap (λ (d : Device). d.port port.0) call.effect ∙ changed_same call.at_access.port port.0 _))
     (is_coming _ (subst (λ (n : ℕ). Coming (port_after_det_write n (length call.at_access.tape) (call.at_access.port port.0))) (sym one) (k.cr_stays_clear stands, λ det. not_three det)))
 
-pub reset_comes : StepLaws → (v : ℕ) (old new : Device) → old.hr ≡ true → Reads Ghc v old new → bit v 0 ≡ false → (port : ℕ) → NoDiskComes port old new → IsStoppedAndUpForStartIfShown (new.port port)
+pub reset_comes : StepLaws → (v : ℕ) (old new : Device) → old.hr ≡ true → Reads Ghc v old new → bit v 0 ≡ false → (port : ℕ) → NoDiskComes port old new → IsStoppedAndUpForStartIfDet3 (new.port port)
 reset_comes laws v old new on call clear port none =
     let s = reset_read v old new on call clear in
     let a : KeepsOverSteps old (device_after ResetEnds s.0) = laws.steps_keep _ _ s.2 in
@@ -146,9 +146,9 @@ reset_comes laws v old new on call clear port none =
 
 -- ---- it is found up
 
-pub up_is_found : StepLaws → (port : Port) (v : ℕ) (old new : Device) → NoDiskComes port.0 old new → Reads (Px port Ssts) v old new → v % 16 ≡ 3 → IsStoppedAndUpForStartIfShown (old.port port.0) → IsUpForStart (new.port port.0)
+pub up_is_found : StepLaws → (port : Port) (v : ℕ) (old new : Device) → NoDiskComes port.0 old new → Reads (Px port Ssts) v old new → v % 16 ≡ 3 → IsStoppedAndUpForStartIfDet3 (old.port port.0) → IsUpForStart (new.port port.0)
 up_is_found laws port v old new none call three h =
-    (access_coming laws port (Reading (Px port Ssts) v) old new (λ w e. absurd (let z : Reading (Px port Ssts) v ≡ Writing (Px port Cmd) w = e in cc)) call none h).is_up_if_shown
+    (access_coming laws port (Reading (Px port Ssts) v) old new (λ w e. absurd (let z : Reading (Px port Ssts) v ≡ Writing (Px port Cmd) w = e in cc)) call none h).is_up_if_det_3
     (ap (λ (d : Device). (d.port port.0).ssts_det) call.effect ∙ ap (λ (p : DevicePort). p.ssts_det) (changed_same call.at_access.port port.0 _) ∙ sym call.shows ∙ three)
 
 -- ---- and stays so
@@ -159,11 +159,11 @@ still_three p new three = ⊎_elim (λ (s : SameLink p new). s.det ∙ three) (�
 
 pub steps_up : StepLaws → (port : ℕ) (old new : Device) → old.hr ≡ false → (old.port port).cr ≡ false → NoPlugEvents port old new → Steps old new → IsUpForStart (old.port port) → IsUpForStart (new.port port)
 steps_up laws port old new off stands none s u =
-    (steps_coming laws port old new (plugs_come port old new none) s (record { cr_is_clear = stands; is_up_if_shown = λ _. u })).is_up_if_shown
+    (steps_coming laws port old new (plugs_come port old new none) s (record { cr_is_clear = stands; is_up_if_det_3 = λ _. u })).is_up_if_det_3
     (still_three (old.port port) (new.port port) u.det_is_3 (steps_link laws port old new off s none))
 
 pub access_up : StepLaws → (port : Port) (access : Access) (old new : Device) → old.hr ≡ false → (old.port port.0).cr ≡ false → WritesCmdOnlyWithStClear port access → DoesNotWrite (Px port Sctl) access → NoPlugEvents port.0 old new → Does access old new →
     IsUpForStart (old.port port.0) → IsUpForStart (new.port port.0)
 access_up laws port access old new off stands sets spares none x u =
-    (access_coming laws port access old new sets x (plugs_come port.0 old new none) (record { cr_is_clear = stands; is_up_if_shown = λ _. u })).is_up_if_shown
+    (access_coming laws port access old new sets x (plugs_come port.0 old new none) (record { cr_is_clear = stands; is_up_if_det_3 = λ _. u })).is_up_if_det_3
     (still_three (old.port port.0) (new.port port.0) u.det_is_3 (access_link laws port access old new off spares x none))

@@ -14,7 +14,7 @@ use Rattle.adapter.specs.Steps.{DeviceTransition, Can, device_after, Transitions
 use Rattle.adapter.specs.Steps.DeviceTransition.{Fetch, FetchFault, Move, Clear, Done, Fault, Fatal, Fall, FrFall, LinkUp, Unplug, Plug, ResetEnds, Scribble}
 use Rattle.adapter.specs.declared.tape.Entry.{Entry}
 use Rattle.adapter.specs.declared.tape.Entry.TheVariants as entry
-use Rattle.refinement.specs.Errors.{IsFatalErrorOf, NoFatalErrors, NoFaults}
+use Rattle.refinement.specs.Errors.{IsFatalEntryOf, NoFatalErrors, NoFaults}
 use Rattle.refinement.specs.PortFacts.{IsFaultOf}
 use Rattle.refinement.specs.PreservedParts.{DoesNotWrite}
 use Rattle.refinement.proofs.relation.OneSlot.{changed_at}
@@ -131,7 +131,7 @@ alone p clear place from to = let e : 30 ≡ place = omega (arith, from, to) in 
 
 -- ---- fatal errors
 
-fatal_only : (port : ℕ) (e : Entry) → IsFatalErrorOf port e → IsErrorIn 27 29 port e
+fatal_only : (port : ℕ) (e : Entry) → IsFatalEntryOf port e → IsErrorIn 27 29 port e
 fatal_only port (entry.Fatal at) is = (is, omega arith, omega arith)
 fatal_only port _ is = absurd is
 
@@ -152,13 +152,13 @@ module _ (keeps : (old new : Device) → Steps old new → KeepsOverSteps old ne
   access_fault port access old new off spares x clear =
       as_fails port.0 old new (access_untold keeps 30 30 (IsFaultOf port.0) port.0 (fault_only port.0) port access old new refl off spares x (alone (new.port port.0) clear))
 
-  as_fatal : (port : ℕ) (old new : Device) → ShowsNoFatal (old.port port) × GainsNone (IsFatalErrorOf port) old new → ShowsNoFatal (old.port port) × NoFatalErrors port old new
+  as_fatal : (port : ℕ) (old new : Device) → ShowsNoFatal (old.port port) × GainsNone (IsFatalEntryOf port) old new → ShowsNoFatal (old.port port) × NoFatalErrors port old new
   as_fatal port old new (h, g) = (h, record { new_entries = g.0; tape_is = g.1; no_such_entry = g.2 })
 
   pub steps_fatal : (port : ℕ) (old new : Device) → old.hr ≡ false → Steps old new → ShowsNoFatal (new.port port) → ShowsNoFatal (old.port port) × NoFatalErrors port old new
-  steps_fatal port old new off s clear = as_fatal port old new (steps_untold keeps 27 29 (IsFatalErrorOf port) port (fatal_only port) old new off s clear)
+  steps_fatal port old new off s clear = as_fatal port old new (steps_untold keeps 27 29 (IsFatalEntryOf port) port (fatal_only port) old new off s clear)
 
   pub access_fatal : (port : Port) (access : Access) (old new : Device) → old.hr ≡ false → DoesNotWrite (Px port Is) access → Does access old new → ShowsNoFatal (new.port port.0) →
       ShowsNoFatal (old.port port.0) × NoFatalErrors port.0 old new
   access_fatal port access old new off spares x clear =
-      as_fatal port.0 old new (access_untold keeps 27 29 (IsFatalErrorOf port.0) port.0 (fatal_only port.0) port access old new refl off spares x clear)
+      as_fatal port.0 old new (access_untold keeps 27 29 (IsFatalEntryOf port.0) port.0 (fatal_only port.0) port access old new refl off spares x clear)

@@ -145,8 +145,8 @@ drq_read v tfd e = ap (λ (n : ℕ). n == 1) (ap (λ (n : ℕ). bit_at n 3) (sym
     low = omega arith
 
 -- without DRQ the link isn't awaited
-pub law_clean_to_start_is_found : (port : Port) (v : ℕ) (old new : Device) → WhileLinkAwaitedCrIsClearAndDrqSet (old.port port.0) → CrAndTfesAreClear (old.port port.0) → Reads (Px port Tfd) v old new → bit v 3 ≡ false → IsCleanToStart (new.port port.0)
-law_clean_to_start_is_found port v old new awaited unflagged call clear =
+pub law_tfes_and_drq_clear_mean_clean_to_start : (port : Port) (v : ℕ) (old new : Device) → WhileLinkAwaitedCrIsClearAndDrqSet (old.port port.0) → CrAndTfesAreClear (old.port port.0) → Reads (Px port Tfd) v old new → bit v 3 ≡ false → IsCleanToStart (new.port port.0)
+law_tfes_and_drq_clear_mean_clean_to_start port v old new awaited unflagged call clear =
     let u : CrAndTfesAreClear (call.at_access.port port.0) = steps_unflagged port.0 old call.at_access call.steps unflagged in
     let w : WhileLinkAwaitedCrIsClearAndDrqSet (call.at_access.port port.0) = steps_awaited port.0 old call.at_access call.steps awaited in
     let none : ((call.at_access.port port.0).link_due ≡ true) ⊎ ((call.at_access.port port.0).sctl_det ≡ 1) → ⊥ = λ due. absurd (both_ways _ clear (sym (drq_read v (call.at_access.port port.0).tfd call.shows) ∙ (w due).1)) in

@@ -24,7 +24,8 @@ use Rattle.refinement.specs.StepLaws.{StepLaws}
 use Rattle.refinement.specs.Relation.{StateRelation}
 use Rattle.refinement.specs.Simulation.{SimulatesSteps}
 use Rattle.refinement.specs.MemoryLayout.{scratch_frame_address}
-use Rattle.refinement.specs.Slots.{SlotState, Free, Own, Serves, SlotStates, IsMove, OwnAwaitsFetch, OwnIsTaken, OwnIsOverWithPageIfSt, ServesOwn, IsOver, RelatesSlot, client_operation_of, Armed}
+use Rattle.adapter.specs.OneCommand.{SlotHasNoCommand}
+use Rattle.refinement.specs.Slots.{SlotState, Free, Own, Serves, SlotStates, IsMove, OwnAwaitsFetch, OwnIsTaken, OwnIsOverWithPageIfSt, ServesOwn, RelatesSlot, client_operation_of, Armed}
 use Rattle.refinement.specs.Tape.{OneAtMost}
 use Rattle.refinement.proofs.device.FactsOverAccesses.{access_steps}
 use Rattle.refinement.proofs.steps.EndedCommand.{own_clear}
@@ -36,7 +37,7 @@ use Rattle.refinement.proofs.steps.TakenCommand.{none_op, own_plain}
 
 -- slot 0 has no page to bring: its command is over, or has brought what it brings
 abbrev IsSpent : DevicePort → Type 0
-IsSpent p = IsOver p 0 ⊎ ((t : FetchedCommand) × (p.taken 0 ≡ Some t) × (t.moved ≡ length t.places))
+IsSpent p = SlotHasNoCommand p 0 ⊎ ((t : FetchedCommand) × (p.taken 0 ≡ Some t) × (t.moved ≡ length t.places))
 
 -- ---- a step
 
@@ -179,7 +180,7 @@ module _ (laws : StepLaws) (uses : SlotStates) (m : Machine) (d : Device) (a : S
           (cases_eq slot 0)
       by (Done p slot flag z) can = ⊎_elim
           (λ (f : slot ≡ 0). at_port (λ x. x.taken 0 ≡ Some t) IsSpent d p port _ is
-          (λ e x. inl (subst (λ (s : ℕ). IsOver (steps.port_with_lasting_after_operation (steps.port_after_done_except_lasting (d.port p) s flag z.meaning.operation) z.meaning.operation (length d.tape)) 0) (sym f) (record {
+          (λ e x. inl (subst (λ (s : ℕ). SlotHasNoCommand (steps.port_with_lasting_after_operation (steps.port_after_done_except_lasting (d.port p) s flag z.meaning.operation) z.meaning.operation (length d.tape)) 0) (sym f) (record {
             is_not_issued = own_clear (is_queued z.meaning.operation) (d.port p).ci 0 (subst (λ (y : FetchedCommand). is_queued y.meaning.operation ≡ false) (at_slot p slot z e f can.works.taken) plain);
             is_not_taken = changed_same (d.port p).taken 0 None;
           })))
@@ -240,7 +241,7 @@ module _ (laws : StepLaws) (uses : SlotStates) (port : ℕ) (o : Operation) (own
 -- ---- accesses
 
 pub pages_asked : StepLaws → (uses : SlotStates) (m : Machine) (old new : Device) (port : ℕ) (o : Operation) (gained : List Entry) → IsReachable m → StateRelation uses m old → Steps old new → new.tape ≡ old.tape ++ gained → client_operation_of o ≡ None →
-    (uses port 0 ≡ Own o → IsOver (old.port port) 0) → All (λ e. IsMove port o e → ⊥) gained
+    (uses port 0 ≡ Own o → SlotHasNoCommand (old.port port) 0) → All (λ e. IsMove port o e → ⊥) gained
 pages_asked laws uses m old new port o gained r a s is own over = leads_none laws uses port o own m s.steps old new r a s.lead (λ u. inl (over u)) gained is
 
 pub pages_once : StepLaws → (uses : SlotStates) (m : Machine) (old new : Device) (port : ℕ) (o : Operation) (gained : List Entry) → IsReachable m → StateRelation uses m old → Steps old new → new.tape ≡ old.tape ++ gained → client_operation_of o ≡ None →
@@ -248,7 +249,7 @@ pub pages_once : StepLaws → (uses : SlotStates) (m : Machine) (old new : Devic
 pages_once laws uses m old new port o gained r a s is own = leads_once laws uses port o own m s.steps old new r a s.lead gained is
 
 pub access_pages_asked : StepLaws → (uses : SlotStates) (m : Machine) (access : Access) (old new : Device) (port : ℕ) (o : Operation) (gained : List Entry) → IsReachable m → StateRelation uses m old → Does access old new → new.tape ≡ old.tape ++ gained → client_operation_of o ≡ None →
-    (uses port 0 ≡ Own o → IsOver (old.port port) 0) → All (λ e. IsMove port o e → ⊥) gained
+    (uses port 0 ≡ Own o → SlotHasNoCommand (old.port port) 0) → All (λ e. IsMove port o e → ⊥) gained
 access_pages_asked laws uses m access old new port o gained r a x is own over =
     let s = access_steps access old new x in
     (pages_asked laws) uses m old s.0 port o gained r a s.1 (sym s.2 ∙ is) own over

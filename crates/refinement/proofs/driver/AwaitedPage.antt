@@ -34,7 +34,8 @@ use Rattle.refinement.specs.Driver.{IsOwnCommandPreparedInSlot0}
 use Rattle.refinement.specs.PortFacts.{FollowsAndHasPageSinceStSet}
 use Rattle.refinement.specs.Simulation.{SimulatesSteps}
 use Rattle.refinement.specs.MemoryLayout.{scratch_frame_address}
-use Rattle.refinement.specs.Slots.{SlotState, Own, SlotStates, set_slot_state, IsMove, IsOver, PageCameSinceAndStandsInScratch, OwnAwaitsFetch, OwnIsTaken, OwnIsOverWithPageIfSt, ServesOwn, RelatesSlot, client_operation_of}
+use Rattle.adapter.specs.OneCommand.{SlotHasNoCommand}
+use Rattle.refinement.specs.Slots.{SlotState, Own, SlotStates, set_slot_state, IsMove, PageCameSinceAndStandsInScratch, OwnAwaitsFetch, OwnIsTaken, OwnIsOverWithPageIfSt, ServesOwn, RelatesSlot, client_operation_of}
 use Rattle.refinement.specs.StartedPort.{WritesCmdOnlyWithStSet}
 use Rattle.refinement.proofs.driver.IssueWrite.{own_prepared_stays}
 use Rattle.refinement.proofs.device.FactsOverAccesses.{access_steps, effect_keeps}
@@ -293,7 +294,7 @@ pub page_is_issued : StepLaws → (uses : SlotStates) (m : Machine) (port : Port
 page_is_issued laws uses m port o v old new r a off x call =
     let f : SimulatesSteps uses m old call.at_access = steps_follow uses m old call.at_access r a call.steps in
     let y : IsOwnCommandPreparedInSlot0 uses call.at_access port.0 o v = own_prepared_stays uses m old call.at_access port.0 o v r a off call.steps x in
-    let over : IsOver (call.at_access.port port.0) 0 = own_over uses (left.after m f.steps) call.at_access f.state_relation port.0 o v y in
+    let over : SlotHasNoCommand (call.at_access.port port.0) 0 = own_over uses (left.after m f.steps) call.at_access f.state_relation port.0 o v y in
     let is : new.port port.0 ≡ issued_port (call.at_access.port port.0) v = ap (λ (d : Device). d.port port.0) call.effect ∙ changed_same call.at_access.port port.0 _ in
     record {
       hr_is_clear = ap (λ (d : Device). d.hr) call.effect ∙ ((laws.steps_keep _ _ call.steps).keeps_outside_reset off).no_reset;
@@ -310,16 +311,16 @@ page_is_issued laws uses m port o v old new r a off x call =
 come_of : (uses : SlotStates) (port : ℕ) (o : Operation) (since : ℕ) (d : Device) → AwaitsOrHasPage uses port o since d → (d.port port).ci 0 ≡ false → PageHasCome d.tape port o since
 come_of uses port o since d w clear = ⊎_elim (λ (x : Slot0IsIssuedAndUnmoved (d.port port)). absurd (both_ways _ clear x.issued)) (λ (x : PageHasCome d.tape port o since). x) w.page_is_awaited_or_came
 
-pub law_page_is_awaited : StepLaws → (uses : SlotStates) (m : Machine) (port : Port) (o : Operation) (since v : ℕ) (old new : Device) → IsReachable m → StateRelation uses m old → AwaitsOrHasPage uses port.0 o since old → Reads (Px port Ci) v old new → bit v 0 ≡ false →
+pub law_ci_read_clear_means_page_has_come : StepLaws → (uses : SlotStates) (m : Machine) (port : Port) (o : Operation) (since v : ℕ) (old new : Device) → IsReachable m → StateRelation uses m old → AwaitsOrHasPage uses port.0 o since old → Reads (Px port Ci) v old new → bit v 0 ≡ false →
     FollowsAndHasPageSinceStSet uses m port.0 o old new × PageCameSinceAndStandsInScratch new.memory new.tape port.0 o since
-law_page_is_awaited laws uses m port o since v old new r a w call clear =
+law_ci_read_clear_means_page_has_come laws uses m port o since v old new r a w call clear =
     let page : FollowsAndHasPageSinceStSet uses m port.0 o old new = page_is_read laws uses m port o v old new r a w.hr_is_clear w.st_is_set w.slot_0_has_own_command call clear in
     let y : AwaitsOrHasPage uses port.0 o since call.at_access = steps_wait laws uses m port.0 o since old call.at_access r a call.steps w in
     let come : PageHasCome call.at_access.tape port.0 o since = come_of uses port.0 o since call.at_access y (sym (call.shows 0 (omega arith)) ∙ clear) in
     let there : PageHasCome new.tape port.0 o since = subst (λ (t : List Entry). PageHasCome t port.0 o since) (sym (ap (λ (d : Device). d.tape) call.effect)) come in
     (page, (brought_since new.memory new.tape port.0 o since (new.port port.0).notes.st_set_at there page.page_since_st_set_is_in_scratch).0)
 
-pub awaited_is_loaded : StepLaws → (uses : SlotStates) (m : Machine) (port : ℕ) (o : Operation) (since : ℕ) (bytes : List ℕ) (old new : Device) → IsReachable m → StateRelation uses m old → AwaitsOrHasPage uses port o since old → IsOver (old.port port) 0 →
+pub awaited_is_loaded : StepLaws → (uses : SlotStates) (m : Machine) (port : ℕ) (o : Operation) (since : ℕ) (bytes : List ℕ) (old new : Device) → IsReachable m → StateRelation uses m old → AwaitsOrHasPage uses port o since old → SlotHasNoCommand (old.port port) 0 →
     Loads (scratch_frame_address port) bytes old new → length bytes ≡ 512 → (b : PageCameSinceAndStandsInScratch new.memory new.tape port o since) × (bytes ≡ b.move.bytes.value)
 awaited_is_loaded laws uses m port o since bytes old new r a w over call size =
     let page = page_is_loaded laws uses m port o bytes old new r a w.hr_is_clear w.st_is_set w.slot_0_has_own_command over call size in

@@ -7,7 +7,8 @@ use Rattle.block_machine.specs.Expected.{after}
 use Rattle.block_machine.specs.State.{Machine}
 use Rattle.block_machine.specs.Steps.{Step, IsEnabled, after_step}
 use Rattle.block_machine.proofs.EventLemmas.{after-append}
-use Rattle.block_machine.proofs.HistoryLemmas.{may-append, reached_more}
+use Rattle.block_machine.proofs.EventLemmas.{enabled_histories_join}
+use Rattle.block_machine.proofs.HistoryLemmas.{reached_more}
 use Rattle.refinement.specs.Driver.{DriverState, DriverRelation, TapeBacksSteps, IsBackedByDeviceAlone, EndsInSteps, DriverAdvances}
 use Rattle.refinement.specs.Simulation.{SimulatesSteps}
 use Rattle.refinement.proofs.driver.AddedSteps.{backed_then, nothing_backed, knowing_goes_on}
@@ -25,7 +26,7 @@ goes_none k m x = record { steps_are_enabled = tt; is_backed = nothing_backed k.
 
 pub goes_more : (a b c : DriverState) (m : Machine) (early late : List Step) → DriverAdvances a m early b → DriverAdvances b (after m early) late c → DriverAdvances a m (late ++ early) c
 goes_more a b c m early late x y = record {
-  steps_are_enabled = may-append m late early x.steps_are_enabled y.steps_are_enabled;
+  steps_are_enabled = enabled_histories_join m late early x.steps_are_enabled y.steps_are_enabled;
   is_backed = backed_then a.device b.device c.device m early late x.is_backed y.is_backed;
   driver_relation = subst (λ (n : Machine). DriverRelation n c) (sym (after-append m late early)) y.driver_relation;
 }

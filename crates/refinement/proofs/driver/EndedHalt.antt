@@ -27,7 +27,8 @@ use Rattle.refinement.specs.PortFacts.{RunsWell, PxisValueTellsNoTrouble}
 use Rattle.refinement.specs.Simulation.{SimulatesSteps}
 use Rattle.refinement.specs.PreservedParts.{DoesNotWrite}
 use Rattle.refinement.proofs.device.ClearSactBits.{free_unarmed, steps_clear}
-use Rattle.refinement.specs.Slots.{SlotState, Free, Armed, Own, Serves, SlotStates, set_slot_state, IsInSomeStage, OwnAwaitsFetch, OwnIsTaken, OwnIsOverWithPageIfSt, IsEmptySlot, IsOver, RelatesSlot}
+use Rattle.adapter.specs.OneCommand.{SlotHasNoCommand}
+use Rattle.refinement.specs.Slots.{SlotState, Free, Armed, Own, Serves, SlotStates, set_slot_state, IsInSomeStage, OwnAwaitsFetch, OwnIsTaken, OwnIsOverWithPageIfSt, IsEmptySlot, RelatesSlot}
 use Rattle.refinement.specs.StartedPort.{WritesCmdOnlyWithStSet}
 use Rattle.refinement.proofs.relation.OneSlot.{changed_at}
 use Rattle.refinement.proofs.device.BootedPort.{well_is_told}
@@ -79,7 +80,7 @@ fallen_zero false f slot h = h
 
 module _ (uses : SlotStates) (m : Machine) (d : Device) (a : StateRelation uses m d) (port : ℕ) (alone : (slot : ℕ) → slot ≢ 0 → uses port slot ≡ Free) (off : d.hr ≡ false) (h : Ends (d.port port)) where
   -- slot 0 alone has a command
-  beside_over : (p slot : ℕ) → p ≡ port → slot ≢ 0 → IsOver (d.port p) slot
+  beside_over : (p slot : ℕ) → p ≡ port → slot ≢ 0 → SlotHasNoCommand (d.port p) slot
   beside_over p slot e ne =
       let h : IsEmptySlot (d.port p) slot = subst (λ (u : SlotState). RelatesSlot m d.memory d.tape (d.port p) p slot u) (ap (λ (q : ℕ). uses q slot) e ∙ alone slot ne) (a.relates_slots p slot) in
       record { is_not_issued = h.is_not_issued; is_not_taken = h.is_not_taken }

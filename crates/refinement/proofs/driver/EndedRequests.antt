@@ -25,7 +25,8 @@ use Rattle.refinement.specs.Relation.{StateRelation, port_at}
 use Rattle.refinement.specs.PortFacts.{EndedOnPort, IsSlotClear, FollowsAndHasPageSinceStSet}
 use Rattle.refinement.specs.Simulation.{SimulatesSteps}
 use Rattle.refinement.specs.MemoryLayout.{scratch_frame_address}
-use Rattle.refinement.specs.Slots.{SlotState, Own, Serves, SlotStates, IsEnded, IsInSomeStage, ServesRequest, PageCameSinceAndStandsInScratch, OwnAwaitsFetch, OwnIsTaken, OwnIsOverWithPageIfSt, ServesOwn, IsOver, RelatesSlot}
+use Rattle.adapter.specs.OneCommand.{SlotHasNoCommand}
+use Rattle.refinement.specs.Slots.{SlotState, Own, Serves, SlotStates, IsEnded, IsInSomeStage, ServesRequest, PageCameSinceAndStandsInScratch, OwnAwaitsFetch, OwnIsTaken, OwnIsOverWithPageIfSt, ServesOwn, RelatesSlot}
 use Rattle.refinement.proofs.steps.AdapterCalls.{read_follows, load_follows}
 
 both_clear : {A : Type 0} (q : Bool) {i c : Bool} → i ≡ true && not q → c ≡ true && q → i ≡ false → c ≡ false → A
@@ -52,9 +53,9 @@ is_ended_at_age_two m d port slot id h x = (
 )
 
 -- so it is where the request has ended
-pub law_ended_is_clear : (uses : SlotStates) (m : Machine) (d : Device) (port : Port) (slot : ℕ) (e : Pending) → IsReachable m → StateRelation uses m d → MayStillMove m e → e.ended ≡ true → uses port.0 slot ≡ Serves e.request.id →
+pub law_slot_is_clear_iff_ended_while_st_set : (uses : SlotStates) (m : Machine) (d : Device) (port : Port) (slot : ℕ) (e : Pending) → IsReachable m → StateRelation uses m d → MayStillMove m e → e.ended ≡ true → uses port.0 slot ≡ Serves e.request.id →
     IsSlotClear (d.port port.0) slot × EndedOnPort m port e.request.id
-law_ended_is_clear uses m d port slot e reached a moves ended u = by (subst (λ (v : SlotState). RelatesSlot m d.memory d.tape (d.port port.0) port.0 slot v) u (a.relates_slots port.0 slot))
+law_slot_is_clear_iff_ended_while_st_set uses m d port slot e reached a moves ended u = by (subst (λ (v : SlotState). RelatesSlot m d.memory d.tape (d.port port.0) port.0 slot v) u (a.relates_slots port.0 slot))
   where
     by : ServesRequest m d.memory (d.port port.0) port.0 slot e.request.id → IsSlotClear (d.port port.0) slot × EndedOnPort m port e.request.id
     by h = of h.stage
@@ -121,7 +122,7 @@ page_is_read laws uses m port o v old new reached a h st u call clear =
     }
 
 pub page_is_loaded : StepLaws → (uses : SlotStates) (m : Machine) (port : ℕ) (o : Operation) (bytes : List ℕ) (old new : Device) → IsReachable m → StateRelation uses m old → old.hr ≡ false → (old.port port).st ≡ true →
-    uses port 0 ≡ Own o → IsOver (old.port port) 0 → Loads (scratch_frame_address port) bytes old new → length bytes ≡ 512 →
+    uses port 0 ≡ Own o → SlotHasNoCommand (old.port port) 0 → Loads (scratch_frame_address port) bytes old new → length bytes ≡ 512 →
     (page : FollowsAndHasPageSinceStSet uses m port o old new) × (bytes ≡ page.page_since_st_set_is_in_scratch.move.bytes.value)
 page_is_loaded laws uses m port o bytes old new reached a h st u over call size =
     let f : SimulatesSteps uses m old new = load_follows uses m (scratch_frame_address port) bytes old new reached a call in

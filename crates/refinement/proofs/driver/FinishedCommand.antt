@@ -19,7 +19,7 @@ use Rattle.block_machine.specs.State.{Accepted, Pending, Machine}
 use Rattle.block_machine.specs.Steps.{Step, MayStillMove, NoneKept}
 use Rattle.refinement.specs.StepLaws.{StepLaws}
 use Rattle.refinement.specs.PortFacts.{EndedOnPort, IsSlotClear}
-use Rattle.refinement.specs.Slots.{IsOver}
+use Rattle.adapter.specs.OneCommand.{SlotHasNoCommand}
 use Rattle.refinement.specs.SparedBook.{IsAsFarOrFurther, KeepsLoansAndPendingsOnlyAdvance}
 use Rattle.refinement.proofs.device.FactsOverAccesses.{access_steps, effect_keeps}
 use Rattle.refinement.proofs.steps.SparedBook.{steps_spare, entry_is_found_in_later_book}
@@ -28,7 +28,7 @@ use Rattle.refinement.proofs.steps.RegisterWrites.{or_false}
 
 -- ---- a slot
 
-pub steps_over : StepLaws → (port slot : ℕ) (old new : Device) → Steps old new → IsOver (old.port port) slot → IsOver (new.port port) slot
+pub steps_over : StepLaws → (port slot : ℕ) (old new : Device) → Steps old new → SlotHasNoCommand (old.port port) slot → SlotHasNoCommand (new.port port) slot
 steps_over laws port slot old new s h =
     let k : PortBitsOnlyFallFreeSlotsStay (old.port port) (new.port port) = (laws.steps_keep _ _ s).port_bits_only_fall port in
     record { is_not_issued = k.ci_stays_clear slot h.is_not_issued; is_not_taken = k.slots_stay_free slot h.is_not_issued h.is_not_taken }
@@ -77,10 +77,10 @@ effect_unset armed port slot access old new x ci sact h =
     (λ a e. sact a v (is ∙ ap (λ (q : PortReg). Writing (Px port q) v) e)) y)
     h
 
-pub access_over : StepLaws → (port : Port) (slot : ℕ) (access : Access) (old new : Device) → ((v : ℕ) → access ≡ Writing (Px port Ci) v → bit v slot ≡ false) → Does access old new → IsOver (old.port port.0) slot → IsOver (new.port port.0) slot
+pub access_over : StepLaws → (port : Port) (slot : ℕ) (access : Access) (old new : Device) → ((v : ℕ) → access ≡ Writing (Px port Ci) v → bit v slot ≡ false) → Does access old new → SlotHasNoCommand (old.port port.0) slot → SlotHasNoCommand (new.port port.0) slot
 access_over laws port slot access old new ci x h =
     let s = access_steps access old new x in
-    let mid : IsOver (s.0.port port.0) slot = steps_over laws port.0 slot old s.0 s.1 h in
+    let mid : SlotHasNoCommand (s.0.port port.0) slot = steps_over laws port.0 slot old s.0 s.1 h in
     let e = effect_unset false port slot access old new x ci (λ a. absurd (false≢true a)) (mid.is_not_issued, mid.is_not_taken, λ a. absurd (false≢true a)) in
     record { is_not_issued = e.0; is_not_taken = e.1 }
 

@@ -11,7 +11,8 @@ use Rattle.block_machine.specs.State.{Pending, Machine}
 use Rattle.block_machine.specs.Steps.{MayStillMove}
 use Rattle.refinement.specs.Relation.{StateRelation}
 use Rattle.refinement.specs.PortFacts.{ShowsFault}
-use Rattle.refinement.specs.Slots.{SlotState, Free, Armed, Own, Serves, SlotStates, IsInSomeStage, OwnAwaitsFetch, OwnIsTaken, OwnIsOverWithPageIfSt, IsOver, ServesRequest, RelatesSlot}
+use Rattle.adapter.specs.OneCommand.{SlotHasNoCommand}
+use Rattle.refinement.specs.Slots.{SlotState, Free, Armed, Own, Serves, SlotStates, IsInSomeStage, OwnAwaitsFetch, OwnIsTaken, OwnIsOverWithPageIfSt, ServesRequest, RelatesSlot}
 use Rattle.refinement.proofs.device.FaultedPort.{fault_has_a_use}
 use Rattle.refinement.proofs.steps.StillFrames.{over_unused}
 use Rattle.refinement.specs.GivingUp.{IsOutstanding}
@@ -93,7 +94,7 @@ stopped_clear uses m d port slot a st = by (uses port slot) (a.relates_slots por
         of (inr (inr (inl x))) = (x.is_not_issued, x.sact_is_clear)
         of (inr (inr (inr x))) = (x.is_not_issued, x.sact_is_clear)
 
-pub over_decided : (uses : SlotStates) (m : Machine) (d : Device) (port slot : ℕ) (id : RequestId) → StateRelation uses m d → uses port slot ≡ Serves id → IsOver (d.port port) slot →
+pub over_decided : (uses : SlotStates) (m : Machine) (d : Device) (port slot : ℕ) (id : RequestId) → StateRelation uses m d → uses port slot ≡ Serves id → SlotHasNoCommand (d.port port) slot →
     (e : Pending) × MayStillMove m e × (e.request.id ≡ id) × ((e.ended ≡ true) ⊎ (((d.port port).st ≡ false) × (e.ended ≡ false)))
 over_decided uses m d port slot id a u over =
     let h : ServesRequest m d.memory (d.port port) port slot id = subst (λ (w : SlotState). RelatesSlot m d.memory d.tape (d.port port) port slot w) u (a.relates_slots port slot) in

@@ -20,7 +20,8 @@ use Rattle.block_machine.specs.Steps.{Accept, Answer, WaitAgain, Age, Release, M
 use Rattle.block_machine.proofs.Members.{map_in, into_map, at_cases, without_in, contains_here, contains_there, contains_cases, contains_none, append_in}
 use Rattle.block_machine.proofs.Sound.{Sound}
 use Rattle.block_machine.proofs.Standing.{standing}
-use Rattle.refinement.specs.Slots.{SlotState, Free, Own, Serves, SlotStates, set_slot_state, TouchedAsMoved, IsInSomeStage, IsOver, RelatesSlot, Armed, IsArmedIfSt}
+use Rattle.adapter.specs.OneCommand.{SlotHasNoCommand}
+use Rattle.refinement.specs.Slots.{SlotState, Free, Own, Serves, SlotStates, set_slot_state, TouchedAsMoved, IsInSomeStage, RelatesSlot, Armed, IsArmedIfSt}
 use Rattle.refinement.specs.Relation.{StateRelation, port_at}
 use Rattle.refinement.specs.Driver.{DriverState, DriverRelation, HasNoSlot, OthersStayParked, ParkedStayUnlessKept, with_slot_freed_and_request_parked, with_slot_freed}
 use Rattle.refinement.proofs.relation.LastingSectors.{gains_none, keeps_same, lasting_on}
@@ -290,7 +291,7 @@ release_knows k m later r x none forgets = record {
 -- ---- slots are given up
 
 -- a slot whose command is over
-module _ (k : DriverState) (m : Machine) (x : DriverRelation m k) (port slot : ℕ) (over : IsOver (k.device.port port) slot) where
+module _ (k : DriverState) (m : Machine) (x : DriverRelation m k) (port slot : ℕ) (over : SlotHasNoCommand (k.device.port port) slot) where
   free_agrees : (k.slot_states port slot ≡ Armed → ⊥) → StateRelation (set_slot_state k.slot_states port slot Free) m k.device
   free_agrees unarmed = put_agrees k.slot_states m m k.device x.state_relation k.device.port port slot Free (record {
     world = record { present = refl; ids = refl; sizes = refl; disks = refl; aside = refl; memory = refl };

@@ -15,8 +15,8 @@ put_unserved uses port slot u id none other p s v = ⊎_elim
     (λ (there : (p ≡ port → s ≡ slot → ⊥) × (uses p s ≡ Serves id)). none p s there.1)
     (put_served uses port slot u p s id v)
 
-pub law_parking_frees : (k : DriverState) (port slot : ℕ) (id : RequestId) → ServeDistinctRequests k.slot_states → k.slot_states port slot ≡ Serves id → HasNoSlot (with_slot_freed_and_request_parked k port slot id).slot_states id
-law_parking_frees k port slot id apart u p s v =
+pub law_parking_request_frees_its_slot : (k : DriverState) (port slot : ℕ) (id : RequestId) → ServeDistinctRequests k.slot_states → k.slot_states port slot ≡ Serves id → HasNoSlot (with_slot_freed_and_request_parked k port slot id).slot_states id
+law_parking_request_frees_its_slot k port slot id apart u p s v =
     ⊎_elim
     (λ (here : (p ≡ port) × (s ≡ slot) × (Free ≡ Serves id)). serves_not_free here.2 refl)
     (λ (there : (p ≡ port → s ≡ slot → ⊥) × (k.slot_states p s ≡ Serves id)). let same = apart p s port slot id there.1 u in there.0 same.0 same.1)

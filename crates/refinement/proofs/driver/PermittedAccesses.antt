@@ -21,7 +21,8 @@ use Rattle.block_machine.specs.Refusals.{MayAccessFrame}
 use Rattle.block_machine.specs.State.{Pending, Machine}
 use Rattle.refinement.specs.StepLaws.{StepLaws}
 use Rattle.refinement.specs.MemoryLayout.{scratch_frame_address}
-use Rattle.refinement.specs.Slots.{SlotStates, IsOver, client_operation_of}
+use Rattle.adapter.specs.OneCommand.{SlotHasNoCommand}
+use Rattle.refinement.specs.Slots.{SlotStates, client_operation_of}
 use Rattle.refinement.specs.Relation.{StateRelation}
 use Rattle.refinement.specs.Driver.{IsInMemoryOfFreeSlot, IsRequestPreparedToIssue, IsOwnCommandPreparedInSlot0}
 use Rattle.refinement.specs.Simulation.{SimulatesSteps}
@@ -53,18 +54,18 @@ module _ (laws : StepLaws) (uses : SlotStates) (m : Machine) (old : Device) (rea
       }
 
   -- the page of a command of the driver's own that is over
-  pub page_is_free : (port : ℕ) → port < 4 → scratch_frame_address port + 512 ≤ old.memory_size → IsOver (old.port port) 0 → IsStable (IsInMemoryNotOwnedByDevice (scratch_frame_address port) 512) old
+  pub page_is_free : (port : ℕ) → port < 4 → scratch_frame_address port + 512 ≤ old.memory_size → SlotHasNoCommand (old.port port) 0 → IsStable (IsInMemoryNotOwnedByDevice (scratch_frame_address port) 512) old
   page_is_free port below inside over mid s =
       let f : SimulatesSteps uses m old mid = steps_follow uses m old mid reached a s in
       let r : IsReachable (left.after m f.steps) = laws.reachable_goes_on m f.steps reached f.steps_are_enabled in
       let k : KeepsOverSteps old mid = laws.steps_keep _ _ s in
-      let still : IsOver (mid.port port) 0 = record { is_not_issued = (k.port_bits_only_fall port).ci_stays_clear 0 over.is_not_issued; is_not_taken = (k.port_bits_only_fall port).slots_stay_free 0 over.is_not_issued over.is_not_taken } in
+      let still : SlotHasNoCommand (mid.port port) 0 = record { is_not_issued = (k.port_bits_only_fall port).ci_stays_clear 0 over.is_not_issued; is_not_taken = (k.port_bits_only_fall port).slots_stay_free 0 over.is_not_issued over.is_not_taken } in
       record {
         inside = (let size = k.memory_size_is_kept in omega (arith, inside, size));
         is_not_owned = λ q slot byte low high used. by still byte low high (left.after m f.steps) r (is_used uses (left.after m f.steps) mid r f.state_relation q slot byte used);
       }
     where
-      by : IsOver (mid.port port) 0 → (byte : ℕ) → scratch_frame_address port ≤ byte → byte < scratch_frame_address port + 512 → (n : Machine) → IsReachable n → IsUsed uses n mid byte → ⊥
+      by : SlotHasNoCommand (mid.port port) 0 → (byte : ℕ) → scratch_frame_address port ≤ byte → byte < scratch_frame_address port + 512 → (n : Machine) → IsReachable n → IsUsed uses n mid byte → ⊥
       by still byte low high n r (inl u) =
           let x = of_slot_in u.port u.slot byte u.slot_below u.here in
           let e : u.port ≡ port = same_port u.port port byte x.0 (omega (arith, x.1)) (omega (arith, low)) (omega (arith, high)) in
@@ -76,7 +77,7 @@ module _ (laws : StepLaws) (uses : SlotStates) (m : Machine) (old : Device) (rea
           let e : u.port ≡ port = same_port u.port port byte (omega (arith, u.from)) (omega (arith, u.to)) (omega (arith, low)) (omega (arith, high)) in
           in_use_over (subst (λ (q : ℕ). InUse (mid.port q) 0) e u.in_use) still
         where
-          in_use_over : InUse (mid.port port) 0 → IsOver (mid.port port) 0 → ⊥
+          in_use_over : InUse (mid.port port) 0 → SlotHasNoCommand (mid.port port) 0 → ⊥
           in_use_over (inl i) x = true_false i x.is_not_issued
           in_use_over (inr t) x = let z : Some t.0 ≡ None = sym t.1 ∙ x.is_not_taken in cc
       by still byte low high n r (inr (inr (inr u))) = let c = client_frame n r u.pending u.moves (u.number / 8) u.framed in omega (arith, high, below, u.from, c)
@@ -108,7 +109,7 @@ module _ (laws : StepLaws) (uses : SlotStates) (m : Machine) (old : Device) (rea
       let y : IsOwnCommandPreparedInSlot0 uses mid port.0 o v = own_prepared_stays uses m old mid port.0 o v reached a on.no_reset s x in
       let k : KeepsOverSteps old mid = laws.steps_keep _ _ s in
       let c : KeepsOutsideReset old mid = k.keeps_outside_reset on.no_reset in
-      let over : IsOver (mid.port port.0) 0 = own_over uses (left.after m f.steps) mid f.state_relation port.0 o v y in (
+      let over : SlotHasNoCommand (mid.port port.0) 0 = own_over uses (left.after m f.steps) mid f.state_relation port.0 o v y in (
         record { ae_is_set = c.ae_is_kept ∙ on.ae_is_set; no_reset = c.no_reset },
         (there.0, ap (λ (n : ℕ). bit n port.0) k.pi_is_kept ∙ there.1),
         record {

@@ -182,6 +182,6 @@ pub agreed_on : (May : Access → Type 0) (Fits : SlotStates → Type 0) (uses :
     IsSimulated May Fits old new → SomeMachineAgrees uses old → SomeMachineAgrees uses new
 agreed_on May Fits uses old new = agreed_to May Fits (λ uses. uses) uses old new
 
-pub law_agreeing_goes_on : (Written : PortReg → Type 0) (Fits : SlotStates → Type 0) (port : Port) (uses : SlotStates) (old new : Device) → Fits uses →
+pub law_some_machine_agrees_after_simulation : (Written : PortReg → Type 0) (Fits : SlotStates → Type 0) (port : Port) (uses : SlotStates) (old new : Device) → Fits uses →
     IsSimulated (ReadsPortOrWrites Written port) Fits old new → SomeMachineAgrees uses old → SomeMachineAgrees uses new
-law_agreeing_goes_on Written Fits port uses old new = agreed_on (ReadsPortOrWrites Written port) Fits uses old new
+law_some_machine_agrees_after_simulation Written Fits port uses old new = agreed_on (ReadsPortOrWrites Written port) Fits uses old new

@@ -20,7 +20,8 @@ use Rattle.block_machine.specs.Histories.{IsReachable}
 use Rattle.block_machine.specs.Steps.{Issue, MayStillMove, after_step, update_pending, newly_issued}
 use Rattle.block_machine.proofs.Members.{map_in, into_map, at_cases}
 use Rattle.block_machine.proofs.Standing.{Standing, standing}
-use Rattle.refinement.specs.Slots.{SlotState, Free, Own, Serves, SlotStates, set_slot_state, ServesRequest, IsOver, RelatesSlot, Armed, IsEmptySlot, IsArmedIfSt}
+use Rattle.adapter.specs.OneCommand.{SlotHasNoCommand}
+use Rattle.refinement.specs.Slots.{SlotState, Free, Own, Serves, SlotStates, set_slot_state, ServesRequest, RelatesSlot, Armed, IsEmptySlot, IsArmedIfSt}
 use Rattle.refinement.specs.Relation.{StateRelation, port_at, SameSectors, HaveSlotsUnlessParked}
 use Rattle.refinement.specs.Driver.{IsRequestPreparedToIssue, IsOwnCommandPreparedInSlot0}
 use Rattle.refinement.proofs.relation.SlotRelation.{SameSlot, SameSlot-refl, served_on, placed_on, GainsNone-refl}
@@ -149,7 +150,7 @@ module _ (d : Device) (port slot v : ℕ) (alone : (k : ℕ) → k ≢ slot → 
 
 -- a free slot has no bit of SACT, and an armed one has it while ST is 1; neither has a command
 pub readied_slot : (uses : SlotStates) (m : Machine) (d : Device) → StateRelation uses m d → (port slot : ℕ) (plain : Bool) → uses port slot ≡ (if plain then Free else Armed) → (d.port port).st ≡ true →
-    IsOver (d.port port) slot × ((d.port port).sact slot ≡ not plain)
+    SlotHasNoCommand (d.port port) slot × ((d.port port).sact slot ≡ not plain)
 readied_slot uses m d a port slot true u st =
     let h : IsEmptySlot (d.port port) slot = subst (λ (w : SlotState). RelatesSlot m d.memory d.tape (d.port port) port slot w) u (a.relates_slots port slot) in
     (record { is_not_issued = h.is_not_issued; is_not_taken = h.is_not_taken }, h.unarmed)
@@ -221,7 +222,7 @@ module _ (uses : SlotStates) (m : Machine) (d : Device) (reached : IsReachable m
   own_in = subst (λ (y : Pending). Contains (map (update_pending e.request.id newly_issued) m.book) y)
       (⊎_elim (λ p. p.1) (λ p. absurd (p.0 refl)) (at_cases e.request.id newly_issued e)) (into_map (update_pending e.request.id newly_issued) m.book e x.issue_is_enabled.0)
 
-  was_over : IsOver (d.port port) slot
+  was_over : SlotHasNoCommand (d.port port) slot
   was_over = (readied_slot uses m d a port slot (is_plain mode e.request.asked.op) x.armed_if_queued_else_free x.st_is_set).0
 
   prepared_sact : (d.port port).sact slot ≡ is_queued x.command.operation
@@ -298,7 +299,7 @@ module _ (uses : SlotStates) (m : Machine) (d : Device) (a : StateRelation uses 
   own_free : IsEmptySlot (d.port port) 0
   own_free = subst (λ (w : SlotState). RelatesSlot m d.memory d.tape (d.port port) port 0 w) x.free (a.relates_slots port 0)
 
-  pub own_over : IsOver (d.port port) 0
+  pub own_over : SlotHasNoCommand (d.port port) 0
   own_over = record { is_not_issued = own_free.is_not_issued; is_not_taken = own_free.is_not_taken }
 
   own_here : RelatesSlot m d.memory d.tape (issued_port (d.port port) v) port 0 (Own o)

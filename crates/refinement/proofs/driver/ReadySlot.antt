@@ -27,7 +27,8 @@ use Rattle.refinement.specs.Driver.{IsRequestPreparedToIssue, KeepsTablesAndScra
 use Rattle.refinement.specs.Simulation.{SimulatesSteps}
 use Rattle.refinement.specs.PreservedParts.{DoesNotWrite}
 use Rattle.refinement.specs.MemoryLayout.{IsTableOrHeaderByteButPrdbc}
-use Rattle.refinement.specs.Slots.{SlotState, Free, Armed, SlotStates, MeansRequest, HasBlockIfTrim, IsArmedIfSt, IsEmptySlot, IsOver, RelatesSlot}
+use Rattle.adapter.specs.OneCommand.{SlotHasNoCommand}
+use Rattle.refinement.specs.Slots.{SlotState, Free, Armed, SlotStates, MeansRequest, HasBlockIfTrim, IsArmedIfSt, IsEmptySlot, RelatesSlot}
 use Rattle.refinement.specs.StartedPort.{WritesCmdOnlyWithStSet}
 use Rattle.refinement.proofs.device.FactsOverAccesses.{access_steps, effect_keeps}
 use Rattle.refinement.proofs.steps.FollowedSteps.{steps_follow}
@@ -103,7 +104,7 @@ module _ (laws : StepLaws) (uses : SlotStates) (m : Machine) (port : Port) (slot
 
 -- the slot has no command, and its bit of PxSACT is as this one
 record ReadyTo (queued : Bool) (p : DevicePort) (slot : ℕ) : Type 0 where
-  over : IsOver p slot
+  over : SlotHasNoCommand p slot
   armed : p.sact slot ≡ queued
 
 served_ready : (m : Machine) (d : Device) (port slot : ℕ) (queued : Bool) (u : SlotState) → u ≡ (if queued then Armed else Free) → (d.port port).st ≡ true →

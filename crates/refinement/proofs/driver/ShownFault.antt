@@ -25,7 +25,8 @@ use Rattle.refinement.specs.Relation.{StateRelation}
 use Rattle.refinement.specs.PortFacts.{RunsWell, IsHaltedPlainOrQueued, IsCleanToStart}
 use Rattle.refinement.specs.Simulation.{SimulatesSteps}
 use Rattle.refinement.specs.PreservedParts.{DoesNotWrite}
-use Rattle.refinement.specs.Slots.{SlotState, Free, SlotStates, set_slot_state, IsEmptySlot, IsOver, RelatesSlot}
+use Rattle.adapter.specs.OneCommand.{SlotHasNoCommand}
+use Rattle.refinement.specs.Slots.{SlotState, Free, SlotStates, set_slot_state, IsEmptySlot, RelatesSlot}
 use Rattle.refinement.specs.StartedPort.{WritesCmdOnlyWithStSet}
 use Rattle.refinement.proofs.device.FactsOverAccesses.{access_steps, effect_keeps}
 use Rattle.refinement.proofs.steps.FollowedSteps.{step_follows}
@@ -66,7 +67,7 @@ beside_set : (f : ℕ → Bool) (place : ℕ) → place ≢ 30 → f 30 ≡ fals
 beside_set f place other h = changed_other f place true 30 (λ e. other (sym e)) ∙ h
 
 module _ (uses : SlotStates) (m : Machine) (d : Device) (a : StateRelation uses m d) (port : ℕ) (alone : (slot : ℕ) → slot ≢ 0 → uses port slot ≡ Free) (off : d.hr ≡ false) (h : Open (d.port port)) where
-  beside_over : (p slot : ℕ) → p ≡ port → slot ≢ 0 → IsOver (d.port p) slot
+  beside_over : (p slot : ℕ) → p ≡ port → slot ≢ 0 → SlotHasNoCommand (d.port p) slot
   beside_over p slot e ne =
       let h : IsEmptySlot (d.port p) slot = subst (λ (u : SlotState). RelatesSlot m d.memory d.tape (d.port p) p slot u) (ap (λ (q : ℕ). uses q slot) e ∙ alone slot ne) (a.relates_slots p slot) in
       record { is_not_issued = h.is_not_issued; is_not_taken = h.is_not_taken }

@@ -106,6 +106,6 @@ pub idle_agrees : (d : Device) → IsIdle d → DisksAreKnownIfTelling d → Som
 idle_agrees d is told = record {
   machine = machine_of d [] (λ frame. None);
   parked = λ port. [];
-  reached = record { initial_machine = machine_of d [] (λ frame. None); steps_since = []; is_initial = unowned_starts d; is_legal = tt; leads_to_machine = refl };
+  reached = record { initial_machine = machine_of d [] (λ frame. None); steps_since = []; is_initial = unowned_starts d; steps_since_are_enabled = tt; leads_to_machine = refl };
   driver_relation = machine_knows d [] (λ frame. None) (unowned_starts d) is told;
 }

@@ -15,7 +15,8 @@ use Rattle.adapter.specs.declared.tape.Entry.TheVariants as entry
 use Rattle.block_machine.specs.State.{DiskBytes, Machine}
 use Rattle.block_machine.specs.Steps as machine
 use Rattle.block_machine.specs.Steps.{HoldsOrHeldSinceFlush, after_step}
-use Rattle.refinement.specs.Slots.{SlotState, Free, Own, Serves, SlotStates, IsInSomeStage, IsMove, OwnAwaitsFetch, OwnIsTaken, OwnIsOverWithPageIfSt, IsOver, HasListInPlace, RelatesSlot, Armed}
+use Rattle.adapter.specs.OneCommand.{SlotHasNoCommand}
+use Rattle.refinement.specs.Slots.{SlotState, Free, Own, Serves, SlotStates, IsInSomeStage, IsMove, OwnAwaitsFetch, OwnIsTaken, OwnIsOverWithPageIfSt, HasListInPlace, RelatesSlot, Armed}
 use Rattle.refinement.specs.Relation.{StateRelation, port_at, IsDiskOf, SameSectors, HoldsReplugCandidates, HasReceivedArea}
 use Rattle.refinement.specs.Tape.{PutsInDisks}
 use Rattle.refinement.specs.Simulation.{SimulatesSteps}
@@ -198,7 +199,7 @@ module _ (uses : SlotStates) (m : Machine) (d : Device) (a : StateRelation uses 
     stage = inr (inr (record { over = over h.stage; page_stands_in_scratch_if_st = inl st }));
   }
     where
-      over : OwnAwaitsFetch (d.port port) k ⊎ (OwnIsTaken d.memory d.tape (d.port port) port k h.command ⊎ OwnIsOverWithPageIfSt d.memory d.tape (d.port port) port k h.command) → IsOver (record (d.port port) { cr = false; taken = λ _. None }) k
+      over : OwnAwaitsFetch (d.port port) k ⊎ (OwnIsTaken d.memory d.tape (d.port port) port k h.command ⊎ OwnIsOverWithPageIfSt d.memory d.tape (d.port port) port k h.command) → SlotHasNoCommand (record (d.port port) { cr = false; taken = λ _. None }) k
       over (inl w) = true_false w.started st
       over (inr (inl t)) = record { is_not_issued = t.issued ∙ st; is_not_taken = refl }
       over (inr (inr o)) = record { is_not_issued = o.over.is_not_issued; is_not_taken = refl }

@@ -105,7 +105,7 @@ module _ (uses : SlotStates) (m : Machine) (d : Device) (reached : IsReachable m
   book = map unanswered m.book
 
   order : Ordered book
-  order = ordered_from book (subst (λ (n : Machine). IsInOrder (map unanswered n.book)) (sym reached.leads_to_machine) (law_book_in_order reached.initial_machine reached.steps_since reached.is_initial reached.is_legal))
+  order = ordered_from book (subst (λ (n : Machine). IsInOrder (map unanswered n.book)) (sym reached.leads_to_machine) (law_book_in_order reached.initial_machine reached.steps_since reached.is_initial reached.steps_since_are_enabled))
 
   -- issued on the port, and with a slot below n
   abbrev is_issued : Unanswered → Bool

@@ -19,7 +19,8 @@ use Rattle.adapter.proofs.Changed.{changed_same, changed_other}
 use Rattle.block_machine.specs.State.{Accepted, Pending, Machine}
 use Rattle.block_machine.specs.Steps.{MayStillMove}
 use Rattle.refinement.specs.MemoryLayout.{command_list_address, scratch_frame_address, IsTableOrHeaderByteButPrdbc, IsScratchByte}
-use Rattle.refinement.specs.Slots.{SlotState, Free, Own, Serves, SlotStates, SlotDecodesTo, HasListInPlace, MeansRange, HasBlockIfTrim, AwaitsFetch, TouchedAsMoved, IsTakenFor, IsInSomeStage, IsMove, PageCameSinceAndStandsInScratch, OwnAwaitsFetch, OwnIsTaken, OwnIsOverWithPageIfSt, IsOver, RelatesSlot, Armed}
+use Rattle.adapter.specs.OneCommand.{SlotHasNoCommand}
+use Rattle.refinement.specs.Slots.{SlotState, Free, Own, Serves, SlotStates, SlotDecodesTo, HasListInPlace, MeansRange, HasBlockIfTrim, AwaitsFetch, TouchedAsMoved, IsTakenFor, IsInSomeStage, IsMove, PageCameSinceAndStandsInScratch, OwnAwaitsFetch, OwnIsTaken, OwnIsOverWithPageIfSt, RelatesSlot, Armed}
 use Rattle.refinement.specs.Relation.{StateRelation}
 
 -- a port as one slot sees it
@@ -106,7 +107,7 @@ known_on tape gained n le = let l : length (tape ++ gained) ≡ length tape + le
 pub placed_on : (p new : DevicePort) (port slot : ℕ) → new.bases.clb ≡ p.bases.clb → HasListInPlace p port slot → HasListInPlace new port slot
 placed_on p new port slot same h = record { port_below = h.port_below; slot_below = h.slot_below; list = same ∙ h.list }
 
-pub over_on : (p new : DevicePort) (slot : ℕ) → SameSlot p new slot → IsOver p slot → IsOver new slot
+pub over_on : (p new : DevicePort) (slot : ℕ) → SameSlot p new slot → SlotHasNoCommand p slot → SlotHasNoCommand new slot
 over_on p new slot same h = record { is_not_issued = same.issued ∙ h.is_not_issued; is_not_taken = same.taken ∙ h.is_not_taken }
 
 -- a request's command stays where it is

@@ -13,7 +13,8 @@ use Rattle.block_machine.specs.Expected as left
 use Rattle.block_machine.specs.Expected.{AllStepsFaithful, StepIsFaithful}
 use Rattle.block_machine.specs.Histories.{IsReachable}
 use Rattle.block_machine.proofs.EventLemmas.{after-append}
-use Rattle.block_machine.proofs.HistoryLemmas.{may-append, reached_more}
+use Rattle.block_machine.proofs.EventLemmas.{enabled_histories_join}
+use Rattle.block_machine.proofs.HistoryLemmas.{reached_more}
 use Rattle.refinement.specs.Slots.{SlotStates}
 use Rattle.refinement.specs.Relation.{StateRelation}
 use Rattle.refinement.specs.Tape.{TapeTells, PutsInDisks, IsPutIn}
@@ -100,7 +101,7 @@ pub Follows-trans : (uses : SlotStates) (m : Machine) (old mid new : Device) →
 Follows-trans uses m old mid new a b = record {
   telling_is_same = b.telling_is_same ∙ a.telling_is_same;
   steps = b.steps ++ a.steps;
-  steps_are_enabled = may-append m b.steps a.steps a.steps_are_enabled b.steps_are_enabled;
+  steps_are_enabled = enabled_histories_join m b.steps a.steps a.steps_are_enabled b.steps_are_enabled;
   steps_are_faithful = λ t. told_append m b.steps a.steps (a.steps_are_faithful t) (b.steps_are_faithful (a.telling_is_same ∙ t));
   new_entries = a.new_entries ++ b.new_entries;
   tape_is = b.tape_is ∙ (ap (λ t. t ++ b.new_entries) a.tape_is ∙ append_assoc old.tape a.new_entries b.new_entries);

@@ -19,7 +19,8 @@ use Rattle.block_machine.specs.Steps.{MayStillMove}
 use Rattle.block_machine.proofs.Standing.{standing}
 use Rattle.refinement.specs.MemoryLayout.{command_list_address, received_fis_address, command_table_address, scratch_frame_address, sector_address}
 use Rattle.refinement.specs.Slots as slots
-use Rattle.refinement.specs.Slots.{SlotState, Free, Own, Serves, SlotDecodesTo, HasListInPlace, MeansRequest, AreRequestPlaces, IsInSomeStage, ServesRequest, ServesOwn, OwnAwaitsFetch, OwnIsTaken, OwnIsOverWithPageIfSt, IsOver, RelatesSlot, Armed}
+use Rattle.adapter.specs.OneCommand.{SlotHasNoCommand}
+use Rattle.refinement.specs.Slots.{SlotState, Free, Own, Serves, SlotDecodesTo, HasListInPlace, MeansRequest, AreRequestPlaces, IsInSomeStage, ServesRequest, ServesOwn, OwnAwaitsFetch, OwnIsTaken, OwnIsOverWithPageIfSt, RelatesSlot, Armed}
 use Rattle.refinement.specs.Relation.{StateRelation}
 use Rattle.refinement.specs.Driver.{IsInMemoryOfFreeSlot}
 use Rattle.refinement.proofs.relation.WrittenBytes.{in_free, narrow, same_port}
@@ -138,7 +139,7 @@ module _ (uses : slots.SlotStates) (m : Machine) (d : Device) (reached : IsReach
             to = (let z = y.to in let e : slice_index (scratch_frame_address port ∷ []) y.number ≡ scratch_frame_address port = first y.number y.number_in_range in omega (arith, z, e));
           })))
 
-  pub over_unused : {A : Type 0} → IsOver (d.port port) slot → InUse (d.port port) slot → A
+  pub over_unused : {A : Type 0} → SlotHasNoCommand (d.port port) slot → InUse (d.port port) slot → A
   over_unused o (inl i) = true_false i o.is_not_issued
   over_unused o (inr t) = some_none t.1 o.is_not_taken
 

@@ -21,7 +21,7 @@ use Rattle.block_machine.specs.Histories.{IsReachable}
 use Rattle.refinement.specs.MemoryLayout.{command_list_address, received_fis_address}
 use Rattle.refinement.specs.Slots.{SlotState, Free, Own, Serves, SlotStates, IsInSomeStage, OwnAwaitsFetch, OwnIsTaken, OwnIsOverWithPageIfSt, RelatesSlot, Armed, IsEmptySlot}
 use Rattle.refinement.specs.Relation.{StateRelation, IsDiskOf, SameSectors, HoldsReplugCandidates, HasReceivedArea}
-use Rattle.refinement.specs.Driver.{AllFree, SetsStOnlyIfStOrFreeAndFreOnlyInPlace, KeepsSlotStates}
+use Rattle.refinement.specs.Driver.{AllFree, StAndFreBitsMayBeWritten, KeepsSlotStates}
 use Rattle.refinement.specs.Simulation.{SimulatesSteps}
 use Rattle.refinement.proofs.relation.SlotRelation.{SameSlot, SameSlot-refl, served_on, own_free, serves_free, GainsNone-refl, placed_on}
 use Rattle.refinement.proofs.relation.LastingSectors.{disk_of, lasting_same}
@@ -183,7 +183,7 @@ module _ (uses : SlotStates) (m : Machine) (d : Device) (a : StateRelation uses 
   receives : (v tape : ℕ) (b : Bool) → (bit v 4 ≡ true → (port < 4) × ((d.port port).bases.fb ≡ received_fis_address port)) → (new : DevicePort) → new.fre ≡ bit v 4 → new.bases.fb ≡ (d.port port).bases.fb → new.fre ≡ true → HasReceivedArea new port
   receives v tape b area new fre fb f = let r = area (sym fre ∙ f) in record { port_is_below_4 = r.0; area_is_in_place = fb ∙ r.1 }
 
-  commanded_by : (v tape : ℕ) → SetsStOnlyIfStOrFreeAndFreOnlyInPlace uses port v (d.port port) → (b : Bool) → bit v 0 ≡ b → StateRelation uses m (with_port d port (port_after_fre_write (bit v 4) (port_after_st_write b tape (d.port port))))
+  commanded_by : (v tape : ℕ) → StAndFreBitsMayBeWritten uses port v (d.port port) → (b : Bool) → bit v 0 ≡ b → StateRelation uses m (with_port d port (port_after_fre_write (bit v 4) (port_after_st_write b tape (d.port port))))
   commanded_by v tape c false e =
       port_agrees uses m d a port (port_after_fre_write (bit v 4) (port_after_st_write false tape (d.port port))) (λ k. stopped_slot tape k (bit v 4) (uses port k) (a.relates_slots port k))
       (receives v tape false c.receive _ refl refl) refl refl
@@ -218,7 +218,7 @@ module _ (uses : SlotStates) (m : Machine) (d : Device) (a : StateRelation uses 
       running true s = going s
       running false s = starting s
 
-  commanded : (v tape : ℕ) → SetsStOnlyIfStOrFreeAndFreOnlyInPlace uses port v (d.port port) → StateRelation uses m (with_port d port (port_after_fre_write (bit v 4) (port_after_st_write (bit v 0) tape (d.port port))))
+  commanded : (v tape : ℕ) → StAndFreBitsMayBeWritten uses port v (d.port port) → StateRelation uses m (with_port d port (port_after_fre_write (bit v 4) (port_after_st_write (bit v 0) tape (d.port port))))
   commanded v tape c = commanded_by v tape c (bit v 0) refl
 
   -- ---- each register of the port

@@ -25,7 +25,8 @@ use Rattle.refinement.specs.Relation.{StateRelation}
 use Rattle.refinement.specs.PortFacts.{DeviceOwnsNoByteOfFrame, CommandsAreOver}
 use Rattle.refinement.specs.Simulation.{SimulatesSteps}
 use Rattle.refinement.specs.MemoryLayout.{scratch_frame_address, sector_address}
-use Rattle.refinement.specs.Slots.{SlotState, Free, Own, Serves, SlotStates, SlotDecodesTo, HasListInPlace, AreRequestPlaces, ServesRequest, OwnAwaitsFetch, OwnIsTaken, OwnIsOverWithPageIfSt, IsOver, RelatesSlot, Armed}
+use Rattle.adapter.specs.OneCommand.{SlotHasNoCommand}
+use Rattle.refinement.specs.Slots.{SlotState, Free, Own, Serves, SlotStates, SlotDecodesTo, HasListInPlace, AreRequestPlaces, ServesRequest, OwnAwaitsFetch, OwnIsTaken, OwnIsOverWithPageIfSt, RelatesSlot, Armed}
 use Rattle.refinement.specs.SparedBook.{KeepsLoansAndPendingsOnlyAdvance}
 use Rattle.refinement.proofs.steps.FollowedSteps.{steps_follow}
 use Rattle.block_machine.proofs.Lending.{lent_clients}
@@ -33,7 +34,7 @@ use Rattle.refinement.proofs.steps.MovedSector.{TakenAs, taken_as}
 use Rattle.refinement.proofs.steps.SparedBook.{follows_spare}
 
 -- a slot with nothing issued or taken is not in use
-pub over_unused : (p : DevicePort) (slot : ℕ) → IsOver p slot → InUse p slot → ⊥
+pub over_unused : (p : DevicePort) (slot : ℕ) → SlotHasNoCommand p slot → InUse p slot → ⊥
 over_unused p slot o (inl set) = absurd (both_ways _ o.is_not_issued set)
 over_unused p slot o (inr (t, is)) = absurd (none-some _ (sym o.is_not_taken ∙ is))
 
@@ -132,7 +133,7 @@ still_stays uses m d frame reached a high over mid s =
     let spares : KeepsLoansAndPendingsOnlyAdvance m (left.after m f.steps) = follows_spare uses m d mid f in
     still_now uses (left.after m f.steps) mid f.state_relation (reached_more m f.steps reached f.steps_are_enabled) frame high (λ id lent port slot u.
     let k : PortBitsOnlyFallFreeSlotsStay (d.port port) (mid.port port) = (law_step_lists_keep_what_steps_keep s).port_bits_only_fall port in
-    let o : IsOver (d.port port) slot = over id (ap (λ (lent : Frame → Option RequestId). lent frame) (sym spares.lent) ∙ lent) port slot u in
+    let o : SlotHasNoCommand (d.port port) slot = over id (ap (λ (lent : Frame → Option RequestId). lent frame) (sym spares.lent) ∙ lent) port slot u in
     record { is_not_issued = k.ci_stays_clear slot o.is_not_issued; is_not_taken = k.slots_stay_free slot o.is_not_issued o.is_not_taken })
 
 pub lent_is_still : (uses : SlotStates) (m : Machine) (d : Device) (frame : Frame) (id : RequestId) → IsReachable m → StateRelation uses m d → m.lent frame ≡ Some id → CommandsAreOver uses d id → IsStable (DeviceOwnsNoByteOfFrame frame) d
@@ -149,7 +150,7 @@ pub idle_is_still : (d : Device) (frame : Frame) → IsIdle d → IsStable (Devi
 idle_is_still d frame idle mid s port slot at from to x =
     let k : PortBitsOnlyFallFreeSlotsStay (d.port port) (mid.port port) = (law_step_lists_keep_what_steps_keep s).port_bits_only_fall port in
     let i : IsIdlePort (d.port port) = idle.ports_are_idle port in
-    let none : IsOver (mid.port port) slot = record { is_not_issued = k.ci_stays_clear slot (i.ci_is_clear slot); is_not_taken = k.slots_stay_free slot (i.ci_is_clear slot) (i.none_is_taken slot) } in
+    let none : SlotHasNoCommand (mid.port port) slot = record { is_not_issued = k.ci_stays_clear slot (i.ci_is_clear slot); is_not_taken = k.slots_stay_free slot (i.ci_is_clear slot) (i.none_is_taken slot) } in
     ⊎_elim
     (λ (u : InUse (mid.port port) slot × ((((mid.port port).bases.clb + 32 * slot ≤ at) × (at < (mid.port port).bases.clb + 32 * slot + 32)) ⊎ InTableOrPiece mid (mid.port port) slot at)). over_unused (mid.port port) slot none u.0)
     (λ (y : ((t : FetchedCommand) × ((mid.port port).taken slot ≡ Some t) × InDataBlocks t.places at) ⊎ (((mid.port port).fre ≡ true) × ((mid.port port).bases.fb ≤ at) × (at < (mid.port port).bases.fb + 256))). ⊎_elim
@@ -166,7 +167,7 @@ still_is_free d frame offset n still inside within mid s = record {
 }
 
 -- no two slots serve one request
-pub served_once : (uses : SlotStates) (m : Machine) (d : Device) (port slot : ℕ) (id : RequestId) → StateRelation uses m d → uses port slot ≡ Serves id → IsOver (d.port port) slot → CommandsAreOver uses d id
+pub served_once : (uses : SlotStates) (m : Machine) (d : Device) (port slot : ℕ) (id : RequestId) → StateRelation uses m d → uses port slot ≡ Serves id → SlotHasNoCommand (d.port port) slot → CommandsAreOver uses d id
 served_once uses m d port slot id a u over q k v =
     let same = a.serve_distinct_requests port slot q k id u v in
-    subst (λ (x : ℕ). IsOver (d.port q) x) same.1 (subst (λ (x : ℕ). IsOver (d.port x) slot) same.0 over)
+    subst (λ (x : ℕ). SlotHasNoCommand (d.port q) x) same.1 (subst (λ (x : ℕ). SlotHasNoCommand (d.port x) slot) same.0 over)

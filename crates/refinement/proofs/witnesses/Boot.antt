@@ -24,7 +24,7 @@ use Rattle.refinement.specs.BootWitness.{waking_device, BootWitness}
 use Rattle.refinement.specs.Errors.{IsDiskComing, NoDiskComes}
 use Rattle.refinement.specs.PortFacts.{PxisValueTellsNoTrouble}
 use Rattle.refinement.specs.PreservedParts.{IsPlugEvent, NoPlugEvents}
-use Rattle.refinement.specs.StartedPort.{IsUpForStart, IsStoppedAndUpForStartIfShown, WritesCmdOnlyWithStClear}
+use Rattle.refinement.specs.StartedPort.{IsUpForStart, IsStoppedAndUpForStartIfDet3, WritesCmdOnlyWithStClear}
 use Rattle.refinement.proofs.device.AllowedWrites.{write_stays}
 use Rattle.refinement.proofs.device.BootedPort.{well_is_found}
 use Rattle.refinement.proofs.device.RisingLink.{comreset_comes, access_coming, up_is_found, access_up}
@@ -146,7 +146,7 @@ stands : ((waking_device.port 0).cr ≡ false) × ((linked.port 0).cr ≡ false)
 unfolding changed
 stands = (refl, refl, refl, refl, refl, refl)
 
-coming : StepLaws → IsStoppedAndUpForStartIfShown (released.port 0)
+coming : StepLaws → IsStoppedAndUpForStartIfDet3 (released.port 0)
 coming laws = access_coming laws (port_at 0) (Writing (port_reg Sctl) 0) sent released (no_start Sctl 0 (λ e. cc)) (writes (port_reg Sctl) 0 sent) (none_comes sent released refl)
     (comreset_comes laws (port_at 0) 1 waking_device sent stands.0 refl (writes (port_reg Sctl) 1 waking_device))
 

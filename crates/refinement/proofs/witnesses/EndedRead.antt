@@ -61,7 +61,7 @@ running = (refl, refl)
 
 read_is_known : StepLaws → (new : Device) (done : IsReadDone first_read_device new 0 0 100 8 (piece_addresses 0x64000 8) first_disk_sector) → EndedReadAgrees
 read_is_known laws new done =
-    (done_is_known laws) first_driver_state issued (reached laws) first_knows first_id (put_same (λ port slot. Free) 0 0 (Serves first_id)) refl new done.steps refl running.0 done.slot_is_free.ci_is_clear
+    (done_is_known laws) first_driver_state issued (reached laws) first_knows first_id (put_same (λ port slot. Free) 0 0 (Serves first_id)) refl new done.steps refl running.0 done.slot_has_no_command.is_not_issued
     (((laws.steps_keep _ _ done.steps).port_bits_only_fall 0).sact_stays_clear 0 running.1)
 
 pub ended_is_known : StepLaws → EndedReadAgrees

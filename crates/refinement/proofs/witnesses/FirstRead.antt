@@ -75,7 +75,7 @@ abbrev accepting : Machine
 accepting = after_step start (Accept accepted)
 
 accepting_reached : IsReachable accepting
-accepting_reached = record { initial_machine = start; steps_since = Accept accepted ∷ []; is_initial = starts_with first_memory; is_legal = (tt, is_new); leads_to_machine = refl }
+accepting_reached = record { initial_machine = start; steps_since = Accept accepted ∷ []; is_initial = starts_with first_memory; steps_since_are_enabled = (tt, is_new); leads_to_machine = refl }
 
 may_issue : IsEnabled accepting (Issue plain waits)
 may_issue = ((0, omega arith, refl), record { is_in_book = (0, omega arith, refl); waits_and_nothing_blocks = refl; slot_is_left = λ h. true_false refl h }, λ e h. absurd (All-contains (λ _. ⊥) [] e (All-nil (λ _. ⊥)) h), has_its_grant refl)

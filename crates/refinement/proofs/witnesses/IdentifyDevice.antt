@@ -43,7 +43,7 @@ abbrev machine : Machine
 machine = start_with identify_memory
 
 reached : IsReachable machine
-reached = record { initial_machine = machine; steps_since = []; is_initial = starts_with identify_memory; is_legal = tt; leads_to_machine = refl }
+reached = record { initial_machine = machine; steps_since = []; is_initial = starts_with identify_memory; steps_since_are_enabled = tt; leads_to_machine = refl }
 
 before : DriverRelation machine (idle_driver_state prepared_identify)
 before = ready_knows identify_memory

@@ -95,7 +95,7 @@ accepted_reached = record {
   initial_machine = start;
   steps_since = Accept second_request ∷ Accept first_request ∷ [];
   is_initial = starts_with two_reads_memory;
-  is_legal = (
+  steps_since_are_enabled = (
     (tt, read_is_new start 100 100 refl refl refl (omega arith) (omega arith) (omega arith) (omega arith)),
     read_is_new one_accepted 108 101 refl refl refl (omega arith) (omega arith) (omega arith) (omega arith),
   );

@@ -54,7 +54,7 @@ abbrev machine : Machine
 machine = start_with log_memory
 
 reached : IsReachable machine
-reached = record { initial_machine = machine; steps_since = []; is_initial = starts_with log_memory; is_legal = tt; leads_to_machine = refl }
+reached = record { initial_machine = machine; steps_since = []; is_initial = starts_with log_memory; steps_since_are_enabled = tt; leads_to_machine = refl }
 
 ready : DriverRelation machine (idle_driver_state (ready_device log_memory))
 ready = ready_knows log_memory

@@ -4,7 +4,7 @@ use Rattle.std.specs.Prelude.{if◌then◌else◌, nat_eq}
 use Rattle.std.proofs.lemmas.Bool.{and_parts, both_ways}
 use Rattle.byteorder.specs.Endian.{little_from}
 use Rattle.adapter.specs.declared.command.Operation.{Operation}
-use Rattle.adapter.specs.Commands.{Meaning, IsValidMeaning, is_ranged, command_of, piece_count, reads_memory}
+use Rattle.adapter.specs.Commands.{Meaning, IsValidMeaning, is_ranged, command_of, transfer_sector_count, reads_memory}
 use Rattle.adapter.specs.Memory.{bytes_at}
 use Rattle.adapter.specs.Decoding.{DecodesTo, IsWholePieces, piece_addresses}
 use Rattle.adapter.specs.Encoding.{IsAllowedPrd}
@@ -54,7 +54,7 @@ pub record IsSpelt (memory : ℕ → ℕ) (slot : ℕ) (c : Meaning) (e : Prd) :
   pub prd : IsSpeltPrd (bytes_at memory (command_table_address 0 slot + 128) 16) e
   pub allowed : IsAllowedPrd e
   pub whole : e.bytes % 512 ≡ 0
-  pub as_many : e.bytes / 512 ≡ piece_count c.operation c.count
+  pub as_many : e.bytes / 512 ≡ transfer_sector_count c.operation c.count
 
 one_whole : (e : Prd) → e.bytes % 512 ≡ 0 → All IsWholePieces (e ∷ [])
 one_whole e whole zero d small = whole
@@ -102,7 +102,7 @@ module _ (memory : ℕ → ℕ) (slot : ℕ) (c : Meaning) (e : Prd) (s : IsSpel
 abbrev page_prd : Prd
 page_prd = record { address = scratch_frame_address 0; bytes = 512 }
 
-pub page_told : (memory : ℕ → ℕ) (o : Operation) → is_ranged o ≡ false → piece_count o 0 ≡ 1 → IsSpeltHeader (bytes_at memory 0 32) (reads_memory o) 0x1000 →
+pub page_told : (memory : ℕ → ℕ) (o : Operation) → is_ranged o ≡ false → transfer_sector_count o 0 ≡ 1 → IsSpeltHeader (bytes_at memory 0 32) (reads_memory o) 0x1000 →
     IsSpeltCommand (bytes_at memory 0x1000 20) (command_of o 0 0 0) → IsSpeltPrd (bytes_at memory 0x1080 16) page_prd → SlotDecodesTo memory 0 0 0 (record { operation = o; first = 0; count = 0 }) (scratch_frame_address 0 ∷ [])
 page_told memory o unranged one header fis prd = spelt_told memory 0 (record { operation = o; first = 0; count = 0 }) page_prd (record {
   header = header;

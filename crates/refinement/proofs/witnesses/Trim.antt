@@ -62,7 +62,7 @@ accepted_reached = record {
   initial_machine = start;
   steps_since = Accept request ∷ [];
   is_initial = starts_with trim_memory;
-  is_legal = (tt, trim_is_new start 100 refl (omega arith) (omega arith) (omega arith) (omega arith));
+  steps_since_are_enabled = (tt, trim_is_new start 100 refl (omega arith) (omega arith) (omega arith) (omega arith));
   leads_to_machine = refl;
 }
 

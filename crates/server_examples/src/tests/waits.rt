@@ -8,10 +8,10 @@ use super::watched::{ALL_PORTS, RegisterReadings, Watched, model};
 use adapter::{Adapter, DeviceStep, DiskNumber};
 use ata_types::{DRIVER_BYTES, PORTS, Port, PortState};
 use hba_regs::{PortReg, Reg};
-use host_boot::laws::law_what_was_taken_over_may_be_served;
+use host_boot::laws::law_taken_over_ports_are_as_their_state_says;
 use host_boot::{ProbeResult, take_over};
 use port_control::{PortFault, receive, stop};
-use refinement::access_kinds::law_followed_fragments_agree;
+use refinement::access_kinds::law_simulated_fragments_keep_agreement;
 use refinement::fragments::law_other_ports_are_untouched;
 use std::alloc::Global;
 use std::marker::Brand;
@@ -51,9 +51,9 @@ fn received_anew<A: Adapter>(adapter: &mut A) -> PortState
     requires idle { IsIdle (A.device adapter.old) }
     requires room { DRIVER_BYTES ≤ (A.device adapter.old).memory_size }
 {
-    law_followed_fragments_agree::<Brand>();
+    law_simulated_fragments_keep_agreement::<Brand>();
     law_other_ports_are_untouched();
-    law_what_was_taken_over_may_be_served();
+    law_taken_over_ports_are_as_their_state_says();
     let host = take_over(adapter, &ONLY_IMAGE_DISK_WANTED);
     let ProbeResult::Ready(_) = host.ports[0] else {
         return PortState::Absent;

@@ -15,7 +15,7 @@ use Rattle.adapter.specs.Device.{Device}
 use Rattle.adapter.specs.Rules.{IsOn}
 use Rattle.adapter.specs.declared.tape.Entry.{Entry}
 use Rattle.refinement.specs.Fragments.{IsDrivenBy, SparesOtherPorts}
-use Rattle.refinement.specs.Errors.{IsFatalErrorOf}
+use Rattle.refinement.specs.Errors.{IsFatalEntryOf}
 use Rattle.refinement.specs.PortFacts.{IsFaultOf, ShowsNoTrouble}
 use Rattle.refinement.specs.PreservedParts.{IsPlugEvent, DoesNotWrite}
 use Rattle.server_history.proofs.state.DrivenAccesses.{by_none, by_then, driven_as}
@@ -25,7 +25,7 @@ use Rattle.driver_history.specs.Evidence.{TapeGainsEntry, ShowsLinkChange, Shows
 use Rattle.driver_history.specs.Histories.{LosesNoPortError}
 use Rattle.error_recovery.specs.Evidence.{GainsSinceStart, ShowsFatal}
 use Rattle.commands.specs.Masks.{ReadsCiOrSact}
-use Rattle.commands.specs.Batches.{IsBatchAccess}
+use Rattle.commands.specs.Batches.{IsCommandIssueAccess}
 use Rattle.port_control.specs.PortEvents.{IsPxisSstsOrOwnIsAccess}
 use Rattle.port_control.specs.ServiceAccesses.{WritesOnlyHbaIsCiSactOrOtherPxIs}
 use Rattle.port_control.specs.declared.events.PortEvent.TheVariants.{NoEvent}
@@ -62,7 +62,7 @@ finding_ordinary port (Writing r v) here = absurd here
 finding_ordinary port (Loading at bytes) here = absurd here
 finding_ordinary port (Storing at bytes) here = absurd here
 
-issuing_spares : (port : Port) (access : Access) → IsBatchAccess port access → DoesNotWrite (Px port Is) access
+issuing_spares : (port : Port) (access : Access) → IsCommandIssueAccess port access → DoesNotWrite (Px port Is) access
 issuing_spares port (Writing r v) here = ⊎_elim
     (λ (is : r ≡ Px port Sact). λ q. let z : Px port Sact ≡ Px port Is = sym is ∙ q in absurd cc)
     (λ (is : r ≡ Px port Ci). λ q. let z : Px port Ci ≡ Px port Is = sym is ∙ q in absurd cc)
@@ -71,7 +71,7 @@ issuing_spares port (Storing at bytes) here = tt
 issuing_spares port (Loading at bytes) here = tt
 issuing_spares port (Reading r v) here = tt
 
-issuing_ordinary : (port : Port) (access : Access) → IsBatchAccess port access → WritesOnlyHbaIsCiSactOrOtherPxIs port access
+issuing_ordinary : (port : Port) (access : Access) → IsCommandIssueAccess port access → WritesOnlyHbaIsCiSactOrOtherPxIs port access
 issuing_ordinary port access here = (issuing_serves port access here, issuing_spares port access here)
 
 module _ (laws : PrerequisiteLaws) where
@@ -83,7 +83,7 @@ module _ (laws : PrerequisiteLaws) where
         (λ some.
         let k = c.polls_slots (λ none. false≢true (sym (none some.0 some.1) ∙ some.2)) in
         by_then laws (driven_as (ReadsCiOrSact port) (WritesOnlyHbaIsCiSactOrOtherPxIs port) turn.device_after_look k.device_after_read (finding_ordinary port) k.reads.driven)
-        (driven_as (IsBatchAccess port) (WritesOnlyHbaIsCiSactOrOtherPxIs port) k.device_after_read new (issuing_ordinary port) k.only_issuing_follows))
+        (driven_as (IsCommandIssueAccess port) (WritesOnlyHbaIsCiSactOrOtherPxIs port) k.device_after_read new (issuing_ordinary port) k.only_issuing_follows))
         (none_or_some 32 c.mask)
       where
         c : PollsUsedSlots port slots replies turn.device_after_look new
@@ -110,12 +110,12 @@ module _ (laws : PrerequisiteLaws) where
           gains_none (IsFaultOf port.0) old.device new none.new_entries none.tape_is none.no_such_entry g)
 
       -- and so is a fatal error
-      fatal_shown : TapeGainsEntry (IsFatalErrorOf port.0) old.device new → ShowsFatal (new.port port.0)
+      fatal_shown : TapeGainsEntry (IsFatalEntryOf port.0) old.device new → ShowsFatal (new.port port.0)
       fatal_shown g = fatal_unless (new.port port.0) (λ clear.
           let late = laws.look_laws.pxis_spared_hides_no_fatal port turn.device_after_look new seen_on (later_driven calm) clear in
           let early = laws.look_laws.look_hides_no_fatal port turn.look old.device turn.device_after_look on turn.takes_event (λ place low high. told_none place low (omega (arith, high))) late.0 in
           let none = laws.port_event_laws.tape.no_fatal_errors_transitive port.0 old.device turn.device_after_look new early.1 late.1 in
-          gains_none (IsFatalErrorOf port.0) old.device new none.new_entries none.tape_is none.no_such_entry g)
+          gains_none (IsFatalEntryOf port.0) old.device new none.new_entries none.tape_is none.no_such_entry g)
 
       -- and so is a disk that went or came
       disk_shown : TapeGainsEntry (IsPlugEvent port.0) old.device new → (new.port port.0).serr_n ≡ true
@@ -140,6 +140,6 @@ module _ (laws : PrerequisiteLaws) where
         ready_errors_are_handled_or_shown = λ ready port_error. inr (⊎_elim (λ shows. absurd (never_failed shows)) (λ gains. ⊎_elim (λ g. inr (fault_shown g)) (λ g. inl (fatal_shown g)) gains) port_error);
         changes_are_handled_or_shown_unless_dead = λ tended port_error. inr (⊎_elim (λ shows. absurd (never_changed shows)) (λ g. inl (disk_shown g)) port_error);
         ready_shows_fault_since_start = λ ready g. fault_shown (gained_running (IsFaultOf port.0) port.0 old.device new g);
-        ready_shows_fatal_since_start = λ ready g. fatal_shown (gained_running (IsFatalErrorOf port.0) port.0 old.device new g);
+        ready_shows_fatal_since_start = λ ready g. fatal_shown (gained_running (IsFatalEntryOf port.0) port.0 old.device new g);
         ready_shows_plug_event_since_start = λ ready g. disk_shown (gained_running (IsPlugEvent port.0) port.0 old.device new g);
       }

@@ -15,7 +15,7 @@ use Rattle.adapter.specs.Device.{Device, DevicePort}
 use Rattle.adapter.specs.Rules.{IsOn}
 use Rattle.adapter.specs.declared.tape.Entry.{Entry}
 use Rattle.refinement.specs.Fragments.{TapeGrows}
-use Rattle.refinement.specs.Errors.{IsFatalErrorOf, NoFaults, NoFatalErrors}
+use Rattle.refinement.specs.Errors.{IsFatalEntryOf, NoFaults, NoFatalErrors}
 use Rattle.refinement.specs.PortFacts.{IsFaultOf}
 use Rattle.refinement.specs.PreservedParts.{IsPlugEvent, NoPlugEvents, DoesNotWrite}
 use Rattle.error_recovery.specs.Evidence.{GainsSinceStart, ShowsFatal, HidesNoTrouble}
@@ -171,7 +171,7 @@ module _ (laws : PrerequisiteLaws) (port : Port) where
 pub shown_since : (port : ℕ) (old start new : Device) → ShowsAll port start new → (start.port port).notes.st_set_at ≡ length start.tape → HidesNoTrouble port old new
 shown_since port old start new a set = record {
   fault_is_shown = λ g. set_unless ((new.port port).is 30) (λ clear. let n = (a.fault clear).1 in none_came (IsFaultOf port) port start new n.new_entries n.tape_is n.no_such_entry (since_then (IsFaultOf port) port old start new a.grows early g));
-  fatal_is_shown = λ g. fatal_unless (new.port port) (λ clear. let n = (a.fatal clear).1 in none_came (IsFatalErrorOf port) port start new n.new_entries n.tape_is n.no_such_entry (since_then (IsFatalErrorOf port) port old start new a.grows early g));
+  fatal_is_shown = λ g. fatal_unless (new.port port) (λ clear. let n = (a.fatal clear).1 in none_came (IsFatalEntryOf port) port start new n.new_entries n.tape_is n.no_such_entry (since_then (IsFatalEntryOf port) port old start new a.grows early g));
   plug_is_shown = λ g. set_unless (new.port port).serr_n (λ clear. let n = (a.disk clear).1 in none_came (IsPlugEvent port) port start new n.new_entries n.tape_is n.no_such_entry (since_then (IsPlugEvent port) port old start new a.grows early g));
 }
   where
@@ -187,7 +187,7 @@ shown_more port old start mid new shown grows set a = record {
       let z : false ≡ true = sym n.0 ∙ shown.fault_is_shown before in absurd cc);
   fatal_is_shown = λ g. fatal_unless (new.port port) (λ clear.
       let n = a.fatal clear in
-      let before = until_then (IsFatalErrorOf port) port start mid new grows n.1.new_entries n.1.tape_is n.1.no_such_entry a.same (since_then (IsFatalErrorOf port) port old start new whole early g) in
+      let before = until_then (IsFatalEntryOf port) port start mid new grows n.1.new_entries n.1.tape_is n.1.no_such_entry a.same (since_then (IsFatalEntryOf port) port old start new whole early g) in
       let f = shown.fatal_is_shown before in
       let z : false ≡ true = sym (n.0 f.place f.from f.to) ∙ f.cause_is_set in absurd cc);
   plug_is_shown = λ g. set_unless (new.port port).serr_n (λ clear.

@@ -15,7 +15,7 @@ use Rattle.adapter.specs.Rules.{IsOn}
 use Rattle.adapter.specs.declared.tape.Entry.{Entry}
 use Rattle.adapter.specs.declared.tape.Entry.TheVariants as entry
 use Rattle.refinement.specs.Fragments.{TapeGrows}
-use Rattle.refinement.specs.Errors.{IsFatalErrorOf, NoDiskComes}
+use Rattle.refinement.specs.Errors.{IsFatalEntryOf, NoDiskComes}
 use Rattle.refinement.specs.PortFacts.{IsFaultOf}
 use Rattle.refinement.specs.PreservedParts.{IsPlugEvent, DoesNotWrite}
 use Rattle.server_history.proofs.state.ListMembers.{contains_there}
@@ -44,7 +44,7 @@ is_fault port (entry.Clear x) = inr (λ is. is)
 is_fault port (entry.Done x) = inr (λ is. is)
 is_fault port (entry.Fatal x) = inr (λ is. is)
 
-is_fatal : (port : ℕ) (e : Entry) → IsFatalErrorOf port e ⊎ (IsFatalErrorOf port e → ⊥)
+is_fatal : (port : ℕ) (e : Entry) → IsFatalEntryOf port e ⊎ (IsFatalEntryOf port e → ⊥)
 is_fatal port (entry.Fatal at) = cases_eq at.0 port
 is_fatal port (entry.Fault x) = inr (λ is. is)
 is_fatal port (entry.Unplug at) = inr (λ is. is)
@@ -157,18 +157,18 @@ module _ (laws : PrerequisiteLaws) (port : Port) (look : PortEvent) (old seen : 
 
   module _ (broken : look ≡ FatalError) where
     -- one of those three was shown then, or a fatal error came before PxIS was read
-    pub fatal_shown : (new : Device) → TapeGrows l.after_is_read new → ShowsFatal (old.port port.0) ⊎ TapeGainsEntry (IsFatalErrorOf port.0) old new
+    pub fatal_shown : (new : Device) → TapeGrows l.after_is_read new → ShowsFatal (old.port port.0) ⊎ TapeGainsEntry (IsFatalEntryOf port.0) old new
     fatal_shown new later = ⊎_elim (at 28 (omega arith) (omega arith) refl refl) (λ more. ⊎_elim (at 29 (omega arith) (omega arith) refl refl) (at 27 (omega arith) (omega arith) refl refl) more)
         (laws.look_laws.fatal_event_bits l.causes l.status (its FatalError broken)).0
       where
         at : (place : ℕ) → 27 ≤ place → place ≤ 29 → is_named_cause place ≡ true → shown_interrupt (l.after_is_read.port port.0) place ≡ (l.after_is_read.port port.0).is place → bit l.causes place ≡ true
-            → ShowsFatal (old.port port.0) ⊎ TapeGainsEntry (IsFatalErrorOf port.0) old new
+            → ShowsFatal (old.port port.0) ⊎ TapeGainsEntry (IsFatalEntryOf port.0) old new
         at place from to cause plain set = ⊎_elim
             (λ (is : (old.port port.0).is place ≡ true). inl (record { place = place; from = from; to = to; cause_is_set = is }))
             (λ (clear : (old.port port.0).is place ≡ false). inr (⊎_elim
-            (λ found. gains_more (IsFatalErrorOf port.0) old l.after_is_read new later (record { new_entries = grows.0; tape_is = grows.1; entry = found.0; entry_is_new = found.1; entry_is_of_kind = found.2 }))
+            (λ found. gains_more (IsFatalEntryOf port.0) old l.after_is_read new later (record { new_entries = grows.0; tape_is = grows.1; entry = found.0; entry_is_new = found.1; entry_is_of_kind = found.2 }))
             (λ none. absurd (false≢true (sym (goes.bits_rise_with_cause.error_bits_rise_by_errors.fatal (record { new_entries = grows.0; tape_is = grows.1; no_such_entry = none }) place from to clear) ∙ sym plain ∙ sym (shown_at place cause) ∙ set)))
-            (one_or_none (IsFatalErrorOf port.0) (is_fatal port.0) grows.0)))
+            (one_or_none (IsFatalEntryOf port.0) (is_fatal port.0) grows.0)))
             (cases_Bool ((old.port port.0).is place))
 
   -- ---- no loss
@@ -194,7 +194,7 @@ module _ (laws : PrerequisiteLaws) (port : Port) (look : PortEvent) (old seen : 
       by LinkChanged is = absurd (not_lost is)
 
   -- and a failure was shown when the turn began, or came
-  pub errors_shown : (look ≡ TaskFileError) ⊎ (look ≡ FatalError) → (new : Device) → TapeGrows l.after_is_read new → ShowsFailure (old.port port.0) ⊎ (TapeGainsEntry (IsFaultOf port.0) old new ⊎ TapeGainsEntry (IsFatalErrorOf port.0) old new)
+  pub errors_shown : (look ≡ TaskFileError) ⊎ (look ≡ FatalError) → (new : Device) → TapeGrows l.after_is_read new → ShowsFailure (old.port port.0) ⊎ (TapeGainsEntry (IsFaultOf port.0) old new ⊎ TapeGainsEntry (IsFatalEntryOf port.0) old new)
   errors_shown error new later = ⊎_elim
       (λ failed. ⊎_elim (λ is. inl (inr is)) (λ came. inr (inl came)) (fault_shown failed new later))
       (λ broken. ⊎_elim (λ is. inl (inl is)) (λ came. inr (inr came)) (fatal_shown broken new later))

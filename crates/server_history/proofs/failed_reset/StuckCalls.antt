@@ -24,7 +24,7 @@ use Rattle.adapter.specs.Steps.{Steps}
 use Rattle.adapter.specs.declared.access.DeviceStep.{DeviceStep}
 use Rattle.refinement.specs.Fragments.{driver_state_of}
 use Rattle.refinement.specs.PreservedParts.{SameAdapter}
-use Rattle.block_machine.specs.Events.{AllEnabled, AnswersTick, StepDevice as Told, TimesOutAtTick, LoadAt, AbstractState, RevokeOf, Replied, PortStateShown, State, Stepped, StoreAt, Submit, Submitted, Tick, WasRevoked}
+use Rattle.block_machine.specs.Events.{AllEnabled, AnswersTick, StepDevice, TimesOutAtTick, LoadAt, AbstractState, RevokeOf, Replied, PortStateShown, State, Stepped, StoreAt, Submit, Submitted, Tick, WasRevoked}
 use Rattle.block_machine.specs.Histories.{JointEvent, JointState, joint_state_after}
 use Rattle.block_machine.specs.Expected.{after}
 use Rattle.block_machine.specs.Ports.{Ports}
@@ -88,12 +88,12 @@ module _ (laws : PrerequisiteLaws) (s : ServerState) (t : StuckInvariant s) wher
       let x = (laws.steps_and_accesses.device_steps_are_simulated (driver_state_of b.machine_relation.uses b.machine_relation.awaiting_disposition s.device) new moves).simulates b.machine b.reached b.machine_relation.driver_relation in
       then_stalled new (steps_same laws s.device new moves) (steps_idle laws s.device new moves) (never_on new moves) x.0 x.1 (machine_on laws s new b.machine x.0 b.machine_relation x.3.all_steps_are_by_device x.2)
 
-  pub stalled_device : (new : Device) (step : DeviceStep) → DoesOrFailsStep step s.device new → Steps s.device new → ExtendsToStuck s (record s { device = new }) (Told step) (Stepped true)
+  pub stalled_device : (new : Device) (step : DeviceStep) → DoesOrFailsStep step s.device new → Steps s.device new → ExtendsToStuck s (record s { device = new }) (StepDevice step) (Stepped true)
   stalled_device new step asked moves = record { stuck_invariant = moved new moves; extends_history = device_event laws s new (goes new (moved new moves)) step asked moves }
 
   -- ---- calls that do nothing
 
-  pub stalled_undone : (step : DeviceStep) → ExtendsHistory s s (Told step) (Stepped false)
+  pub stalled_undone : (step : DeviceStep) → ExtendsHistory s s (StepDevice step) (Stepped false)
   stalled_undone step = undone_event laws s (goes s.device t) step
 
   pub stalled_state : (port : Port) → ExtendsHistory s s (State port) (PortStateShown ((ports_of s).state port))

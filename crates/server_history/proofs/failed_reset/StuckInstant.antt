@@ -34,7 +34,7 @@ use Rattle.request_queue.specs.BookEntries.{BookEntry, IsWellFormedEntry, BookIs
 use Rattle.request_queue.specs.BookRelation.{EntryRelation}
 use Rattle.server_history.specs.Prerequisites.{PrerequisiteLaws}
 use Rattle.server_history.specs.ErrorHandling.{requests_of}
-use Rattle.server_history.specs.ServerState.{RevokedMarkInvariant, ServerState, MachineRelation, is_served, quarantined_at, ports_of, state_of, slot_state_of}
+use Rattle.server_history.specs.ServerState.{RevokedMarkInvariant, ServerState, MachineRelation, is_served, quarantined_at, ports_of, state_of, slot_state_of_use}
 use Rattle.server_history.specs.StuckServer.{ServedPortsAreDead, ServerInvariant}
 use Rattle.server_history.proofs.state.HistorySteps.{IsHolding}
 use Rattle.server_history.proofs.state.PortSlots.{none_kept}
@@ -107,7 +107,7 @@ module _ (s : ServerState) (b : ServerInvariant s) (dead : ServedPortsAreDead s.
       subst (HoldsAs port) (sym unserved) (record {
         state_is_absent = ap state_of unserved;
         port_is_idle = b.unserved_are_idle port.0 low unserved;
-        has_nothing_in_slots = record { all_are_free = λ slot. is.slot_uses_agree_unless_dead port.0 slot alive ∙ ap slot_state_of (b.unserved_use_no_slot port.0 slot unserved); none_is_parked = is.only_dead_ports_park port.0 alive };
+        has_nothing_in_slots = record { all_are_free = λ slot. is.slot_states_agree_unless_dead port.0 slot alive ∙ ap slot_state_of_use (b.unserved_use_no_slot port.0 slot unserved); none_is_parked = is.only_dead_ports_park port.0 alive };
         has_no_unanswered = nobody_waits port unserved;
         none_is_quarantined = none_kept s m port is alive;
       })

@@ -32,7 +32,7 @@ use Rattle.std.specs.Prelude.{Option}
 use Rattle.request_queue.specs.BookEntries.{BookEntry}
 use Rattle.server_history.specs.Prerequisites.{PrerequisiteLaws}
 use Rattle.server_history.specs.Histories.{ExtendsToStuck, LeadsToServer}
-use Rattle.server_history.specs.ServerState.{ServerState, MachineRelation, last_disk_in, last_disk_of, is_served, ports_of, remembered_at, last_sectors_of, last_serial_of, state_of, slot_state_of}
+use Rattle.server_history.specs.ServerState.{ServerState, MachineRelation, last_disk_in, last_disk_of, is_served, ports_of, remembered_at, last_sectors_of, last_serial_of, state_of, slot_state_of_use}
 use Rattle.server_history.specs.StuckServer.{ServedPortsAreDead, ResetGetsStuck, ServerInvariant, StuckInvariant, found_after_stuck_reset}
 use Rattle.server_history.proofs.state.DeviceSteps.{devices_belong, devices_last, devices_lawful}
 use Rattle.server_history.proofs.state.HistorySteps.{happening_with, lead_with, machine_on, with_device}
@@ -116,9 +116,9 @@ module _ (laws : PrerequisiteLaws) (s new : ServerState) (b : ServerInvariant s)
   stands_then : (m : Machine) → MachineRelation (record s { device = new.device }) m → MachineRelation n m
   stands_then m is = record {
     uses = is.uses;
-    slot_uses_agree_unless_dead = λ port slot alive.
+    slot_states_agree_unless_dead = λ port slot alive.
         let unserved = alive_unserved port alive in
-        is.slot_uses_agree_unless_dead port slot (unserved_alive port unserved) ∙ ap slot_state_of (b.unserved_use_no_slot port slot unserved) ∙ sym (ap slot_state_of (g.no_slot_is_used port slot));
+        is.slot_states_agree_unless_dead port slot (unserved_alive port unserved) ∙ ap slot_state_of_use (b.unserved_use_no_slot port slot unserved) ∙ sym (ap slot_state_of_use (g.no_slot_is_used port slot));
     awaiting_disposition = is.awaiting_disposition;
     only_dead_ports_park = λ port alive. is.only_dead_ports_park port (unserved_alive port (alive_unserved port alive));
     driver_relation = is.driver_relation;

@@ -252,7 +252,7 @@ module _ (laws : PrerequisiteLaws) (s : ServerState) (t : StuckInvariant s) wher
     stands_then : MachineRelation new z
     stands_then = record {
       uses = p.stands.uses;
-      slot_uses_agree_unless_dead = p.stands.slot_uses_agree_unless_dead;
+      slot_states_agree_unless_dead = p.stands.slot_states_agree_unless_dead;
       awaiting_disposition = met.parked;
       only_dead_ports_park = λ q alive. ⊎_elim
           (λ (same : q ≡ n). ap met.parked same ∙ none_left (λ dead. alive (ap (probe_result_of s.probe_results) same ∙ dead)))

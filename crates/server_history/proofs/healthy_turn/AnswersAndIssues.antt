@@ -21,7 +21,7 @@ use Rattle.host_boot.specs.declared.ProbeResult.{ProbeResult}
 use Rattle.request_queue.specs.BookEntries.{BookEntry, BookIsWellFormed, as_unanswered, unanswered_of, due_ids}
 use Rattle.server_history.specs.Prerequisites.{PrerequisiteLaws}
 use Rattle.server_history.specs.IssuingAndAnswering.{AnswersDoneAndIssues, AnswersEach, AnswersOne, TurnAnswers, HasEnded, PollsInTurnWithoutEvent, SameButDeviceLoansSlotsBook, ok_answers_newest_first}
-use Rattle.server_history.specs.ServerState.{ServerState, InCallInvariant, MachineRelation, SettledInvariant, mode_in, no_slots, slots_at, state_of}
+use Rattle.server_history.specs.ServerState.{ServerState, InCallInvariant, MachineRelation, InvariantWithNoneDue, mode_in, no_slots, slots_at, state_of}
 use Rattle.server_history.proofs.healthy_turn.OneAnswer.{IsAnswer, answer_kept, answer_one}
 use Rattle.server_history.proofs.plain_calls.IssueRounds.{each_apart, each_settings, each_slots, settled}
 use Rattle.dma_frames.specs.FrameTables.{OwnersAndLoans}
@@ -102,14 +102,14 @@ module _ (laws : PrerequisiteLaws) (port : Port) (done : ℕ) where
         stands = subst (MachineRelation new) (sym (laws.steps_and_accesses.after_joins m (ok_answers_newest_first z.ended) first)) z.stands;
       }
 
-  pub answers_settle : (replies : List Reply) (s new : ServerState) → SettledInvariant s → state_of (probe_result_of s.probe_results port.0) ≡ Ready → CommandsAreOver port done s.device → AnswersDoneAndIssues port done replies s new → SettledInvariant new
+  pub answers_settle : (replies : List Reply) (s new : ServerState) → InvariantWithNoneDue s → state_of (probe_result_of s.probe_results port.0) ≡ Ready → CommandsAreOver port done s.device → AnswersDoneAndIssues port done replies s new → InvariantWithNoneDue new
   answers_settle replies s new t ready over a = settled laws port a.server_after_answers new (answers_kept a.requests s a.server_after_answers t.in_call_invariant ready over a.answers_each) none_other a.issued
     where
       none_other : (other : Port) → other ≢ port → NoneDue (mode_in a.server_after_answers other) (unanswered_of a.server_after_answers.book) other
       none_other other ne r own due =
           let mode_is : mode_in a.server_after_answers other ≡ mode_in s other = ap (λ (n : ServerState). mode_in n other) (answers_settings a.requests s a.server_after_answers a.answers_each) in
           let here : IsDue (mode_in s other) (unanswered_of a.server_after_answers.book) r = subst (λ (mode : QueueMode). IsDue mode (unanswered_of a.server_after_answers.book) r) mode_is due in
-          t.nothing_is_due other r own ((laws.due_depends_on_own_port (mode_in s other) other (unanswered_of a.server_after_answers.book) (unanswered_of s.book) r (answers_apart a.requests s a.server_after_answers t.in_call_invariant.book_is_well_formed a.answers_each other ne) own).0 here)
+          t.none_is_due other r own ((laws.due_depends_on_own_port (mode_in s other) other (unanswered_of a.server_after_answers.book) (unanswered_of s.book) r (answers_apart a.requests s a.server_after_answers t.in_call_invariant.book_is_well_formed a.answers_each other ne) own).0 here)
 
 -- ---- a port's turn
 

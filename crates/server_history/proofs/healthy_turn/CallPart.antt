@@ -33,7 +33,7 @@ use Rattle.request_queue.specs.BookEntries.{BookEntry, IsEarlier}
 use Rattle.slots.specs.declared.SlotUse.{SlotUse}
 use Rattle.server_history.specs.Prerequisites.{PrerequisiteLaws}
 use Rattle.server_history.specs.IssuingAndAnswering.{StepsAnswer, TurnAnswers, HasEnded, PollsInTurnWithoutEvent, IsAnsweredIn, AllByDeviceOrIssue, SameButDeviceLoansSlotsBook, ok_answers_newest_first}
-use Rattle.server_history.specs.ServerState.{ServerState, MachineRelation, SettledInvariant, mode_in, ports_of, remembered_at, slots_at, state_of, used_for}
+use Rattle.server_history.specs.ServerState.{ServerState, MachineRelation, InvariantWithNoneDue, mode_in, ports_of, remembered_at, slots_at, state_of, used_for}
 use Rattle.server_history.specs.Turns.{ServingReady, ServicesPort, IsTurnOrDeviceStep, LeavesOtherPortsGrantsAndLastId, SimulatesTurn, PortListsNameOnly, joint_state_of, abstract_state_of}
 use Rattle.server_history.proofs.state.AnswerSteps.{answered_in, ended_stood, issuing_answers, may_parts, no_answer, no_answer_issuing, told_so, with_ok}
 use Rattle.server_history.proofs.state.TurnAccesses.{TurnList, turn_list}
@@ -150,7 +150,7 @@ told_ordered port (e ∷ requests) (p ∷ ended) each order =
 
 -- ---- the whole
 
-module _ (laws : PrerequisiteLaws) (port : Port) (replies : List Reply) (old new : ServerState) (t : SettledInvariant old) (ready : state_of (probe_result_of old.probe_results port.0) ≡ ReadyState)
+module _ (laws : PrerequisiteLaws) (port : Port) (replies : List Reply) (old new : ServerState) (t : InvariantWithNoneDue old) (ready : state_of (probe_result_of old.probe_results port.0) ≡ ReadyState)
     (turn : PollsInTurnWithoutEvent port (slots_at old.slots port.0) replies old.device new.device) (told : TurnAnswers port replies old new turn) where
   low : port.0 < 4
   low = (ready_found old port.0 t.in_call_invariant ready).0
@@ -310,7 +310,7 @@ module _ (laws : PrerequisiteLaws) (port : Port) (replies : List Reply) (old new
       issues_are_last = x.last;
       names_only_port = names;
       answers_are_lawful = lawful;
-      requeues_on_failed_port_or_restarts_by_turn = grounded;
+      requeues_and_aborts_fit_turn = grounded;
       replies_match = tells;
       unplugged_outcome_empties_port = record { none_is_left = λ e other here. absurd (never_unplugged e here); none_is_told_dead = λ e other here. absurd (never_unplugged e here) };
       port_is_serviced = becomes;

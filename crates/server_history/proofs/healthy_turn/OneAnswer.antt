@@ -19,7 +19,8 @@ use Rattle.block_machine.specs.Steps.{Answer, IsInBookOrKept, after_step, is_len
 use Rattle.server_history.proofs.state.ListMembers.{contains_cases}
 use Rattle.refinement.specs.Fragments.{driver_state_of}
 use Rattle.refinement.specs.Driver.{OthersStayParked, HasNoSlot, DriverState, with_slot_freed_and_request_parked}
-use Rattle.refinement.specs.Slots.{Free, Serves, SlotStates, set_slot_state, IsDropped, IsEnded, IsOver, ServesRequest}
+use Rattle.adapter.specs.OneCommand.{SlotHasNoCommand}
+use Rattle.refinement.specs.Slots.{Free, Serves, SlotStates, set_slot_state, IsDropped, IsEnded, ServesRequest}
 use Rattle.dma_frames.specs.FrameTables.{OwnersAndLoans, lent_to, SetsLoanOnly}
 use Rattle.host_boot.specs.TakeOver.{probe_result_of}
 use Rattle.request_queue.specs.BookEntries.{BookEntry, IsWellFormedEntry, without_entry}
@@ -80,7 +81,7 @@ pub record IsAnswer (port : Port) (request : BookEntry) (old new : ServerState) 
   pub stands : MachineRelation new (after_step m (Answer done outcome.Ok))
 
 module _ (laws : PrerequisiteLaws) (s new : ServerState) (port : Port) (e : BookEntry) (k : InCallInvariant s) (ready : state_of (probe_result_of s.probe_results port.0) ≡ ReadyState)
-    (one : AnswersOne port e s new) (over : IsOver (s.device.port port.0) one.slot) where
+    (one : AnswersOne port e s new) (over : SlotHasNoCommand (s.device.port port.0) one.slot) where
   abbrev id : RequestId
   id = e.request.id
 
@@ -141,7 +142,7 @@ module _ (laws : PrerequisiteLaws) (s new : ServerState) (port : Port) (e : Book
     stands : MachineRelation left answered
     stands = record {
       uses = set_slot_state is.uses port.0 slot Free;
-      slot_uses_agree_unless_dead = placed_uses s.slots port.0 slot None (let l = low in let f = k.slots_are_of_four_ports in omega (arith, l, f)) (let h = (k.slots_invariant port.0 low).has_32_slots in let small = one.slot_is_below_32 in omega (arith, h, small)) laws s.probe_results is.uses is.slot_uses_agree_unless_dead;
+      slot_states_agree_unless_dead = placed_uses s.slots port.0 slot None (let l = low in let f = k.slots_are_of_four_ports in omega (arith, l, f)) (let h = (k.slots_invariant port.0 low).has_32_slots in let small = one.slot_is_below_32 in omega (arith, h, small)) laws s.probe_results is.uses is.slot_states_agree_unless_dead;
       awaiting_disposition = is.awaiting_disposition;
       only_dead_ports_park = is.only_dead_ports_park;
       driver_relation = laws.slots.answered_agrees taken m done outcome.Ok is.awaiting_disposition reached (laws.slots.parked_agrees (driver_state_of is.uses is.awaiting_disposition s.device) m is.driver_relation port.0 slot over id serves) r.here refl no_slot forgets;

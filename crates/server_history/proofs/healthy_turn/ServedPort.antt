@@ -14,9 +14,10 @@ use Rattle.adapter.specs.Device.{Device}
 use Rattle.adapter.specs.declared.command.Operation.TheVariants.{ReadLog}
 use Rattle.refinement.specs.Fragments.{AnySlotStates, IsDrivenBy, IsSimulated, GainsNoMove}
 use Rattle.refinement.specs.Driver.{TapeBacksSteps}
-use Rattle.refinement.specs.Slots.{IsOver, Serves, ServesRequest, IsInSomeStage}
+use Rattle.adapter.specs.OneCommand.{SlotHasNoCommand}
+use Rattle.refinement.specs.Slots.{Serves, ServesRequest, IsInSomeStage}
 use Rattle.server_history.proofs.state.FollowedAccesses.{followed_adds}
-use Rattle.server_history.specs.AccessPurposes.AccessPurpose.{ReadingMasks, Looking, Serving}
+use Rattle.server_history.specs.AccessPurposes.AccessPurpose.{ReadingMasks, Looking, Servicing}
 use Rattle.server_history.proofs.state.DrivenAccesses.{by_none}
 use Rattle.block_machine.specs.Events.{AllByDevice, AllEnabled, issues_id}
 use Rattle.block_machine.specs.Histories.{IsReachable}
@@ -37,10 +38,10 @@ use Rattle.request_queue.specs.BookEntries.{BookEntry, unanswered_of, due_ids}
 use Rattle.slots.specs.SlotUses.{PortSlots}
 use Rattle.slots.specs.declared.SlotUse.{SlotUse}
 use Rattle.server_history.specs.Prerequisites.{PrerequisiteLaws}
-use Rattle.commands.specs.Batches.{IsBatchAccess}
+use Rattle.commands.specs.Batches.{IsCommandIssueAccess}
 use Rattle.server_history.specs.IssuingAndAnswering.{AnswersDoneAndIssues, AnswersEach, AnswersOne, IsEmptyMask, PollsInTurnWithoutEvent, IsMaskOf, AllByDeviceOrIssue, IsAnsweredIn, ok_answers_newest_first, done_reply, is_used}
 use Rattle.server_history.specs.Turns.{ServicesPort}
-use Rattle.server_history.specs.ServerState.{ServerState, InCallInvariant, MachineRelation, SettledInvariant, mode_in, slots_at, state_of, used_for, with_slot}
+use Rattle.server_history.specs.ServerState.{ServerState, InCallInvariant, MachineRelation, InvariantWithNoneDue, mode_in, slots_at, state_of, used_for, with_slot}
 use Rattle.server_history.proofs.healthy_turn.OneAnswer.{answer_kept}
 use Rattle.server_history.proofs.state.DueRequests.{none_issued}
 use Rattle.server_history.proofs.state.TurnAccesses.{bit_zero}
@@ -59,14 +60,14 @@ use Rattle.server_history.proofs.state.FirstMembers.{nowhere, first_here}
 
 -- accesses of a look, and of finding a transfer done, serve ports
 pub looks_serve : PrerequisiteLaws → (port : Port) (old new : Device) → IsSimulated (IsPxisSstsOrOwnIsAccess port) AnySlotStates old new → IsSimulated WritesOnlyHbaIsPxIsCiOrSact AnySlotStates old new
-looks_serve laws port old new followed = (laws.look_laws.fragments.is_of_wider_kind (Looking port) Serving (λ uses. uses) (laws.look_laws.look_access_is_service_access port) (λ uses any. any) old new followed).is_simulated
+looks_serve laws port old new followed = (laws.look_laws.fragments.is_of_wider_kind (Looking port) Servicing (λ uses. uses) (laws.look_laws.look_access_is_service_access port) (λ uses any. any) old new followed).is_simulated
 
 pub finds_serve : PrerequisiteLaws → (port : Port) (mask done : ℕ) (old new : Device) → ReadsDone port mask done old new → IsSimulated WritesOnlyHbaIsPxIsCiOrSact AnySlotStates old new
-finds_serve laws port mask done old new finds = (laws.look_laws.fragments.is_of_wider_kind (ReadingMasks port) Serving (λ uses. uses) (finding_serves port) (λ uses any. any) old new (laws.mask_reading_is_simulated port mask done old new finds)).is_simulated
+finds_serve laws port mask done old new finds = (laws.look_laws.fragments.is_of_wider_kind (ReadingMasks port) Servicing (λ uses. uses) (finding_serves port) (λ uses any. any) old new (laws.mask_reading_is_simulated port mask done old new finds)).is_simulated
 
 -- one stretch, and then another
 serves_then : PrerequisiteLaws → (old mid new : Device) → IsSimulated WritesOnlyHbaIsPxIsCiOrSact AnySlotStates old mid → IsSimulated WritesOnlyHbaIsPxIsCiOrSact AnySlotStates mid new → IsSimulated WritesOnlyHbaIsPxIsCiOrSact AnySlotStates old new
-serves_then laws old mid new a b = (laws.look_laws.fragments.fragments_join Serving Serving (λ uses. uses) (λ uses. uses) (λ access is. is) (λ uses any. any) old mid new a b).is_simulated
+serves_then laws old mid new a b = (laws.look_laws.fragments.fragments_join Servicing Servicing (λ uses. uses) (λ uses. uses) (λ access is. is) (λ uses any. any) old mid new a b).is_simulated
 
 -- answers issue nothing
 pub answers_issue_none : (id : RequestId) (ended : List Pending) → list_any (issues_id id) (ok_answers_newest_first ended) ≡ false
@@ -80,7 +81,7 @@ followed_steps laws s new followed m reached is =
     let x = (followed_adds laws followed is.uses is.awaiting_disposition tt).simulates m reached is.driver_relation in
     (x.0, x.1, machine_on laws s new m x.0 is x.3.all_steps_are_by_device x.2, x.3.is_backed, x.3.all_steps_are_by_device)
 
-nobody_answered : PrerequisiteLaws → (s : ServerState) (new : Device) (port : Port) → SettledInvariant s → state_of (probe_result_of s.probe_results port.0) ≡ ReadyState → (turn : PollsInTurnWithoutEvent port (slots_at s.slots port.0) [] s.device new) → IsSimulated WritesOnlyHbaIsPxIsCiOrSact AnySlotStates s.device new
+nobody_answered : PrerequisiteLaws → (s : ServerState) (new : Device) (port : Port) → InvariantWithNoneDue s → state_of (probe_result_of s.probe_results port.0) ≡ ReadyState → (turn : PollsInTurnWithoutEvent port (slots_at s.slots port.0) [] s.device new) → IsSimulated WritesOnlyHbaIsPxIsCiOrSact AnySlotStates s.device new
     → ((q : ℕ) → state_of (probe_result_of s.probe_results q) ≢ Dead → GainsNoMove q ReadLog s.device new)
     → (turn.look ≡ NoEvent → (slot : ℕ) (used : SlotUse) → slot < 32 → used_for s.slots port.0 slot ≡ Some used → (s.device.port port.0).ci slot ≡ false → (s.device.port port.0).sact slot ≡ false → ⊥)
     → ServicesPort port [] s (record s { device = new })
@@ -106,7 +107,7 @@ nobody_answered laws s new port settled ready turn followed silent never =
         others_come_last = tt;
       };
       last = devices_last x.0 x.4;
-      issues = none_issued (record s { device = new }) (after m x.0) x.2 x.0 (λ id. devices_issue_none id x.0 x.4) (mode_in s port) port (settled.nothing_is_due port);
+      issues = none_issued (record s { device = new }) (after m x.0) x.2 x.0 (λ id. devices_issue_none id x.0 x.4) (mode_in s port) port (settled.none_is_due port);
     })
     (λ calm slot used small its ci sact. absurd (never calm slot used small its ci sact))
     silent
@@ -121,7 +122,7 @@ never_both true false ci sact on a b c d = false≢true (sym c ∙ a)
 
 module _ (s : ServerState) (port : Port) (k : InCallInvariant s) (ready : state_of (probe_result_of s.probe_results port.0) ≡ ReadyState) (slot : ℕ) where
   -- where both bits of what is issued are clear, its command is over
-  clear_over : (used : SlotUse) → used_for s.slots port.0 slot ≡ Some used → (s.device.port port.0).ci slot ≡ false → (s.device.port port.0).sact slot ≡ false → IsOver (s.device.port port.0) slot
+  clear_over : (used : SlotUse) → used_for s.slots port.0 slot ≡ Some used → (s.device.port port.0).ci slot ≡ false → (s.device.port port.0).sact slot ≡ false → SlotHasNoCommand (s.device.port port.0) slot
   clear_over used its ci sact = by x.stage
     where
       found : (port.0 < 4) × ((info : DiskInfo) × (probe_result_of s.probe_results port.0 ≡ Ready info))
@@ -130,7 +131,7 @@ module _ (s : ServerState) (port : Port) (k : InCallInvariant s) (ready : state_
       x : ServesRequest k.machine s.device.memory (s.device.port port.0) port.0 slot used.id
       x = served_by s k.machine port.0 slot k.machine_relation used.id (serves_used s k.machine port.0 k.machine_relation ready slot used its)
 
-      by : IsInSomeStage s.device.memory (s.device.port port.0) port.0 slot x.pending x.command x.places → IsOver (s.device.port port.0) slot
+      by : IsInSomeStage s.device.memory (s.device.port port.0) port.0 slot x.pending x.command x.places → SlotHasNoCommand (s.device.port port.0) slot
       by (inl w) = absurd (false≢true (sym ci ∙ w.issued))
       by (inr (inl t)) = absurd (never_both (s.device.port port.0).st (is_queued x.command.operation) _ _ ((k.port_invariant port.0 found.0).ready_engine_runs ready).st_is_set t.ci_is_set_iff_st_and_plain t.sact ci sact)
       by (inr (inr (inl e))) = record { is_not_issued = e.is_not_issued; is_not_taken = e.is_not_taken }
@@ -200,7 +201,7 @@ module _ (laws : PrerequisiteLaws) (port : Port) (low : port.0 < 4) (done : ℕ)
 
 -- ---- the whole
 
-module _ (s : ServerState) (seen : Device) (port : Port) (t : SettledInvariant s) (ready : state_of (probe_result_of s.probe_results port.0) ≡ ReadyState) (looks : IsSimulated (IsPxisSstsOrOwnIsAccess port) AnySlotStates s.device seen) where
+module _ (s : ServerState) (seen : Device) (port : Port) (t : InvariantWithNoneDue s) (ready : state_of (probe_result_of s.probe_results port.0) ≡ ReadyState) (looks : IsSimulated (IsPxisSstsOrOwnIsAccess port) AnySlotStates s.device seen) where
   abbrev k : InCallInvariant s
   k = t.in_call_invariant
 
@@ -260,7 +261,7 @@ module _ (s : ServerState) (seen : Device) (port : Port) (t : SettledInvariant s
                 reads = reads;
                 answered_iff_done = λ slot used small is. ((λ found. absurd (false≢true (sym (none slot small) ∙ found))), (λ w. absurd (nowhere w.0 w.1)));
                 none_done_answers_none = λ _. (refl, refl);
-                only_issuing_follows = by_none (IsBatchAccess port) new;
+                only_issuing_follows = by_none (IsCommandIssueAccess port) new;
               };
             };
           })
@@ -350,8 +351,8 @@ module _ (s : ServerState) (seen : Device) (port : Port) (t : SettledInvariant s
             z : AreIssued port ids a.server_after_answers new (after m base)
             z = each_issued laws port ids a.server_after_answers new mid_kept a.issued (after m base) (laws.steps_and_accesses.reachable_stays_reachable m base reached base_may) (subst (MachineRelation a.server_after_answers) (sym base_is) y.stands)
 
-        last_issues : IsDrivenBy (IsBatchAccess port) found new.device
-        last_issues = subst (λ (d : Device). IsDrivenBy (IsBatchAccess port) d new.device) mid_device (each_driven laws port ids a.server_after_answers new a.issued)
+        last_issues : IsDrivenBy (IsCommandIssueAccess port) found new.device
+        last_issues = subst (λ (d : Device). IsDrivenBy (IsCommandIssueAccess port) d new.device) mid_device (each_driven laws port ids a.server_after_answers new a.issued)
 
         -- a request is told exactly if its slot was found done
         told_of : (e : BookEntry) → Contains a.requests e → IsAnsweredIn e.request.id replies

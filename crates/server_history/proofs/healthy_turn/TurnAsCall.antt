@@ -27,7 +27,7 @@ use Rattle.block_machine.specs.Steps.{Step, Answer}
 use Rattle.block_machine.specs.declared.due.QueueMode.{QueueMode}
 use Rattle.server_history.proofs.state.ListMembers.{into_map, map_in}
 use Rattle.driver_history.specs.EvidenceHandling.{ServicesReadyPort, tells_fault}
-use Rattle.driver_history.specs.Evidence.{ShowsFailure, BeganWithLinkChangeOrNoDeviceAndNoneComes}
+use Rattle.driver_history.specs.Evidence.{ShowsFailure, ShowedLinkChangeOrNoDeviceAndNoneCame}
 use Rattle.driver_history.specs.Histories.{FindsDone, IsForeignOrUnfit, IsAnsweredOk, IsIssuedOn}
 use Rattle.driver_history.specs.AccessTrace.{ReadsMasksBeforeCmdWrite}
 use Rattle.host_boot.specs.TakeOver.{probe_result_of}
@@ -39,7 +39,7 @@ use Rattle.server_history.specs.IssuingAndAnswering.{StepsAnswer, PollsSlots, Ha
 use Rattle.server_history.proofs.any_turn.TurnSteps.{counts_none}
 use Rattle.server_history.proofs.any_turn.UnusedSlotBits.{unused_clear}
 use Rattle.server_history.specs.Turns.{FindsDoneInTurn, ServingReady, TurnCorresponds, joint_state_of, abstract_state_of}
-use Rattle.server_history.specs.ServerState.{ServerState, InCallInvariant, MachineRelation, SettledInvariant, mode_in, ports_of, slots_at, state_of, used_for}
+use Rattle.server_history.specs.ServerState.{ServerState, InCallInvariant, MachineRelation, InvariantWithNoneDue, mode_in, ports_of, slots_at, state_of, used_for}
 use Rattle.server_history.proofs.state.AnswerSteps.{answered_in, ended_stood, in_answered, may_parts, no_answer, no_answer_issuing}
 use Rattle.server_history.proofs.state.TurnAccesses.{TurnList, look_does, look_list}
 use Rattle.server_history.proofs.any_turn.ToldTrouble.{no_change, not_missing}
@@ -63,7 +63,7 @@ tells_none q (step ∷ steps) told = tells_none q steps (λ x o here. told x o (
 
 -- ---- a turn
 
-module _ (laws : PrerequisiteLaws) (port : Port) (replies : List Reply) (old new : ServerState) (t : SettledInvariant old) (ready : state_of (probe_result_of old.probe_results port.0) ≡ ReadyState)
+module _ (laws : PrerequisiteLaws) (port : Port) (replies : List Reply) (old new : ServerState) (t : InvariantWithNoneDue old) (ready : state_of (probe_result_of old.probe_results port.0) ≡ ReadyState)
     (turn : PollsInTurnWithoutEvent port (slots_at old.slots port.0) replies old.device new.device) (list : TurnList port (slots_at old.slots port.0) replies old.device new.device turn)
     (same : SamePort (ports_of old) (ports_of new) port) (m : Machine) (reached : IsReachable m) (at : MachineRelation old m) (steps : List Step) (may : AllEnabled m steps)
     (b : StepsAnswer (mode_in old port) port replies steps)
@@ -261,7 +261,7 @@ module _ (laws : PrerequisiteLaws) (port : Port) (replies : List Reply) (old new
   later = let over = later_driven laws port (slots_at old.slots port.0) replies (joint_state_of old m) new.device turn kept.adapter_is_on turn.look_is_no_event in grows_over laws over.accesses turn.device_after_look new.device over.all_are_done
 
   -- nor was a loss
-  pub never_lost : BeganWithLinkChangeOrNoDeviceAndNoneComes port old.device new.device → ⊥
+  pub never_lost : ShowedLinkChangeOrNoDeviceAndNoneCame port old.device new.device → ⊥
   never_lost loss = ⊎_elim
       (no_change laws port turn.look old.device turn.device_after_look turn.takes_event kept.adapter_is_on not_lost)
       (λ (out : _ × _). not_missing laws port turn.look old.device turn.device_after_look turn.takes_event kept.adapter_is_on not_lost new.device later undue out.0 out.1)
@@ -284,7 +284,7 @@ module _ (laws : PrerequisiteLaws) (port : Port) (replies : List Reply) (old new
         let accesses = look_list port turn.takes_event.causes turn.takes_event.port_mask turn.takes_event.status in
         let does = look_does port turn.look old.device turn.device_after_look turn.takes_event in
         had_disk laws port old turn.device_after_look new.device m accesses does
-        (laws.recovery.shown_disk_stays_in port.0 accesses old.device turn.device_after_look does ((kept.port_invariant port.0 low).ready_has_disk_if_shown ready) (shows_device laws port old.device turn.device_after_look turn.look turn.takes_event kept.adapter_is_on not_lost))
+        (laws.recovery.shown_disk_stays_in port.0 accesses old.device turn.device_after_look does ((kept.port_invariant port.0 low).ready_has_disk_if_det_3 ready) (shows_device laws port old.device turn.device_after_look turn.look turn.takes_event kept.adapter_is_on not_lost))
         at later steps backed
 
     serves_ready : ServicesReadyPort (abstract_state_of old m) its steps (record { machine = after m steps; ports = ports_of new }) port

@@ -74,9 +74,9 @@ was_granted laws start (step ∷ past) r (inr was) = was_granted laws start past
 pub on_its_port : FrameHolderLaws → (m : Machine) → IsReachable m → (e : machine.Pending) → Contains m.book e → (row : GrantRow) → Contains m.rows row → HasGrantName e.request.asked.client e.request.asked.grant row
     → e.request.port ≡ row.port
 on_its_port laws m reached e here row there named =
-    let was = laws.frame_holders_were_accepted reached.initial_machine reached.steps_since e reached.is_initial reached.is_legal (subst (λ (n : Machine). IsInBookOrKept n e) reached.leads_to_machine (inl here)) in
+    let was = laws.frame_holders_were_accepted reached.initial_machine reached.steps_since e reached.is_initial reached.steps_since_are_enabled (subst (λ (n : Machine). IsInBookOrKept n e) reached.leads_to_machine (inl here)) in
     let g = was_granted laws reached.initial_machine reached.steps_since e.request was in
-    let at_first : IsReachable reached.initial_machine = record { initial_machine = reached.initial_machine; steps_since = []; is_initial = reached.is_initial; is_legal = tt; leads_to_machine = refl } in
+    let at_first : IsReachable reached.initial_machine = record { initial_machine = reached.initial_machine; steps_since = []; is_initial = reached.is_initial; steps_since_are_enabled = tt; leads_to_machine = refl } in
     let at_start = (laws.rows_shrink_and_owners_stay reached.initial_machine reached.steps_since).0 row (subst (λ (n : Machine). Contains n.rows row) reached.leads_to_machine there) in
     g.row_port_is ∙ ap (λ (x : GrantRow). x.port) (laws.a_name_is_one_row reached.initial_machine e.request.asked.client e.request.asked.grant g.row row at_first g.is_named.0 g.is_named.1 at_start named)
 

@@ -40,10 +40,10 @@ use Rattle.hba_regs.specs.declared.reg.PortReg.TheVariants as register
 use Rattle.adapter.specs.Access.{Access}
 use Rattle.adapter.specs.Access.Access.{Loading, Reading, Storing, Writing}
 use Rattle.server_history.specs.Prerequisites.{PrerequisiteLaws}
-use Rattle.server_history.specs.Histories.{ExtendsToSettled, LeadsToServer}
-use Rattle.commands.specs.Batches.{IsBatchAccess}
+use Rattle.server_history.specs.Histories.{ExtendsToNoneDue, LeadsToServer}
+use Rattle.commands.specs.Batches.{IsCommandIssueAccess}
 use Rattle.server_history.specs.IssuingAndAnswering.{AcceptsAndIssues, IssuesDueOfPort, accepted_as, with_accepted}
-use Rattle.server_history.specs.ServerState.{ServerState, InCallInvariant, MachineRelation, SettledInvariant, mode_in, ports_of, admission_context, state_of, used_for, RevokedMarkInvariant}
+use Rattle.server_history.specs.ServerState.{ServerState, InCallInvariant, MachineRelation, InvariantWithNoneDue, mode_in, ports_of, admission_context, state_of, used_for, RevokedMarkInvariant}
 use Rattle.slots.specs.declared.SlotUse.{SlotUse}
 use Rattle.block_machine.specs.declared.due.QueueMode.{QueueMode}
 use Rattle.server_history.proofs.state.DueRequests.{none_due}
@@ -59,14 +59,14 @@ use Rattle.server_history.proofs.state.FirstMembers.{first_here}
 -- ---- what issuing writes
 
 -- neither GHC, nor a bit that tells of trouble
-pub issuing_spares_host : (port : Port) (access : Access) → IsBatchAccess port access → DoesNotWrite Ghc access
+pub issuing_spares_host : (port : Port) (access : Access) → IsCommandIssueAccess port access → DoesNotWrite Ghc access
 issuing_spares_host port (Writing r v) here =
     λ q. ⊎_elim (λ (is : r ≡ Px port Sact). let z : Px port Sact ≡ Ghc = sym is ∙ q in absurd cc) (λ (is : r ≡ Px port Ci). let z : Px port Ci ≡ Ghc = sym is ∙ q in absurd cc) here
 issuing_spares_host port (Storing at bytes) here = tt
 issuing_spares_host port (Loading at bytes) here = absurd here
 issuing_spares_host port (Reading r v) here = absurd here
 
-pub issuing_clears_none : (port other : Port) (access : Access) → IsBatchAccess port access → WritesOneToNoTroubleBit other access
+pub issuing_clears_none : (port other : Port) (access : Access) → IsCommandIssueAccess port access → WritesOneToNoTroubleBit other access
 issuing_clears_none port other (Writing r v) here = record {
   pxis_trouble_is_kept = λ q. absurd (⊎_elim (λ (is : r ≡ Px port Sact). let z : Px port Sact ≡ Px other register.Is = sym is ∙ q in absurd cc) (λ (is : r ≡ Px port Ci). let z : Px port Ci ≡ Px other register.Is = sym is ∙ q in absurd cc) here);
   serr_trouble_is_kept = λ q. absurd (⊎_elim (λ (is : r ≡ Px port Sact). let z : Px port Sact ≡ Px other register.Serr = sym is ∙ q in absurd cc) (λ (is : r ≡ Px port Ci). let z : Px port Ci ≡ Px other register.Serr = sym is ∙ q in absurd cc) here);
@@ -146,7 +146,7 @@ module _ (laws : PrerequisiteLaws) (s : ServerState) (k : InCallInvariant s) (r 
     stands_next : MachineRelation more next
     stands_next = record {
       uses = is.uses;
-      slot_uses_agree_unless_dead = is.slot_uses_agree_unless_dead;
+      slot_states_agree_unless_dead = is.slot_states_agree_unless_dead;
       awaiting_disposition = is.awaiting_disposition;
       only_dead_ports_park = is.only_dead_ports_park;
       driver_relation = laws.slots.accepted_agrees (driver_state_of is.uses is.awaiting_disposition s.device) m request is.driver_relation;
@@ -192,13 +192,13 @@ module _ (laws : PrerequisiteLaws) (s : ServerState) (k : InCallInvariant s) (r 
     none_other other ne u own due =
         none other u own ((laws.due_depends_on_own_port (mode_in s other) other (unanswered_of more.book) (unanswered_of s.book) u (own_longer other s.book e (λ same. ne (sym same))) own).0 due)
 
-    settles : SettledInvariant new
+    settles : InvariantWithNoneDue new
     settles = settled laws port more new accept_kept none_other issues
 
     same : new ≡ record more { device = new.device; slots = new.slots; book = new.book }
     same = each_settings laws port ids more new issues
 
-    driven : IsDrivenBy (IsBatchAccess port) s.device new.device
+    driven : IsDrivenBy (IsCommandIssueAccess port) s.device new.device
     driven = each_driven laws port ids more new issues
 
     port_low : port.0 < 4
@@ -215,10 +215,10 @@ module _ (laws : PrerequisiteLaws) (s : ServerState) (k : InCallInvariant s) (r 
         (allowed, (asked, accepts_on mode port x.steps early x.only, refl), same_ports_are, all_issued)
         tt
         driven.accesses
-        (driven.all_are_done, (row, its_row, All-weaker (IsBatchAccess port) (StoresOrWritesSactOrCi row.port) (λ access here. subst (λ (p : Port). StoresOrWritesSactOrCi p access) (sym port_is) (issuing_is port port_low access here)) driven.accesses driven.accesses_are_of_kind))
-        (λ other. All-weaker (IsBatchAccess port) (WritesNeitherCmdNorSctl other) (issuing_leaves laws port other) driven.accesses driven.accesses_are_of_kind)
+        (driven.all_are_done, (row, its_row, All-weaker (IsCommandIssueAccess port) (StoresOrWritesSactOrCi row.port) (λ access here. subst (λ (p : Port). StoresOrWritesSactOrCi p access) (sym port_is) (issuing_is port port_low access here)) driven.accesses driven.accesses_are_of_kind))
+        (λ other. All-weaker (IsCommandIssueAccess port) (WritesNeitherCmdNorSctl other) (issuing_leaves laws port other) driven.accesses driven.accesses_are_of_kind)
         (λ other is_ready. due_now other)
-        (λ other. record { finds_done = tt; lone_plain_faults_are_told_unless_dead = tt; probes_disk = tt; boots_anew = tt; loses_no_error = laws.calls.ordinary_accesses_lose_no_error other (with_device s.device old) new.device driven.accesses (told_by s.device old.abstract.ports) (ports_of new) k.adapter_is_on driven.all_are_done (All-weaker (IsBatchAccess port) (DoesNotWrite Ghc) (issuing_spares_host port) driven.accesses driven.accesses_are_of_kind) (All-weaker (IsBatchAccess port) (WritesOneToNoTroubleBit other) (issuing_clears_none port other) driven.accesses driven.accesses_are_of_kind); runs_well_anew = λ i. absurd (uninterrupted s.device old.abstract.ports other i); handles_evidence = uninterrupted s.device old.abstract.ports other })
+        (λ other. record { finds_done = tt; lone_plain_faults_are_told_unless_dead = tt; probes_disk = tt; boots_anew = tt; loses_no_error = laws.calls.ordinary_accesses_lose_no_error other (with_device s.device old) new.device driven.accesses (told_by s.device old.abstract.ports) (ports_of new) k.adapter_is_on driven.all_are_done (All-weaker (IsCommandIssueAccess port) (DoesNotWrite Ghc) (issuing_spares_host port) driven.accesses driven.accesses_are_of_kind) (All-weaker (IsCommandIssueAccess port) (WritesOneToNoTroubleBit other) (issuing_clears_none port other) driven.accesses driven.accesses_are_of_kind); runs_well_anew = λ i. absurd (uninterrupted s.device old.abstract.ports other i); handles_evidence = uninterrupted s.device old.abstract.ports other })
         (laws.backed_parts_join s.device s.device new.device m early x.steps (laws.drivers_own_step_is_backed s.device m (Accept asked) (λ no. no)) x.backed)
         stands
       where
@@ -268,7 +268,7 @@ module _ (laws : PrerequisiteLaws) (s : ServerState) (k : InCallInvariant s) (r 
         same_ports_are = ports_same old.abstract.ports (ports_of new) (leads.state_is_at_history_end.ports_are ∙ sym (ap ports_of same))
 
         all_issued : NoneDueWhereReady (record { machine = after m (x.steps ++ early); ports = ports_of new })
-        all_issued other on = none_due new (after m (x.steps ++ early)) stands (mode_in new other) other (settles.nothing_is_due other)
+        all_issued other on = none_due new (after m (x.steps ++ early)) stands (mode_in new other) other (settles.none_is_due other)
 
         mode_is : (other : Port) → mode_in new other ≡ mode_in s other
         mode_is other = ap (λ (n : ServerState). mode_in n other) same
@@ -281,8 +281,8 @@ module _ (laws : PrerequisiteLaws) (s : ServerState) (k : InCallInvariant s) (r 
             (λ u here own. sym (any_append (issues_id u.id) x.steps early ∙ or_none (list_any (issues_id u.id) x.steps)))
             (dues laws port more new accept_kept issues (next m was is) x other (none_other other))))
 
-pub acceptance : PrerequisiteLaws → (s new : ServerState) (port : Port) (r : Request) (id : RequestId) → SettledInvariant s → IsAcceptable (admission_context s) r → AcceptsAndIssues port r id s new → ExtendsToSettled s new (Submit r) (Submitted (Ok id))
+pub acceptance : PrerequisiteLaws → (s new : ServerState) (port : Port) (r : Request) (id : RequestId) → InvariantWithNoneDue s → IsAcceptable (admission_context s) r → AcceptsAndIssues port r id s new → ExtendsToNoneDue s new (Submit r) (Submitted (Ok id))
 acceptance laws s new port r id k acc a = record {
-  settled_invariant = settles laws s k.in_call_invariant r acc a.row a.named port a.port_is id a.id_is a.table a.lends_only k.nothing_is_due new a.issues_due;
-  extends_history = event laws s k.in_call_invariant r acc a.row a.named port a.port_is id a.id_is a.table a.lends_only k.nothing_is_due new a.issues_due;
+  invariant_with_none_due = settles laws s k.in_call_invariant r acc a.row a.named port a.port_is id a.id_is a.table a.lends_only k.none_is_due new a.issues_due;
+  extends_history = event laws s k.in_call_invariant r acc a.row a.named port a.port_is id a.id_is a.table a.lends_only k.none_is_due new a.issues_due;
 }

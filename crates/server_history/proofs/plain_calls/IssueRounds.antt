@@ -23,11 +23,11 @@ use Rattle.block_machine.specs.declared.due.QueueMode.{QueueMode}
 use Rattle.block_machine.specs.declared.due.Unanswered.{Unanswered}
 use Rattle.server_history.proofs.state.ListMembers.{contains_cases, contains_here, contains_there, into_map, map_in}
 use Rattle.driver_history.specs.Histories.{IssuesDue, with_issue_undone}
-use Rattle.commands.specs.Batches.{IsBatchAccess, PlacedTask, issues_newest_first}
+use Rattle.commands.specs.Batches.{IsCommandIssueAccess, PlacedTask, issues_newest_first}
 use Rattle.request_queue.specs.BookEntries.{BookEntry, BookIsWellFormed, IsWaiting, as_unanswered, unanswered_of, due_ids}
 use Rattle.server_history.specs.Prerequisites.{PrerequisiteLaws}
 use Rattle.server_history.specs.IssuingAndAnswering.{AllByDeviceOrIssue, IssuesDueOfPort, IssuesTogetherIfAny, PutsInSlot, PutsInSlots}
-use Rattle.server_history.specs.ServerState.{ServerState, InCallInvariant, MachineRelation, SettledInvariant, mode_at, mode_in, no_slots, slots_at}
+use Rattle.server_history.specs.ServerState.{ServerState, InCallInvariant, MachineRelation, InvariantWithNoneDue, mode_at, mode_in, no_slots, slots_at}
 use Rattle.server_history.proofs.state.DueRequests.{same_book}
 use Rattle.server_history.proofs.state.DeviceSteps.{devices_last, not_handled}
 use Rattle.server_history.proofs.plain_calls.IssuedTogether.{AreIssuedTogether, HaveIds, issued_together, together_kept, together_silent}
@@ -228,8 +228,8 @@ module _ (laws : PrerequisiteLaws) (port : Port) where
   each_silent (first ∷ ids) old new k issues q o own other = together_silent laws old new port first ids k issues q o own other
 
   -- the accesses that issue them
-  pub each_driven : (ids : List RequestId) (old new : ServerState) → IssuesTogetherIfAny port ids old new → IsDrivenBy (IsBatchAccess port) old.device new.device
-  each_driven [] old new none = subst (λ (n : ServerState). IsDrivenBy (IsBatchAccess port) old.device n.device) (sym none) (by_none (IsBatchAccess port) old.device)
+  pub each_driven : (ids : List RequestId) (old new : ServerState) → IssuesTogetherIfAny port ids old new → IsDrivenBy (IsCommandIssueAccess port) old.device new.device
+  each_driven [] old new none = subst (λ (n : ServerState). IsDrivenBy (IsCommandIssueAccess port) old.device n.device) (sym none) (by_none (IsCommandIssueAccess port) old.device)
   each_driven (first ∷ ids) old new issues = issues.issued.issues.driven
 
   -- ---- the server then
@@ -309,10 +309,10 @@ module _ (laws : PrerequisiteLaws) (port : Port) where
       let x : ArePutInSlots port ids old new = are_put port ids old new issues in
       ap (λ (n : ServerState). slots_at n.slots other) x.server ∙ puts_slots ids x.tasks old x.taken x.puts other ne
 
-  pub settled : (old new : ServerState) → InCallInvariant old → ((other : Port) → other ≢ port → NoneDue (mode_in old other) (unanswered_of old.book) other) → IssuesDueOfPort port old new → SettledInvariant new
+  pub settled : (old new : ServerState) → InCallInvariant old → ((other : Port) → other ≢ port → NoneDue (mode_in old other) (unanswered_of old.book) other) → IssuesDueOfPort port old new → InvariantWithNoneDue new
   settled old new k none issues = record {
     in_call_invariant = each_kept ids old new k issues;
-    nothing_is_due = λ other. subst (λ (modes : List QueueMode). NoneDue (mode_at modes other.0) (unanswered_of new.book) other) (sym (each_modes ids old new issues)) (⊎_elim
+    none_is_due = λ other. subst (λ (modes : List QueueMode). NoneDue (mode_at modes other.0) (unanswered_of new.book) other) (sym (each_modes ids old new issues)) (⊎_elim
         (λ (same : other.0 ≡ port.0).
         subst (λ (q : Port). NoneDue (mode_in old q) (unanswered_of new.book) q) (ap (λ (n : ℕ). record { 0 = n }) (sym same))
         (each_done (mode_in old port) ids old new issues (laws.due_are_issued_in_order (mode_in old port) port (unanswered_of old.book) (laws.unanswered_are_in_order old.book k.book_is_well_formed))))

@@ -24,7 +24,7 @@ use Rattle.block_machine.specs.State.{Machine, Pending, unanswered}
 use Rattle.block_machine.specs.Steps.{Step, Issue, IsEnabled, after_step}
 use Rattle.block_machine.specs.declared.due.QueueMode.{QueueMode}
 use Rattle.block_machine.specs.declared.due.Unanswered.{Unanswered}
-use Rattle.commands.specs.Batches.{IsBatchAccess, IssuesBatchAtEnd, MayServeBatch, PlacedTask, issues_newest_first, with_serving_batch}
+use Rattle.commands.specs.Batches.{IsCommandIssueAccess, IssuesBatchAtEnd, MayServeBatch, PlacedTask, issues_newest_first, with_serving_batch}
 use Rattle.commands.specs.Tasks.{IsTaskOf, piece_addresses_of, meaning_of, task_operation, with_serving}
 use Rattle.commands.specs.declared.ncq.Task.{Task}
 use Rattle.host_boot.specs.TakeOver.{probe_result_of}
@@ -44,7 +44,7 @@ use Rattle.request_queue.specs.BookRelation.{BookRelation, EntryRelation}
 use Rattle.slots.specs.declared.SlotUse.{SlotUse}
 use Rattle.server_history.specs.Prerequisites.{PrerequisiteLaws}
 use Rattle.server_history.specs.IssuingAndAnswering.{IssuesTogether, PutsInSlot, PutsInSlots, task_of, use_for}
-use Rattle.server_history.specs.ServerState.{HasStoredCommand, InCallInvariant, SlotUseAgreesUnlessDead, MachineRelation, PortInvariant, KeptRequestsRelation, RevokedMarkInvariant, ServerState, mode_in, state_of, used_for, with_slot}
+use Rattle.server_history.specs.ServerState.{HasStoredCommand, InCallInvariant, SlotStateAgreesUnlessDead, MachineRelation, PortInvariant, KeptRequestsRelation, RevokedMarkInvariant, ServerState, mode_in, state_of, used_for, with_slot}
 use Rattle.server_history.proofs.plain_calls.Looks.{behind_served}
 use Rattle.server_history.proofs.plain_calls.RequestsInSlots.{BookAndSlotsInvariant, book_and_slots, put_head, put_keeps, put_ready, put_slot_placed, put_usable, puts_free, puts_keep, puts_ready, puts_settings, puts_used}
 use Rattle.server_history.proofs.state.DrivenAccesses.{driven_as}
@@ -168,12 +168,12 @@ module _ (laws : PrerequisiteLaws) (port : Port) where
 
   -- each slot serves its request, and the others are used as before
   issues_uses : (found : List ProbeResult) (ids : List RequestId) (tasks : List PlacedTask) (s new : ServerState) → BookAndSlotsInvariant s → PutsInSlots port ids tasks s new → (requests : List Pending) → HaveIds port ids requests → (slots : DriverSlots)
-      → ((q n : ℕ) → SlotUseAgreesUnlessDead (probe_result_of found q) (used_for s.slots q n) (slots.slot_states q n)) → (q n : ℕ) → SlotUseAgreesUnlessDead (probe_result_of found q) (used_for new.slots q n) ((with_serving_batch port tasks requests slots).slot_states q n)
-  issues_uses found [] [] s new k none [] are slots was = λ q n. subst (λ (c : ServerState). SlotUseAgreesUnlessDead (probe_result_of found q) (used_for c.slots q n) (slots.slot_states q n)) (sym none) (was q n)
+      → ((q n : ℕ) → SlotStateAgreesUnlessDead (probe_result_of found q) (used_for s.slots q n) (slots.slot_states q n)) → (q n : ℕ) → SlotStateAgreesUnlessDead (probe_result_of found q) (used_for new.slots q n) ((with_serving_batch port tasks requests slots).slot_states q n)
+  issues_uses found [] [] s new k none [] are slots was = λ q n. subst (λ (c : ServerState). SlotStateAgreesUnlessDead (probe_result_of found q) (used_for c.slots q n) (slots.slot_states q n)) (sym none) (was q n)
   issues_uses found (id ∷ ids) (t ∷ tasks) s new k (mid, one, more) (e ∷ requests) are slots was =
       issues_uses found ids tasks mid new (put_keeps laws s mid port id t k one) more requests are.1 (with_serving port t.slot e.request.id slots)
-      (subst (λ (c : ServerState). (q n : ℕ) → SlotUseAgreesUnlessDead (probe_result_of found q) (used_for c.slots q n) (set_slot_state slots.slot_states port.0 t.slot (Serves e.request.id) q n)) (sym one.server_is)
-      (subst (λ (i : RequestId). (q n : ℕ) → SlotUseAgreesUnlessDead (probe_result_of found q) (used_for (with_slot s.slots port.0 t.slot (Some (use_for (mode_in s port) one.request))) q n) (set_slot_state slots.slot_states port.0 t.slot (Serves i) q n)) (one.id_is ∙ sym are.0.0)
+      (subst (λ (c : ServerState). (q n : ℕ) → SlotStateAgreesUnlessDead (probe_result_of found q) (used_for c.slots q n) (set_slot_state slots.slot_states port.0 t.slot (Serves e.request.id) q n)) (sym one.server_is)
+      (subst (λ (i : RequestId). (q n : ℕ) → SlotStateAgreesUnlessDead (probe_result_of found q) (used_for (with_slot s.slots port.0 t.slot (Some (use_for (mode_in s port) one.request))) q n) (set_slot_state slots.slot_states port.0 t.slot (Serves i) q n)) (one.id_is ∙ sym are.0.0)
       (put_slot_placed laws s mid port id t k one found slots.slot_states was)))
   issues_uses found [] tasks s new k puts (e ∷ requests) are slots was = absurd are
   issues_uses found (id ∷ ids) tasks s new k puts [] are slots was = absurd are
@@ -213,7 +213,7 @@ pub record AreIssuedTogether (port : Port) (ids : List RequestId) (old new : Ser
   pub stands : MachineRelation new (after m (issues_newest_first (mode_in old port) requests ++ steps))
 
 -- it writes no PxCMD
-issuing_commands : (port : Port) (q : Port) (access : Access) → IsBatchAccess port access → DoesNotWrite (Px q Cmd) access
+issuing_commands : (port : Port) (q : Port) (access : Access) → IsCommandIssueAccess port access → DoesNotWrite (Px q Cmd) access
 issuing_commands port q (Writing w v) is = ⊎_elim
     (λ (its : w ≡ Px port Sact) (same : w ≡ Px q Cmd). let z : Px port Sact ≡ Px q Cmd = sym its ∙ same in absurd cc)
     (λ (its : w ≡ Px port Ci) (same : w ≡ Px q Cmd). let z : Px port Ci ≡ Px q Cmd = sym its ∙ same in absurd cc)
@@ -303,7 +303,7 @@ module _ (laws : PrerequisiteLaws) (s new : ServerState) (port : Port) (first : 
     stands : MachineRelation later (after m (own ++ ends.steps))
     stands = record {
       uses = slots_then.slot_states;
-      slot_uses_agree_unless_dead = issues_uses laws port s.probe_results all_ids tasks s i.server_with_slots book_was i.puts requests found.1.ids_are its_slots is.slot_uses_agree_unless_dead;
+      slot_states_agree_unless_dead = issues_uses laws port s.probe_results all_ids tasks s i.server_with_slots book_was i.puts requests found.1.ids_are its_slots is.slot_states_agree_unless_dead;
       awaiting_disposition = slots_then.awaiting_disposition;
       only_dead_ports_park = λ q alive. ap (λ (of : ℕ → List RequestId). of q) (parked_same laws port tasks requests its_slots) ∙ is.only_dead_ports_park q alive;
       driver_relation = ends.driver_relation;
@@ -332,10 +332,10 @@ module _ (laws : PrerequisiteLaws) (s new : ServerState) (port : Port) (first : 
   together_silent q o own_op other =
       laws.batch_issue_moves_no_page port tasks (mode_in s port) (requests k.machine k.reached k.machine_relation) s.device new.device (its_slots k.machine k.reached k.machine_relation) k.machine i.issued.issues (found k.machine k.reached k.machine_relation).1.tasks_are
       k.reached k.machine_relation.driver_relation (serves k.machine k.reached k.machine_relation) q o own_op
-      (not_own (probe_result_of s.probe_results q) (used_for s.slots q 0) (k.machine_relation.uses q 0) o other (k.machine_relation.slot_uses_agree_unless_dead q 0))
+      (not_own (probe_result_of s.probe_results q) (used_for s.slots q 0) (k.machine_relation.uses q 0) o other (k.machine_relation.slot_states_agree_unless_dead q 0))
 
   served : IsDrivenBy WritesOnlyHbaIsPxIsCiOrSact s.device new.device
-  served = driven_as (IsBatchAccess port) WritesOnlyHbaIsPxIsCiOrSact s.device new.device (issuing_serves port) i.issued.issues.driven
+  served = driven_as (IsCommandIssueAccess port) WritesOnlyHbaIsPxIsCiOrSact s.device new.device (issuing_serves port) i.issued.issues.driven
 
   -- the acts that do it
   comes : ActsReach i.issued.issues.driven.accesses (driver_state_of_slots (its_slots k.machine k.reached k.machine_relation) s.device) k.machine (driver_state_of_slots (slots_then k.machine k.reached k.machine_relation) new.device)
@@ -346,12 +346,12 @@ module _ (laws : PrerequisiteLaws) (s new : ServerState) (port : Port) (first : 
   behind : (q : ℕ) → q < 4 → PortInvariant s.wanted s.probe_results q new.device
   behind =
       behind_served laws s new.device port k ready served
-      (λ q small other. laws.port_event_laws.other_ports_are_left port q s.device new.device other k.adapter_is_on (driven_as (IsBatchAccess port) (SparesOtherPorts port) s.device new.device (laws.batch_access_is_of_port port) i.issued.issues.driven))
+      (λ q small other. laws.port_event_laws.other_ports_are_left port q s.device new.device other k.adapter_is_on (driven_as (IsCommandIssueAccess port) (SparesOtherPorts port) s.device new.device (laws.batch_access_is_of_port port) i.issued.issues.driven))
       (λ q other. together_silent q Identify refl other)
       (λ q.
       laws.port_error.halt_of_taken_stays_over_acts (port_at q) comes.acts (driver_state_of_slots (its_slots k.machine k.reached k.machine_relation) s.device) (driver_state_of_slots (slots_then k.machine k.reached k.machine_relation) new.device) k.machine k.reached k.machine_relation.driver_relation comes.acts_are_done
       (subst (All (DoesNotWrite (Px (port_at q) Cmd))) (sym comes.accesses_match_acts)
-      (All-weaker (IsBatchAccess port) (DoesNotWrite (Px (port_at q) Cmd)) (issuing_commands port (port_at q)) i.issued.issues.driven.accesses i.issued.issues.driven.accesses_are_of_kind)))
+      (All-weaker (IsCommandIssueAccess port) (DoesNotWrite (Px (port_at q) Cmd)) (issuing_commands port (port_at q)) i.issued.issues.driven.accesses i.issued.issues.driven.accesses_are_of_kind)))
 
   -- each slot's bytes say its command
   commands_then : (q n : ℕ) (used : SlotUse) → used_for i.server_with_slots.slots q n ≡ Some used → HasStoredCommand used.queued new.device q n
@@ -365,7 +365,7 @@ module _ (laws : PrerequisiteLaws) (s new : ServerState) (port : Port) (first : 
         stored = laws.slots.stored_stays_over_acts_that_leave_it (port_at q) n h.command h.places comes.acts (driver_state_of_slots (its_slots k.machine k.reached k.machine_relation) s.device) _ k.machine k.reached k.machine_relation.driver_relation comes.acts_are_done
             (λ a d small.
             batch_leaves_stored laws port (port_at q) tasks n low there.0 there.1 (λ t here. (All-contains (λ (x : PlacedTask). x.slot < 32) tasks t i.issued.issues.slots_in_range here, was.1 t here)) _
-            (subst (All (IsBatchAccess port)) (sym comes.accesses_match_acts) i.issued.issues.driven.accesses_are_of_kind a d small)
+            (subst (All (IsCommandIssueAccess port)) (sym comes.accesses_match_acts) i.issued.issues.driven.accesses_are_of_kind a d small)
             (subst (All (IsOfBatch port tasks)) (sym comes.accesses_match_acts) (of_batch port i.issued.issues.queued tasks i.issued.issues.driven.accesses i.issued.issues.stores_come_first) a d small)) k.adapter_is_on h.stored;
         is_queued_as_given = h.is_queued_as_given;
       })

@@ -13,8 +13,9 @@ use Rattle.adapter.specs.declared.command.Operation.{Operation}
 use Rattle.adapter.specs.declared.command.Operation.TheVariants.{Identify}
 use Rattle.refinement.specs.Relation.{port_at}
 use Rattle.refinement.specs.Fragments.{AnySlotStates, IsDrivenBy, IsSimulated, SparesOtherPorts, OnlyDeviceChangesPort, NoneWrites, GainsNoMove}
-use Rattle.refinement.specs.Halting.{NotLogOnlyAndQueuedHaltHasTakenCommandIfSt}
-use Rattle.refinement.specs.Slots.{IsOver, SlotStates, client_operation_of}
+use Rattle.refinement.specs.Halting.{HaltFitsTakenCommandsIfSt}
+use Rattle.adapter.specs.OneCommand.{SlotHasNoCommand}
+use Rattle.refinement.specs.Slots.{SlotStates, client_operation_of}
 use Rattle.server_history.proofs.state.FollowedAccesses.{followed_adds, followed_silent}
 use Rattle.server_history.proofs.state.DrivenAccesses.{driven_as, kept_over as accesses_keep}
 use Rattle.host_boot.specs.TakeOver.{probe_result_of}
@@ -41,7 +42,7 @@ use Rattle.server_history.proofs.state.TransferAccesses.{finding_serves}
 -- dead ones, and halts are of taken commands still.
 pub behind_served : PrerequisiteLaws → (s : ServerState) (new : Device) (port : Port) → InCallInvariant s → state_of (probe_result_of s.probe_results port.0) ≡ ReadyState → IsDrivenBy WritesOnlyHbaIsPxIsCiOrSact s.device new
     → ((q : ℕ) → q < 4 → q ≢ port.0 → OnlyDeviceChangesPort (s.device.port q) (new.port q)) → ((q : ℕ) → probe_result_of s.probe_results q ≢ Unready Dead → GainsNoMove q Identify s.device new)
-    → ((q : ℕ) → NotLogOnlyAndQueuedHaltHasTakenCommandIfSt (s.device.port q) → NotLogOnlyAndQueuedHaltHasTakenCommandIfSt (new.port q)) → (q : ℕ) → q < 4 → PortInvariant s.wanted s.probe_results q new
+    → ((q : ℕ) → HaltFitsTakenCommandsIfSt (s.device.port q) → HaltFitsTakenCommandsIfSt (new.port q)) → (q : ℕ) → q < 4 → PortInvariant s.wanted s.probe_results q new
 behind_served laws s new port k ready driven left silent halts q low =
     port_on laws s.wanted s.probe_results q s.device new (laws.look_laws.service_keeps_adapter s.device new driven) k.adapter_is_on driven
     (λ unready. left q low (λ same. unready (ap (λ (n : ℕ). state_of (probe_result_of s.probe_results n)) same ∙ ready))) (silent q) (halts q) (k.port_invariant q low)
@@ -62,7 +63,7 @@ module _ (s : ServerState) (new : Device) (port : Port) (k : InCallInvariant s) 
       → (q : ℕ) (o : Operation) → client_operation_of o ≡ None → probe_result_of s.probe_results q ≢ Unready Dead → GainsNoMove q o s.device new
   silent_over laws May none followed q o own other =
       followed_silent laws followed k.machine_relation.uses k.machine_relation.awaiting_disposition k.machine tt k.reached k.machine_relation.driver_relation (port_at q) o own (none (port_at q)).0 (none (port_at q)).1
-      (not_own (probe_result_of s.probe_results q) (used_for s.slots q 0) (k.machine_relation.uses q 0) o other (k.machine_relation.slot_uses_agree_unless_dead q 0))
+      (not_own (probe_result_of s.probe_results q) (used_for s.slots q 0) (k.machine_relation.uses q 0) o other (k.machine_relation.slot_states_agree_unless_dead q 0))
 
   -- followed accesses that serve the port, and write no PxCI, where what stands behind each port goes on
   kept_by : PrerequisiteLaws → (May : Access → Type 0) → ((access : Access) → May access → WritesOnlyHbaIsPxIsCiOrSact access) → ((access : Access) (at : ℕ) (bytes : List ℕ) → May access → access ≡ Storing at bytes → ⊥) → ((q : Port) → NoneWrites May (Px q Ci) × NoneWrites May (Px q Sact)) → ((q : Port) → NoneWrites May (Px q Cmd))
@@ -154,13 +155,13 @@ no_issue port access is v same = by (subst (IsPxisSstsOrOwnIsAccess port) same i
     by (inl e) = let z : Px port Ci ≡ Px port Is = e in absurd cc
     by (inr e) = absurd (let z = e.0 in cc)
 
-pub still_over : PrerequisiteLaws → (port : Port) (slot : ℕ) (old new : Device) → IsDrivenBy (IsPxisSstsOrOwnIsAccess port) old new → IsOver (old.port port.0) slot → IsOver (new.port port.0) slot
-still_over laws port slot old new driven = accesses_keep (λ d. IsOver (d.port port.0) slot) (IsPxisSstsOrOwnIsAccess port)
+pub still_over : PrerequisiteLaws → (port : Port) (slot : ℕ) (old new : Device) → IsDrivenBy (IsPxisSstsOrOwnIsAccess port) old new → SlotHasNoCommand (old.port port.0) slot → SlotHasNoCommand (new.port port.0) slot
+still_over laws port slot old new driven = accesses_keep (λ d. SlotHasNoCommand (d.port port.0) slot) (IsPxisSstsOrOwnIsAccess port)
     (λ access a b is does. laws.slots.over_stays_unless_ci_bit_is_written port slot access a b (λ v same. absurd (no_issue port access is v same)) does) old new driven
 
 -- PxCI and PxSACT, which are read after a look, show the bits of a slot clear that had no command before
 pub both_clear : PrerequisiteLaws → (port : Port) (slot issued active : ℕ) (old seen read new : Device) → slot < 32 → IsDrivenBy (IsPxisSstsOrOwnIsAccess port) old seen → Reads (Px port Ci) issued seen read
-    → Reads (Px port Sact) active read new → IsOver (old.port port.0) slot → (old.port port.0).sact slot ≡ false → (bit issued slot ≡ false) × (bit active slot ≡ false)
+    → Reads (Px port Sact) active read new → SlotHasNoCommand (old.port port.0) slot → (old.port port.0).sact slot ≡ false → (bit issued slot ≡ false) × (bit active slot ≡ false)
 both_clear laws port slot issued active old seen read new small looks reads shows over clear =
     let unarmed = laws.port_event_laws.reads_keep_sact_clear port.0 slot (Px port Ci) issued seen read reads (laws.look_laws.look_keeps_sact_clear port port.0 slot old seen looks clear) in (
       reads.shows slot small ∙ (laws.slots.over_stays_over_steps port.0 slot seen reads.at_access reads.steps (still_over laws port slot old seen looks over)).is_not_issued,

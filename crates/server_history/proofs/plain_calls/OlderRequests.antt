@@ -21,7 +21,7 @@ use Rattle.request_queue.specs.BookEntries as entries
 use Rattle.request_queue.specs.BookEntries.{BookEntry}
 use Rattle.request_queue.specs.declared.PendingRequest.{PendingRequest}
 use Rattle.server_history.specs.Prerequisites.{PrerequisiteLaws}
-use Rattle.server_history.specs.ServerState.{ServerState, InCallInvariant, MachineRelation, SettledInvariant, mode_in, state_of, RevokedMarkInvariant}
+use Rattle.server_history.specs.ServerState.{ServerState, InCallInvariant, MachineRelation, InvariantWithNoneDue, mode_in, state_of, RevokedMarkInvariant}
 use Rattle.server_history.specs.Turns.{a_tick_older, is_ready}
 use Rattle.server_history.proofs.state.RevokedMarks.{older_marked}
 
@@ -115,7 +115,7 @@ module _ (laws : PrerequisiteLaws) (s : ServerState) where
   pub older_stands : (m : Machine) → MachineRelation s m → MachineRelation (a_tick_older s) (after_step m (Age ready))
   older_stands m is = record {
     uses = is.uses;
-    slot_uses_agree_unless_dead = is.slot_uses_agree_unless_dead;
+    slot_states_agree_unless_dead = is.slot_states_agree_unless_dead;
     awaiting_disposition = is.awaiting_disposition;
     only_dead_ports_park = is.only_dead_ports_park;
     driver_relation = laws.ages.aging_keeps_driver_relation (driver_state_of is.uses is.awaiting_disposition s.device) m ready is.driver_relation;
@@ -135,7 +135,7 @@ module _ (laws : PrerequisiteLaws) (s : ServerState) where
   still_all P keeps all = All-map P (λ (x : BookEntry). record x { request = entries.aged_request ready x.request }) s.book
       (λ k d lt. entry_by (λ r. P (record (get_or s.book k d) { request = r })) ready (get_or s.book k d).request (all k d lt) (λ age. keeps (get_or s.book k d) age (all k d lt)))
 
-  pub older_settled : SettledInvariant s → SettledInvariant (a_tick_older s)
+  pub older_settled : InvariantWithNoneDue s → InvariantWithNoneDue (a_tick_older s)
   older_settled settled = record {
     in_call_invariant = record {
       adapter_is_on = k.adapter_is_on;
@@ -167,7 +167,7 @@ module _ (laws : PrerequisiteLaws) (s : ServerState) where
       reached = laws.steps_and_accesses.reachable_stays_reachable k.machine (Age ready ∷ []) k.reached (tt, tt);
       machine_relation = older_stands k.machine k.machine_relation;
     };
-    nothing_is_due = λ port. subst (λ (us : List Unanswered). NoneDue (mode_in s port) us port) (sym (laws.ages.aging_keeps_unanswered s.book ready)) (settled.nothing_is_due port);
+    none_is_due = λ port. subst (λ (us : List Unanswered). NoneDue (mode_in s port) us port) (sym (laws.ages.aging_keeps_unanswered s.book ready)) (settled.none_is_due port);
   }
     where
       k : InCallInvariant s

@@ -24,7 +24,7 @@ use Rattle.hba_regs.specs.declared.reg.PortReg.TheVariants.{Cmd}
 use Rattle.hba_regs.specs.declared.reg.Reg.TheVariants.{Ghc, Px}
 use Rattle.refinement.specs.SparedBook.{KeepsLoansAndPendingsOnlyAdvance}
 use Rattle.server_history.proofs.state.DrivenAccesses.{by_one}
-use Rattle.block_machine.specs.Events.{AbstractCall, Submit, StoreAt, LoadAt, Service, Tick, Reset, RevokeOf, State, AllEnabled, StepDevice as Told, AbstractCallResult, Submitted, PortStateShown, Stepped, ResultMatchesSteps, AbstractState, WasRevoked}
+use Rattle.block_machine.specs.Events.{AbstractCall, Submit, StoreAt, LoadAt, Service, Tick, Reset, RevokeOf, State, AllEnabled, StepDevice, AbstractCallResult, Submitted, PortStateShown, Stepped, ResultMatchesSteps, AbstractState, WasRevoked}
 use Rattle.block_machine.specs.Rules.{HasRow}
 use Rattle.block_machine.specs.Histories.{JointState, JointEvent, IsReachable, joint_state_after}
 use Rattle.block_machine.specs.Expected.{after}
@@ -44,8 +44,8 @@ use Rattle.server_history.specs.Prerequisites.{PrerequisiteLaws}
 use Rattle.driver_history.specs.EvidenceHandling.{OnlyFailedPortsRequeueIfService}
 use Rattle.driver_history.specs.Histories.{ExplainsAccesses, IssuesAllDue, IssuesDue, LosesNoPortError, PortCorresponds}
 use Rattle.driver_history.specs.AccessTrace.{WritesOneToNoTroubleBit, WritesNeitherCmdNorSctl}
-use Rattle.server_history.specs.Histories.{ExtendsToSettled, ExtendsHistory, LeadsToServer, ServerRelation, load_result, store_result}
-use Rattle.server_history.specs.ServerState.{HasStoredCommand, ServerState, InCallInvariant, MachineRelation, PortInvariant, SettledInvariant, OwnedFramesAreClientsAndInMemory, mode_in, ports_of, admission_context, used_for}
+use Rattle.server_history.specs.Histories.{ExtendsToNoneDue, ExtendsHistory, LeadsToServer, ServerRelation, load_result, store_result}
+use Rattle.server_history.specs.ServerState.{HasStoredCommand, ServerState, InCallInvariant, MachineRelation, PortInvariant, InvariantWithNoneDue, OwnedFramesAreClientsAndInMemory, mode_in, ports_of, admission_context, used_for}
 use Rattle.slots.specs.declared.SlotUse.{SlotUse}
 use Rattle.refinement.specs.Relation.{port_at}
 use Rattle.refinement.specs.MemoryLayout.{IsTableOrHeaderByteButPrdbc}
@@ -160,7 +160,7 @@ module _ (laws : PrerequisiteLaws) where
   none_grounded Reset evidence = tt
   none_grounded (RevokeOf client number) evidence = tt
   none_grounded (State port) evidence = tt
-  none_grounded (Told step) evidence = tt
+  none_grounded (StepDevice step) evidence = tt
 
   pub nothing_event : (s : ServerState) (ask : AbstractCall DeviceStep) (said : AbstractCallResult) → GoesTo s s.device → ((m : AbstractState) → ExplainsAccesses m ask said [] s.device s.device)
       → ((old : JointState Device) → ServerRelation old s → (evidence : Evidence) → ResultMatchesSteps ask said old.abstract evidence [] (record { machine = old.abstract.machine; ports = ports_of s }))
@@ -173,9 +173,9 @@ module _ (laws : PrerequisiteLaws) where
       (λ port. All-nil (WritesNeitherCmdNorSctl port)) (issues old (reached laws first past s leads) leads.state_is_at_history_end) (parts old.abstract leads.state_is_at_history_end.ports_are) (laws.empty_steps_are_backed s.device old.abstract.machine) leads.state_is_at_history_end.machine_stands_for_it
 
   module _ (s : ServerState) (goes : GoesTo s s.device) where
-    pub undone_event : (step : DeviceStep) → ExtendsHistory s s (Told step) (Stepped false)
+    pub undone_event : (step : DeviceStep) → ExtendsHistory s s (StepDevice step) (Stepped false)
     undone_event step =
-        nothing_event s (Told step) (Stepped false) goes (λ m. (refl, refl))
+        nothing_event s (StepDevice step) (Stepped false) goes (λ m. (refl, refl))
         (λ old at evidence. (refl, ports_same old.abstract.ports (ports_of s) at.ports_are)) (λ old was at port. tt)
         (λ m are port. record { finds_done = tt; lone_plain_faults_are_told_unless_dead = tt; probes_disk = tt; boots_anew = tt; loses_no_error = goes.port_error m are port; runs_well_anew = λ i. absurd (uninterrupted s.device m.ports port i); handles_evidence = uninterrupted s.device m.ports port })
 
@@ -224,14 +224,14 @@ module _ (laws : PrerequisiteLaws) where
     abbrev then_is : ServerState
     then_is = record s { device = new }
 
-    pub device_event : (step : DeviceStep) → DoesOrFailsStep step s.device new → Steps s.device new → ExtendsHistory s (record s { device = new }) (Told step) (Stepped true)
+    pub device_event : (step : DeviceStep) → DoesOrFailsStep step s.device new → Steps s.device new → ExtendsHistory s (record s { device = new }) (StepDevice step) (Stepped true)
     device_event step asked moves first past leads =
         let old : JointState Device = joint_state_after first past in
         let at : ServerRelation old s = leads.state_is_at_history_end in
         let m = at.machine_stands_for_it in
         let x = (laws.steps_and_accesses.device_steps_are_simulated (driver_state_of m.uses m.awaiting_disposition s.device) new moves).simulates old.abstract.machine (reached laws first past s leads) m.driver_relation in
         let steps : List Step = x.0 in
-        lead_by laws first past s then_is (Told step) (Stepped true) steps refl refl leads goes.holds x.1 (devices_belong (Told step) (ports_of s) steps x.3.all_steps_are_by_device) (devices_last steps x.3.all_steps_are_by_device)
+        lead_by laws first past s then_is (StepDevice step) (Stepped true) steps refl refl leads goes.holds x.1 (devices_belong (StepDevice step) (ports_of s) steps x.3.all_steps_are_by_device) (devices_last steps x.3.all_steps_are_by_device)
         (devices_lawful old.abstract no_evidence (ports_of s) steps x.3.all_steps_are_by_device)
         (x.3.all_steps_are_by_device, ports_same old.abstract.ports (ports_of s) at.ports_are)
         tt
@@ -319,7 +319,7 @@ module _ (laws : PrerequisiteLaws) where
     silent : (port : ℕ) → probe_result_of s.probe_results port ≢ Unready Dead → GainsNoMove port Identify s.device new
     silent port other =
         let grows = laws.port_event_laws.tape.access_grows access s.device new does in
-        let none = not_own (probe_result_of s.probe_results port) (used_for s.slots port 0) (k.machine_relation.uses port 0) Identify other (k.machine_relation.slot_uses_agree_unless_dead port 0) in
+        let none = not_own (probe_result_of s.probe_results port) (used_for s.slots port 0) (k.machine_relation.uses port 0) Identify other (k.machine_relation.slot_states_agree_unless_dead port 0) in
         (grows.0, grows.1, laws.slots.page_needs_a_command k.machine_relation.uses k.machine access s.device new port Identify grows.0 k.reached k.machine_relation.driver_relation.state_relation does grows.1 refl (λ own. absurd (none own)))
 
     ports_on : (port : ℕ) → port < 4 → PortInvariant s.wanted s.probe_results port new
@@ -357,43 +357,43 @@ module _ (laws : PrerequisiteLaws) where
   pub stays : (s : ServerState) → InCallInvariant s → GoesTo s s.device
   stays s k = record { holds = holding s k; port_error = λ m are port. untroubled s k m port }
 
-  pub device_adds_event : (s : ServerState) (new : Device) (step : DeviceStep) → SettledInvariant s → DoesOrFailsStep step s.device new → Steps s.device new
-      → ExtendsToSettled s (record s { device = new }) (Told step) (Stepped true)
+  pub device_adds_event : (s : ServerState) (new : Device) (step : DeviceStep) → InvariantWithNoneDue s → DoesOrFailsStep step s.device new → Steps s.device new
+      → ExtendsToNoneDue s (record s { device = new }) (StepDevice step) (Stepped true)
   device_adds_event s new step k asked moves = record {
-    settled_invariant = record { in_call_invariant = device_kept s new k.in_call_invariant moves; nothing_is_due = k.nothing_is_due };
+    invariant_with_none_due = record { in_call_invariant = device_kept s new k.in_call_invariant moves; none_is_due = k.none_is_due };
     extends_history = device_event laws s new (record {
       holds = holding (record s { device = new }) (device_kept s new k.in_call_invariant moves);
       port_error = λ m are port. laws.calls.steps_lose_no_error port (still s m) new (told_by s.device m.ports) (ports_of s) k.in_call_invariant.adapter_is_on moves;
     }) step asked moves;
   }
 
-  pub undone_adds : (s : ServerState) (step : DeviceStep) → SettledInvariant s → ExtendsToSettled s s (Told step) (Stepped false)
-  undone_adds s step k = record { settled_invariant = k; extends_history = undone_event laws s (stays s k.in_call_invariant) step }
+  pub undone_adds : (s : ServerState) (step : DeviceStep) → InvariantWithNoneDue s → ExtendsToNoneDue s s (StepDevice step) (Stepped false)
+  undone_adds s step k = record { invariant_with_none_due = k; extends_history = undone_event laws s (stays s k.in_call_invariant) step }
 
-  pub state_adds : (s : ServerState) (port : Port) → SettledInvariant s → ExtendsToSettled s s (State port) (PortStateShown ((ports_of s).state port))
-  state_adds s port k = record { settled_invariant = k; extends_history = state_event laws s (stays s k.in_call_invariant) port }
+  pub state_adds : (s : ServerState) (port : Port) → InvariantWithNoneDue s → ExtendsToNoneDue s s (State port) (PortStateShown ((ports_of s).state port))
+  state_adds s port k = record { invariant_with_none_due = k; extends_history = state_event laws s (stays s k.in_call_invariant) port }
 
-  pub store_refused : (s : ServerState) (client : ClientId) (frame : Frame) (offset : ℕ) (bytes : List ℕ) (fault : MemFault) → SettledInvariant s
-      → IsFirstMemFault (owner_of s.table) (lent_to s.table) client frame offset (length bytes) fault → ExtendsToSettled s s (StoreAt client frame offset bytes) (store_result (Err fault))
-  store_refused s client frame offset bytes fault k is = record { settled_invariant = k; extends_history = store_refused_event laws s (stays s k.in_call_invariant) client frame offset bytes fault is }
+  pub store_refused : (s : ServerState) (client : ClientId) (frame : Frame) (offset : ℕ) (bytes : List ℕ) (fault : MemFault) → InvariantWithNoneDue s
+      → IsFirstMemFault (owner_of s.table) (lent_to s.table) client frame offset (length bytes) fault → ExtendsToNoneDue s s (StoreAt client frame offset bytes) (store_result (Err fault))
+  store_refused s client frame offset bytes fault k is = record { invariant_with_none_due = k; extends_history = store_refused_event laws s (stays s k.in_call_invariant) client frame offset bytes fault is }
 
-  pub load_refused : (s : ServerState) (client : ClientId) (frame : Frame) (offset count : ℕ) (bytes : List ℕ) (fault : MemFault) → SettledInvariant s
-      → IsFirstMemFault (owner_of s.table) (lent_to s.table) client frame offset count fault → ExtendsToSettled s s (LoadAt client frame offset count) (load_result (Err fault) bytes)
-  load_refused s client frame offset count bytes fault k is = record { settled_invariant = k; extends_history = load_refused_event laws s (stays s k.in_call_invariant) client frame offset count bytes fault is }
+  pub load_refused : (s : ServerState) (client : ClientId) (frame : Frame) (offset count : ℕ) (bytes : List ℕ) (fault : MemFault) → InvariantWithNoneDue s
+      → IsFirstMemFault (owner_of s.table) (lent_to s.table) client frame offset count fault → ExtendsToNoneDue s s (LoadAt client frame offset count) (load_result (Err fault) bytes)
+  load_refused s client frame offset count bytes fault k is = record { invariant_with_none_due = k; extends_history = load_refused_event laws s (stays s k.in_call_invariant) client frame offset count bytes fault is }
 
-  pub revoke_refused : (s : ServerState) (client : ClientId) (number : ℕ) → SettledInvariant s → (HasRow client number s.grants → ⊥) → ExtendsToSettled s s (RevokeOf client number) (WasRevoked None)
+  pub revoke_refused : (s : ServerState) (client : ClientId) (number : ℕ) → InvariantWithNoneDue s → (HasRow client number s.grants → ⊥) → ExtendsToNoneDue s s (RevokeOf client number) (WasRevoked None)
   revoke_refused s client number k none = record {
-    settled_invariant = k;
-    extends_history = revoke_refused_event laws s (stays s k.in_call_invariant) client number none (λ m at port ready. none_issued s m at [] (λ id. refl) (mode_in s port) port (k.nothing_is_due port));
+    invariant_with_none_due = k;
+    extends_history = revoke_refused_event laws s (stays s k.in_call_invariant) client number none (λ m at port ready. none_issued s m at [] (λ id. refl) (mode_in s port) port (k.none_is_due port));
   }
 
-  pub submit_refused : (s : ServerState) (r : Request) (refusal : Refusal) → SettledInvariant s → IsFirstRefusal (admission_context s) r refusal → ExtendsToSettled s s (Submit r) (Submitted (Err refusal))
+  pub submit_refused : (s : ServerState) (r : Request) (refusal : Refusal) → InvariantWithNoneDue s → IsFirstRefusal (admission_context s) r refusal → ExtendsToNoneDue s s (Submit r) (Submitted (Err refusal))
   submit_refused s r refusal k is = record {
-    settled_invariant = k;
-    extends_history = submit_refused_event laws s (stays s k.in_call_invariant) r refusal is (λ m at port ready. none_issued s m at [] (λ id. refl) (mode_in s port) port (k.nothing_is_due port));
+    invariant_with_none_due = k;
+    extends_history = submit_refused_event laws s (stays s k.in_call_invariant) r refusal is (λ m at port ready. none_issued s m at [] (λ id. refl) (mode_in s port) port (k.none_is_due port));
   }
 
-  module _ (s : ServerState) (new : Device) (client : ClientId) (frame : Frame) (offset : ℕ) (bytes : List ℕ) (t : SettledInvariant s) (opens : MayAccessFrame (owner_of s.table) (lent_to s.table) client frame offset (length bytes)) where
+  module _ (s : ServerState) (new : Device) (client : ClientId) (frame : Frame) (offset : ℕ) (bytes : List ℕ) (t : InvariantWithNoneDue s) (opens : MayAccessFrame (owner_of s.table) (lent_to s.table) client frame offset (length bytes)) where
     abbrev k : InCallInvariant s
     k = t.in_call_invariant
 
@@ -419,22 +419,22 @@ module _ (laws : PrerequisiteLaws) where
     goes : InCallInvariant (record s { device = new }) → (access : Access) → IsOfBytes access → Does access s.device new → GoesTo s new
     goes then_kept access its does = record { holds = holding (record s { device = new }) then_kept; port_error = λ m are port. one_untroubled s k new access its does m port }
 
-    pub load_adds : Loads (4096 * frame.0 + offset) bytes s.device new → ExtendsToSettled s (record s { device = new }) (LoadAt client frame offset (length bytes)) (load_result (Ok tt) bytes)
+    pub load_adds : Loads (4096 * frame.0 + offset) bytes s.device new → ExtendsToNoneDue s (record s { device = new }) (LoadAt client frame offset (length bytes)) (load_result (Ok tt) bytes)
     load_adds loads = record {
-      settled_invariant = record { in_call_invariant = load_kept loads; nothing_is_due = t.nothing_is_due };
+      invariant_with_none_due = record { in_call_invariant = load_kept loads; none_is_due = t.none_is_due };
       extends_history = load_event laws s new (goes (load_kept loads) (Loading (4096 * frame.0 + offset) bytes) tt loads) client frame offset bytes opens loads;
     }
 
-    pub store_adds : Stores (4096 * frame.0 + offset) bytes s.device new → ExtendsToSettled s (record s { device = new }) (StoreAt client frame offset bytes) (store_result (Ok tt))
+    pub store_adds : Stores (4096 * frame.0 + offset) bytes s.device new → ExtendsToNoneDue s (record s { device = new }) (StoreAt client frame offset bytes) (store_result (Ok tt))
     store_adds stores = record {
-      settled_invariant = record { in_call_invariant = store_kept stores; nothing_is_due = t.nothing_is_due };
+      invariant_with_none_due = record { in_call_invariant = store_kept stores; none_is_due = t.none_is_due };
       extends_history = store_event laws s new (goes (store_kept stores) (Storing (4096 * frame.0 + offset) bytes) tt stores) client frame offset bytes opens stores;
     }
 
   -- of so many bytes
-  pub load_of : (s : ServerState) (new : Device) (client : ClientId) (frame : Frame) (offset count : ℕ) (bytes : List ℕ) → SettledInvariant s → length bytes ≡ count
+  pub load_of : (s : ServerState) (new : Device) (client : ClientId) (frame : Frame) (offset count : ℕ) (bytes : List ℕ) → InvariantWithNoneDue s → length bytes ≡ count
       → MayAccessFrame (owner_of s.table) (lent_to s.table) client frame offset count → Loads (4096 * frame.0 + offset) bytes s.device new
-      → ExtendsToSettled s (record s { device = new }) (LoadAt client frame offset count) (load_result (Ok tt) bytes)
+      → ExtendsToNoneDue s (record s { device = new }) (LoadAt client frame offset count) (load_result (Ok tt) bytes)
   load_of s new client frame offset count bytes k long opens loads =
       let here : MayAccessFrame (owner_of s.table) (lent_to s.table) client frame offset (length bytes) = subst (λ (n : ℕ). MayAccessFrame (owner_of s.table) (lent_to s.table) client frame offset n) (sym long) opens in
-      subst (λ (n : ℕ). ExtendsToSettled s (record s { device = new }) (LoadAt client frame offset n) (load_result (Ok tt) bytes)) long (load_adds s new client frame offset bytes k here loads)
+      subst (λ (n : ℕ). ExtendsToNoneDue s (record s { device = new }) (LoadAt client frame offset n) (load_result (Ok tt) bytes)) long (load_adds s new client frame offset bytes k here loads)

@@ -23,7 +23,7 @@ use Rattle.slots.specs.SlotUses.{IsLowestFree, IsTaken, PortSlots}
 use Rattle.slots.specs.declared.SlotUse.{SlotUse}
 use Rattle.server_history.specs.Prerequisites.{PrerequisiteLaws}
 use Rattle.server_history.specs.IssuingAndAnswering.{PutsInSlot, PutsInSlots, use_for}
-use Rattle.server_history.specs.ServerState.{InCallInvariant, SlotUseAgreesUnlessDead, RevokedMarkInvariant, ServerState, SlotsInvariant, IsLoneSlot0, mode_at, mode_in, slot_state_of, slots_at, state_of, usable_slots_of, used_for, with_slot}
+use Rattle.server_history.specs.ServerState.{InCallInvariant, SlotStateAgreesUnlessDead, RevokedMarkInvariant, ServerState, SlotsInvariant, IsLoneSlot0, mode_at, mode_in, slot_state_of_use, slots_at, state_of, usable_slots_of, used_for, with_slot}
 use Rattle.server_history.proofs.state.ChangedRequests.{all_changed}
 use Rattle.server_history.proofs.state.DueRequests.{same_book}
 use Rattle.server_history.proofs.state.FirstMembers.{first_here, nowhere}
@@ -37,7 +37,7 @@ use Rattle.server_history.proofs.state.StoredCommands.{AreApart}
 
 -- the slots' uses, as the driver has them of ports that aren't dead
 abbrev pub slot_uses : List PortSlots → SlotStates
-slot_uses slots port slot = slot_state_of (used_for slots port slot)
+slot_uses slots port slot = slot_state_of_use (used_for slots port slot)
 
 -- What a slot is used for has its request in the book, an issued one of the port.
 pub record HasItsRequest (book : List BookEntry) (port : ℕ) (used : SlotUse) : Type 0 where
@@ -166,7 +166,7 @@ module _ (s : ServerState) (port : Port) (k : BookAndSlotsInvariant s) (e : Book
       (λ (queued : is_plain due_mode e.request.op ≡ false).
       let left = due.slot_is_left queued in
       let most = k.counted port due_ready in
-      let many = all_serve (slot_uses s.slots) port.0 due_mode.usable_slots (λ slot small. let u = taken slot small in ap (λ (used : Option SlotUse). is_serving (slot_state_of used)) u.1) due_mode.usable_slots (omega arith) in
+      let many = all_serve (slot_uses s.slots) port.0 due_mode.usable_slots (λ slot small. let u = taken slot small in ap (λ (used : Option SlotUse). is_serving (slot_state_of_use used)) u.1) due_mode.usable_slots (omega arith) in
       let same = ap (λ (p : Port). issued_count (unanswered_of s.book) p) port_is in
       omega (arith, left, most, many, same))
       (cases_Bool (is_plain due_mode e.request.op))
@@ -330,8 +330,8 @@ module _ (laws : PrerequisiteLaws) (s new : ServerState) (port : Port) (id : Req
   other_uses_placed q n other = placed_other s.slots port.0 slot its_use in_list in_places q n other
 
   -- where the uses agree with the slots, they do with this one serving its request
-  pub put_slot_placed : (found : List ProbeResult) (uses : SlotStates) → ((q n : ℕ) → SlotUseAgreesUnlessDead (probe_result_of found q) (used_for s.slots q n) (uses q n))
-      → (q n : ℕ) → SlotUseAgreesUnlessDead (probe_result_of found q) (used_for slots_then q n) (set_slot_state uses port.0 slot (Serves e.request.id) q n)
+  pub put_slot_placed : (found : List ProbeResult) (uses : SlotStates) → ((q n : ℕ) → SlotStateAgreesUnlessDead (probe_result_of found q) (used_for s.slots q n) (uses q n))
+      → (q n : ℕ) → SlotStateAgreesUnlessDead (probe_result_of found q) (used_for slots_then q n) (set_slot_state uses port.0 slot (Serves e.request.id) q n)
   put_slot_placed found uses was = placed_uses s.slots port.0 slot its_use in_list in_places laws found uses was
 
   its_there : (q n : ℕ) (used : SlotUse) → q ≡ port.0 → n ≡ slot → used_for slots_then q n ≡ Some used → use_for put_mode e ≡ used
@@ -442,14 +442,14 @@ module _ (laws : PrerequisiteLaws) (s new : ServerState) (port : Port) (id : Req
   counted_then q ready =
       subst (λ (us : List Unanswered). serving_count (slot_uses slots_then) q.0 (mode_in s q).usable_slots ≤ issued_count us q) (sym (laws.unanswered_after_issue s.book id)) (⊎_elim
       (λ (its : q.0 ≡ port.0).
-      let more = serving_more (slot_uses s.slots) (slot_uses slots_then) q.0 slot (λ n ne. ap slot_state_of (other_uses_placed q.0 n (λ same here. ne here))) (mode_in s q).usable_slots in
+      let more = serving_more (slot_uses s.slots) (slot_uses slots_then) q.0 slot (λ n ne. ap slot_state_of_use (other_uses_placed q.0 n (λ same here. ne here))) (mode_in s q).usable_slots in
       let most = k.counted q ready in
       let added : suc (issued_count (unanswered_of s.book) q) ≤ issued_count (with_issued id (unanswered_of s.book)) q =
       subst (λ (i : RequestId). suc (issued_count (unanswered_of s.book) q) ≤ issued_count (with_issued i (unanswered_of s.book)) q) one.id_is
       (issued_count_adds q (as_unanswered e.request) (unanswered_of s.book) (into_map (λ (x : BookEntry). as_unanswered x.request) s.book e one.is_in_book) (one.port_is ∙ ap (λ (n : ℕ). record { 0 = n }) (sym its)) (due_waits s port k e one.is_in_book one.port_is one.due)) in
       omega (arith, more, most, added))
       (λ (other : q.0 ≢ port.0).
-      let same = serving_alike (slot_uses slots_then) (slot_uses s.slots) q.0 (λ n. ap slot_state_of (other_uses_placed q.0 n (λ is here. other is))) (mode_in s q).usable_slots in
+      let same = serving_alike (slot_uses slots_then) (slot_uses s.slots) q.0 (λ n. ap slot_state_of_use (other_uses_placed q.0 n (λ is here. other is))) (mode_in s q).usable_slots in
       let most = k.counted q ready in
       let more = issued_count_grows q id (unanswered_of s.book) in
       omega (arith, same, most, more))

@@ -25,8 +25,8 @@ use Rattle.request_queue.specs.BookEntries.{BookEntry, as_unanswered, unanswered
 use Rattle.server_history.specs.Prerequisites.{PrerequisiteLaws}
 use Rattle.server_history.specs.ErrorHandling.{HasResolved, HandlesPortError}
 use Rattle.port_control.specs.declared.events.PortError.TheVariants.{TimedOut}
-use Rattle.server_history.specs.ServerState.{InCallInvariant, MachineRelation, SettledInvariant, ServerState, mode_in, ports_of, state_of}
-use Rattle.server_history.specs.Turns.{IsPortTurn, InRestart, ServingReady, SimulatesTurn, RequeuesOnFailedPortsOrRestartsOrRestsByTurn, ServicesPort, TurnCorresponds, Turn, ask_of_turn}
+use Rattle.server_history.specs.ServerState.{InCallInvariant, MachineRelation, InvariantWithNoneDue, ServerState, mode_in, ports_of, state_of}
+use Rattle.server_history.specs.Turns.{IsPortTurn, InRestart, ServingReady, SimulatesTurn, RequeuesAndAbortsFitTurn, ServicesPort, TurnCorresponds, Turn, ask_of_turn}
 use Rattle.server_history.proofs.recovery_turn.TurnAsCall.{heeds_trouble, ties_recovered}
 use Rattle.server_history.proofs.recovery_turn.DecidedSteps.{DecidesTurn, recovered_decides}
 use Rattle.server_history.proofs.recovery_turn.TurnEvidence.{IsEvident, evident}
@@ -71,7 +71,7 @@ unready_undue laws s k port unready = ap (map (λ (r : Unanswered). r.id)) (nobo
         let own = laws.due_list_is_of_port (mode_in s port) port (unanswered_of s.book) r here in
         none_due_unready s k port (λ ready. let found = (ready_found s port.0 k ready).1 in unready found.0 found.1) (mode_in s port) r own ((laws.due_list_is_exact (mode_in s port) port (unanswered_of s.book) r own).0 here)
 
-module _ (laws : PrerequisiteLaws) (port : Port) (replies : List Reply) (old new : ServerState) (t : SettledInvariant old) (ready : state_of (probe_result_of old.probe_results port.0) ≡ ReadyState)
+module _ (laws : PrerequisiteLaws) (port : Port) (replies : List Reply) (old new : ServerState) (t : InvariantWithNoneDue old) (ready : state_of (probe_result_of old.probe_results port.0) ≡ ReadyState)
     (r : HandlesPortError port replies old new) (looks : IsSimulated (IsPxisSstsOrOwnIsAccess port) AnySlotStates old.device r.has_resolved.error_handled.device_after_look) where
   abbrev k : InCallInvariant old
   k = t.in_call_invariant
@@ -87,7 +87,7 @@ module _ (laws : PrerequisiteLaws) (port : Port) (replies : List Reply) (old new
     d : DecidesTurn port replies old new r (evidence_by r.has_resolved) m
     d = recovered_decides laws port replies old new k ready r looks kept m reached is
 
-    makes : (turn : Turn) → AreStepsOfCall {D = DeviceStep} (ask_of_turn turn) (ports_of new) d.steps → RequeuesOnFailedPortsOrRestartsOrRestsByTurn turn port e.accesses old new m (evidence_by r.has_resolved) d.steps
+    makes : (turn : Turn) → AreStepsOfCall {D = DeviceStep} (ask_of_turn turn) (ports_of new) d.steps → RequeuesAndAbortsFitTurn turn port e.accesses old new m (evidence_by r.has_resolved) d.steps
         → TurnCorresponds turn port replies e.accesses old new m (evidence_by r.has_resolved) d.steps → SimulatesTurn turn port replies e.accesses old new m
     makes turn belong owes ties = record {
       steps = d.steps;
@@ -100,7 +100,7 @@ module _ (laws : PrerequisiteLaws) (port : Port) (replies : List Reply) (old new
       issues_are_last = d.last;
       names_only_port = e.names;
       answers_are_lawful = d.lawful;
-      requeues_on_failed_port_or_restarts_by_turn = owes;
+      requeues_and_aborts_fit_turn = owes;
       replies_match = d.tells;
       unplugged_outcome_empties_port = d.unplugs;
       port_is_serviced = e.becomes;
@@ -145,7 +145,7 @@ module _ (laws : PrerequisiteLaws) (port : Port) (replies : List Reply) (old new
       let number : other.0 ≢ port.0 = λ same. ne (ap (λ (n : ℕ). record { 0 = n }) same) in
       let mode_is : mode_in r.server_after_resolving other ≡ mode_in old other = sym (ap (λ (n : ServerState). mode_in n other) (each_settings laws port ids r.server_after_resolving new r.issued)) ∙ e.others.other_modes_are_same other.0 number in
       let book_is : requests_of_port other (unanswered_of r.server_after_resolving.book) ≡ requests_of_port other (unanswered_of old.book) = sym (each_apart laws port ids r.server_after_resolving new kept.book_is_well_formed r.issued other ne) ∙ e.others.others_requests_are_same other ne in
-      t.nothing_is_due other u its ((laws.due_depends_on_own_port (mode_in old other) other (unanswered_of r.server_after_resolving.book) (unanswered_of old.book) u book_is its).0 (subst (λ (mode : QueueMode). IsDue mode (unanswered_of r.server_after_resolving.book) u) mode_is due))
+      t.none_is_due other u its ((laws.due_depends_on_own_port (mode_in old other) other (unanswered_of r.server_after_resolving.book) (unanswered_of old.book) u book_is its).0 (subst (λ (mode : QueueMode). IsDue mode (unanswered_of r.server_after_resolving.book) u) mode_is due))
 
-  pub settles : SettledInvariant new
+  pub settles : InvariantWithNoneDue new
   settles = settled laws port r.server_after_resolving new kept none_other r.issued

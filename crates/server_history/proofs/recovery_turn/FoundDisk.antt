@@ -26,7 +26,7 @@ use Rattle.host_boot.specs.declared.ProbeResult.TheVariants.{Ready, Unready, Uns
 use Rattle.identify.specs.declared.wanted.Wanted.{Wanted}
 use Rattle.port_boot.specs.States.{BacksState, EndsBeforeStart, EndsAfterStart, BringsReady, BringsUpPort, IsBeforeStart, IsStateStoppedAfterStart, IsBootAccess, ShownDiskIsIn, IsStateOfFault}
 use Rattle.identify.specs.Wanted.{serial_of}
-use Rattle.port_control.specs.Ports.{FindsLinkAndClearsErrors, HasLink, IsPlacingRegister, SeesResetFault, ReadsUntil}
+use Rattle.port_control.specs.Ports.{FindsLinkAndClearsErrors, HasLink, IsCmdOrBaseRegister, SeesResetFault, ReadsUntil}
 use Rattle.port_control.specs.declared.PortFault.{PortFault}
 use Rattle.port_control.specs.declared.PortFault.TheVariants.{NoDevice, Busy, EngineStuck, NotAta}
 use Rattle.server_history.specs.Prerequisites.{PrerequisiteLaws}
@@ -57,7 +57,7 @@ module _ (laws : PrerequisiteLaws) (port : Port) where
       none = ap (λ (p : DevicePort). p.ssts_det) (laws.port_event_laws.write_changes_port_register port Sctl 1 placed sent sends on.no_reset).port_is_written
 
   -- COMRESET was sent, and the link was found
-  found_then : (old placed sent ended linked new : Device) → IsOn old → IsDrivenBy (ReadsPortOrWrites IsPlacingRegister port) old placed → Writes (Px port Sctl) 1 placed sent → Writes (Px port Sctl) 0 sent ended
+  found_then : (old placed sent ended linked new : Device) → IsOn old → IsDrivenBy (ReadsPortOrWrites IsCmdOrBaseRegister port) old placed → Writes (Px port Sctl) 1 placed sent → Writes (Px port Sctl) 0 sent ended
       → FindsLinkAndClearsErrors port ended linked → IsDrivenBy (IsBeside port) linked new → SeesDevice port old new
   found_then old placed sent ended linked new on places sends ends found rest =
       let waited = (resetting laws port old placed sent ended found.reads_until_link.waited places sends ends (without laws port Ssts _ found.reads_until_link.count ended found.reads_until_link.waited found.reads_until_link.waits)).driven in
@@ -66,7 +66,7 @@ module _ (laws : PrerequisiteLaws) (port : Port) where
         seen = found.after_link_is_seen;
         early = (resetting laws port old placed sent ended found.after_link_is_seen places sends ends (until laws port Ssts _ ended found.after_link_is_seen found.reads_until_link)).driven;
         shows = sym (laws.port_event_laws.shown_after port Ssts found.reads_until_link.value found.reads_until_link.waited found.after_link_is_seen there.no_reset found.reads_until_link.reads) ∙ found.reads_until_link.shown;
-        own = own_then placed sent ended found.after_link_is_seen (laws.one_port_keeps_adapter_on port old placed on (driven_as (ReadsPortOrWrites IsPlacingRegister port) (SparesOtherPorts port) old placed (λ access is. laws.boot_access_is_of_port port access (placing_boots laws port access is)) places)) sends ends found.reads_until_link;
+        own = own_then placed sent ended found.after_link_is_seen (laws.one_port_keeps_adapter_on port old placed on (driven_as (ReadsPortOrWrites IsCmdOrBaseRegister port) (SparesOtherPorts port) old placed (λ access is. laws.boot_access_is_of_port port access (placing_boots laws port access is)) places)) sends ends found.reads_until_link;
         late = cleared_then laws port found.after_link_is_seen linked new found.clears rest;
       }
 

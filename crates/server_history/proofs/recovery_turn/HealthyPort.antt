@@ -14,7 +14,7 @@ use Rattle.adapter.specs.Access.Access.{Writing}
 use Rattle.adapter.specs.Device.{Device, DevicePort}
 use Rattle.adapter.specs.Rules.{IsOn}
 use Rattle.refinement.specs.Fragments.{AnySlotStates, TapeGrows, IsDrivenBy, IsSimulated}
-use Rattle.refinement.specs.Errors.{IsFatalErrorOf}
+use Rattle.refinement.specs.Errors.{IsFatalEntryOf}
 use Rattle.refinement.specs.PortFacts.{IsFaultOf, RunsWell, Undisturbed}
 use Rattle.refinement.specs.PreservedParts.{NoPlugEvents, DoesNotWrite}
 use Rattle.refinement.specs.HaltRecovery.{IsLinked, WorksOnUnqueuedCommandsOnly}
@@ -97,7 +97,7 @@ module _ (laws : PrerequisiteLaws) (port : Port) where
 -- one that got ready runs well, where no disk went or came, and nothing went wrong since ST was set
 module _ (laws : PrerequisiteLaws) (port : Port) (old asked mid new : Device) (on : IsOn asked) (way : BringsReady port asked mid) (later : IsDrivenBy (LeavesTrouble port) mid new) (mid_on : IsOn mid)
     (first : TapeGrows old asked) where
-  pub ready_well : NoPlugEvents port.0 old new → (GainsSinceStart (IsFaultOf port.0) port.0 old new → ⊥) → (GainsSinceStart (IsFatalErrorOf port.0) port.0 old new → ⊥) → RunsWell (new.port port.0)
+  pub ready_well : NoPlugEvents port.0 old new → (GainsSinceStart (IsFaultOf port.0) port.0 old new → ⊥) → (GainsSinceStart (IsFatalEntryOf port.0) port.0 old new → ⊥) → RunsWell (new.port port.0)
   ready_well none unfailed unbroken =
       let since = ready_since laws port old asked mid new on way later in
       let up = (let x = up_driven laws port asked way.up way.brings_up in grows_over laws x.accesses asked way.up x.all_are_done) in
@@ -110,12 +110,12 @@ module _ (laws : PrerequisiteLaws) (port : Port) (old asked mid new : Device) (o
       let set = way.brings_up.tape_is_as_at_st_set in
       let calm = laws.calls.untroubled_since_st_is_calm port.0 old way.up new (laws.port_event_laws.tape.growth_is_transitive old asked way.up first up) (grows_over laws since.accesses way.up new since.all_are_done) (omega (arith, same, set)) none unfailed unbroken in
       let parts = laws.port_event_laws.tape.undisturbed_in_parts port.0 way.up mid new told.0 last.0 told.1 last.1 calm in
-      well_over laws port mid new mid_on later parts.1 (way.port_runs_well plugs.0 parts.0)
+      well_over laws port mid new mid_on later parts.1 (way.runs_well_if_undisturbed plugs.0 parts.0)
 
 -- and so does one that was booted
 module _ (laws : PrerequisiteLaws) (port : Port) (low : port.0 < 4) (wanted : Wanted) (info : DiskInfo) (booted : Booted) (old d mid new : Device) (on : IsOn d) (b : RebootsPort wanted port booted d mid) (found : booted.found ≡ Ready info)
     (later : IsDrivenBy (LeavesTrouble port) mid new) (mid_on : IsOn mid) (until : TapeGrows old d) where
-  pub booted_well : NoPlugEvents port.0 old new → (GainsSinceStart (IsFaultOf port.0) port.0 old new → ⊥) → (GainsSinceStart (IsFatalErrorOf port.0) port.0 old new → ⊥) → RunsWell (new.port port.0)
+  pub booted_well : NoPlugEvents port.0 old new → (GainsSinceStart (IsFaultOf port.0) port.0 old new → ⊥) → (GainsSinceStart (IsFatalEntryOf port.0) port.0 old new → ⊥) → RunsWell (new.port port.0)
   booted_well = ready_well laws port old b.device_after_survey mid new (boot_asked_on laws port low wanted info booted old d mid new on b found later) (boot_ends laws port low wanted info booted old d mid new on b found later).brings_ready later mid_on
       (laws.port_event_laws.tape.growth_is_transitive old d b.device_after_survey until (grows_over laws b.surveys.is_driven.accesses d b.device_after_survey b.surveys.is_driven.all_are_done))
 
@@ -176,7 +176,7 @@ module _ (laws : PrerequisiteLaws) (port : Port) (replies : List Reply) (old new
     linked : NoPlugEvents port.0 old.device new.device → (old.device.port port.0).ssts_det ≡ 3 → (old.device.port port.0).fresh ≡ true → IsLinked (a.server_after_handling.device.port port.0)
     linked none det fresh = record {
       det_is_3 = up.det;
-      present = (then_kept.port_invariant port.0 low).ready_has_disk_if_shown then_ready up.det;
+      present = (then_kept.port_invariant port.0 low).ready_has_disk_if_det_3 then_ready up.det;
       fresh = up.fresh;
       no_link_is_due = up.undue;
       comreset_is_over = λ one. let z : 0 ≡ 1 = sym released ∙ one in absurd cc;
@@ -195,7 +195,7 @@ module _ (laws : PrerequisiteLaws) (port : Port) (replies : List Reply) (old new
             let f = ready_found a.server_after_handling port.0 then_kept then_ready in
             (subst (λ (f : ProbeResult). StillBacksProbeResult (wanted_of a.server_after_handling.wanted port.0) f port.0 a.server_after_handling.device) f.1.1 (then_kept.port_invariant port.0 low).probe_result_is_backed).1.no_comreset
 
-    runs_well : NoPlugEvents port.0 old.device new.device → (old.device.port port.0).ssts_det ≡ 3 → (GainsSinceStart (IsFaultOf port.0) port.0 old.device new.device → ⊥) → (GainsSinceStart (IsFatalErrorOf port.0) port.0 old.device new.device → ⊥)
+    runs_well : NoPlugEvents port.0 old.device new.device → (old.device.port port.0).ssts_det ≡ 3 → (GainsSinceStart (IsFaultOf port.0) port.0 old.device new.device → ⊥) → (GainsSinceStart (IsFatalEntryOf port.0) port.0 old.device new.device → ⊥)
         → ResetsLink port evident.accesses ⊎ ((old.device.port port.0).fresh ≡ true) → RunsWell (new.device.port port.0)
     runs_well none det unfailed unbroken how =
         let fresh : (old.device.port port.0).fresh ≡ true = ⊎_elim
@@ -211,12 +211,12 @@ module _ (laws : PrerequisiteLaws) (port : Port) (replies : List Reply) (old new
         let known = runs.faults_are_on_record.st_set_is_on_tape in
         let calm = laws.calls.untroubled_since_st_is_calm port.0 old.device a.device_after_handling new.device (laws.port_event_laws.tape.growth_is_transitive old.device a.server_after_handling.device a.device_after_handling early_grows part_grows) late_grows (omega (arith, same, known)) none unfailed unbroken in
         well_over laws port a.device_after_handling new.device on last calm
-        (runs.port_runs_well plugs.0 (λ g. unbroken (laws.calls.fatal_in_part_is_in_whole port.0 old.device a.server_after_handling.device a.device_after_handling new.device early_grows late_grows same g)) (linked none det fresh) plainly)
+        (runs.runs_well_if_linked_without_plug_or_fatal plugs.0 (λ g. unbroken (laws.calls.fatal_in_part_is_in_whole port.0 old.device a.server_after_handling.device a.device_after_handling new.device early_grows late_grows same g)) (linked none det fresh) plainly)
 
   -- ---- one that was booted
 
   module _ (token : _) (is : x.result.next ≡ next.Restart token) (is_ready : (ports_of new).state port ≡ ReadyState) where
-    boots_well : NoPlugEvents port.0 old.device new.device → (GainsSinceStart (IsFaultOf port.0) port.0 old.device new.device → ⊥) → (GainsSinceStart (IsFatalErrorOf port.0) port.0 old.device new.device → ⊥)
+    boots_well : NoPlugEvents port.0 old.device new.device → (GainsSinceStart (IsFaultOf port.0) port.0 old.device new.device → ⊥) → (GainsSinceStart (IsFatalEntryOf port.0) port.0 old.device new.device → ⊥)
         → RunsWell (new.device.port port.0)
     boots_well =
         let again = again_booted laws port replies old new k ready r looks kept t token is is_ready in

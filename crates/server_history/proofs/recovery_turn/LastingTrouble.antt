@@ -34,7 +34,7 @@ use Rattle.request_queue.specs.BookEntries.{unanswered_of, due_ids}
 use Rattle.identify.specs.declared.wanted.Wanted.{Wanted}
 use Rattle.server_history.specs.Prerequisites.{PrerequisiteLaws}
 use Rattle.server_history.specs.ErrorHandling.{IsFoundAfterError, IsErrorHandled, HasResolved, HandlesPortError}
-use Rattle.commands.specs.Batches.{IsBatchAccess}
+use Rattle.commands.specs.Batches.{IsCommandIssueAccess}
 use Rattle.server_history.specs.ServerState.{ServerState, InCallInvariant, mode_in, ports_of, state_of}
 use Rattle.server_history.specs.Turns.{joint_state_of}
 use Rattle.server_history.proofs.recovery_turn.MendedPort.{interrupted, next_dead, ready_info, state_new}
@@ -77,7 +77,7 @@ ie_apart port v = (
 )
 
 -- of any port
-pub issuing_leaves : (at port : Port) (access : Access) → IsBatchAccess at access → LeavesTrouble port access
+pub issuing_leaves : (at port : Port) (access : Access) → IsCommandIssueAccess at access → LeavesTrouble port access
 issuing_leaves at port (Reading r v) is = (tt, tt, tt, tt, stays_on (Reading r v) tt)
 issuing_leaves at port (Writing r v) is = ⊎_elim
     (λ (same : r ≡ Px at Sact). subst (λ (x : Reg). LeavesTrouble port (Writing x v)) (sym same) (sact_apart port at v))
@@ -140,7 +140,7 @@ module _ (laws : PrerequisiteLaws) (port : Port) (replies : List Reply) (old new
 
   -- what is issued leaves what the port shows
   pub issuing : IsDrivenBy (LeavesTrouble port) r.server_after_resolving.device new.device
-  issuing = driven_as (IsBatchAccess port) (LeavesTrouble port) r.server_after_resolving.device new.device (issuing_leaves port port) (each_driven laws port (due_ids (mode_in r.server_after_resolving port) port (unanswered_of r.server_after_resolving.book)) r.server_after_resolving new r.issued)
+  issuing = driven_as (IsCommandIssueAccess port) (LeavesTrouble port) r.server_after_resolving.device new.device (issuing_leaves port port) (each_driven laws port (due_ids (mode_in r.server_after_resolving port) port (unanswered_of r.server_after_resolving.book)) r.server_after_resolving new r.issued)
 
   -- the adapter is on when the port was recovered
   pub recovered_driven : IsDrivenBy (SparesOtherPorts port) old.device a.device_after_handling

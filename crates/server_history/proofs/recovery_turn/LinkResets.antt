@@ -20,7 +20,7 @@ use Rattle.disk_page.specs.PageRequests.{IsSlot0CiOrPageMemoryAccess}
 use Rattle.driver_history.specs.AccessTrace.{ResetsLink}
 use Rattle.error_recovery.specs.Recovery.{IsCmdSerrOrIs, IsRecoveryAccess}
 use Rattle.port_boot.specs.States.{EndsBeforeStart, EndsAfterStart, BringsReady, BringsUpPort, IsWrittenInBootButCi, IsBootAccess}
-use Rattle.port_control.specs.Ports.{ClearsErrors, FindsLinkAndClearsErrors, FindsSignature, IsPlacingRegister, SeesResetFault, IsVainReading, ReadsUntil, ReadsInVain, IsCommandRegister}
+use Rattle.port_control.specs.Ports.{ClearsErrors, FindsLinkAndClearsErrors, FindsSignature, IsCmdOrBaseRegister, SeesResetFault, IsVainReading, ReadsUntil, ReadsInVain, IsCommandRegister}
 use Rattle.port_control.specs.declared.PortFault.{PortFault}
 use Rattle.port_control.specs.declared.PortFault.TheVariants.{NoDevice, Busy, EngineStuck, NotAta}
 use Rattle.server_history.specs.Prerequisites.{PrerequisiteLaws}
@@ -73,18 +73,18 @@ module _ (laws : PrerequisiteLaws) (port : Port) where
   command_beside : (r : PortReg) → IsCommandRegister r → IsWrittenInBootButCi r × (r ≢ Sctl)
   command_beside r is = (inl (inl is), λ same. let z : Cmd ≡ Sctl = sym is ∙ same in absurd cc)
 
-  placing_beside : (r : PortReg) → IsPlacingRegister r → IsWrittenInBootButCi r × (r ≢ Sctl)
+  placing_beside : (r : PortReg) → IsCmdOrBaseRegister r → IsWrittenInBootButCi r × (r ≢ Sctl)
   placing_beside r is = (inl is, no is)
     where
-      no : IsPlacingRegister r → r ≢ Sctl
+      no : IsCmdOrBaseRegister r → r ≢ Sctl
       no (inl x) same = let z : Cmd ≡ Sctl = sym x ∙ same in absurd cc
       no (inr (inl x)) same = let z : Clb ≡ Sctl = sym x ∙ same in absurd cc
       no (inr (inr (inl x))) same = let z : Clbu ≡ Sctl = sym x ∙ same in absurd cc
       no (inr (inr (inr (inl x)))) same = let z : Fb ≡ Sctl = sym x ∙ same in absurd cc
       no (inr (inr (inr (inr x)))) same = let z : Fbu ≡ Sctl = sym x ∙ same in absurd cc
 
-  pub placing_boots : (access : Access) → ReadsPortOrWrites IsPlacingRegister port access → IsBootAccess port access
-  placing_boots access is = (control_beside IsPlacingRegister placing_beside access is).0
+  pub placing_boots : (access : Access) → ReadsPortOrWrites IsCmdOrBaseRegister port access → IsBootAccess port access
+  placing_boots access is = (control_beside IsCmdOrBaseRegister placing_beside access is).0
 
   asking_beside : (access : Access) → IsSlot0CiOrPageMemoryAccess port access → IsBeside port access
   asking_beside (Reading r v) is = (inr is, tt)
@@ -158,13 +158,13 @@ module _ (laws : PrerequisiteLaws) (port : Port) where
 
   -- ---- the whole
 
-  pub resetting : (old placed sent ended new : Device) → IsDrivenBy (ReadsPortOrWrites IsPlacingRegister port) old placed → Writes (Px port Sctl) 1 placed sent → Writes (Px port Sctl) 0 sent ended → IsDrivenBy (IsBeside port) ended new → ResetsBy port old new
+  pub resetting : (old placed sent ended new : Device) → IsDrivenBy (ReadsPortOrWrites IsCmdOrBaseRegister port) old placed → Writes (Px port Sctl) 1 placed sent → Writes (Px port Sctl) 0 sent ended → IsDrivenBy (IsBeside port) ended new → ResetsBy port old new
   resetting old placed sent ended new places sends ends rest = record {
     driven = record {
       accesses = places.accesses ++ list;
       all_are_done = laws.steps_and_accesses.does_append places.accesses list old placed new places.all_are_done (sent, sends, (ended, ends, rest.all_are_done));
       accesses_are_of_kind = All-append (IsBootAccess port) places.accesses list
-          (All-weaker (ReadsPortOrWrites IsPlacingRegister port) (IsBootAccess port) placing_boots places.accesses places.accesses_are_of_kind)
+          (All-weaker (ReadsPortOrWrites IsCmdOrBaseRegister port) (IsBootAccess port) placing_boots places.accesses places.accesses_are_of_kind)
           (All-cons (IsBootAccess port) (Writing (Px port Sctl) 1) (Writing (Px port Sctl) 0 ∷ rest.accesses) (inl (refl, inr (inl (inl refl))))
           (All-cons (IsBootAccess port) (Writing (Px port Sctl) 0) rest.accesses (inl (refl, inr (inl (inl refl)))) (All-weaker (IsBeside port) (IsBootAccess port) (λ access is. is.0) rest.accesses rest.accesses_are_of_kind)));
     };

@@ -45,7 +45,7 @@ use Rattle.server_history.specs.Prerequisites.{PrerequisiteLaws}
 use Rattle.server_history.specs.ResolvedRequests.{IsResolveStep, AreResolvable, AreResolvedInMachine, completes_keeping_loan}
 use Rattle.server_history.specs.ErrorHandling.{HasAllSlotsFreeAndCountOfMode, IsFailedRequest, IsFoundAfterError, IsRevalidation, HasResolved, book_and_loans_of, requests_of, with_port_resolved}
 use Rattle.server_history.specs.IssuingAndAnswering.{ok_answers_newest_first}
-use Rattle.server_history.specs.ServerState.{KeptRequestsRelation, SlotUsesAgreeUnlessDead, InCallInvariant, MachineRelation, ServerState, is_served, quarantined_at, slots_at, state_of, RevokedMarkInvariant}
+use Rattle.server_history.specs.ServerState.{KeptRequestsRelation, SlotStatesAgreeUnlessDead, InCallInvariant, MachineRelation, ServerState, is_served, quarantined_at, slots_at, state_of, RevokedMarkInvariant}
 use Rattle.server_history.proofs.state.HistorySteps.{book_on, still_kept}
 use Rattle.server_history.proofs.state.Quarantine.{none_alive}
 use Rattle.server_history.proofs.plain_calls.Looks.{finding_kept, found_over, looking_kept}
@@ -240,9 +240,9 @@ module _ (laws : PrerequisiteLaws) (port : Port) (mid : ServerState) (k : InCall
       kept_other : (q : ℕ) → q ≢ port.0 → quarantined_at new.kept_loans q ≡ quarantined_at mid.kept_loans q
       kept_other q ne = get_or-set_other mid.kept_loans port.0 q now.kept [] ne
 
-      used : SlotUsesAgreeUnlessDead new t.slot_states
+      used : SlotStatesAgreeUnlessDead new t.slot_states
       used = uses_then port.0 way found mid.probe_results mid.slots slots (record { slot_states = is.uses; awaiting_disposition = is.awaiting_disposition }) t (let f = (ready_found mid port.0 k ready).1 in in_ports mid.probe_results port.0 f.0 f.1)
-          (let f = k.slots_are_of_four_ports in let l = low in omega (arith, f, l)) unused.all_slots_are_free passed.left is.slot_uses_agree_unless_dead
+          (let f = k.slots_are_of_four_ports in let l = low in omega (arith, f, l)) unused.all_slots_are_free passed.left is.slot_states_agree_unless_dead
 
       unparked : (q : ℕ) → probe_result_of new.probe_results q ≢ Unready Dead → met.parked q ≡ []
       unparked q lives = ⊎_elim
@@ -277,7 +277,7 @@ module _ (laws : PrerequisiteLaws) (port : Port) (mid : ServerState) (k : InCall
       pub stands : MachineRelation new z
       stands = record {
         uses = t.slot_states;
-        slot_uses_agree_unless_dead = used;
+        slot_states_agree_unless_dead = used;
         awaiting_disposition = met.parked;
         only_dead_ports_park = unparked;
         driver_relation = met.driver_relation;

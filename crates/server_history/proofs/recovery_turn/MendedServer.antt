@@ -184,14 +184,14 @@ module _ (laws : PrerequisiteLaws) (port : Port) (later : List Reply) (old new :
         behind = ready_on laws wanted a.disk_before port.0 mid.device a.device_after_handling recovered_same l.sctl_det_is_kept l.ie_is_kept l.sctl_time_is_kept
             (l.no_identify_moves (
               m.machine_relation.uses,
-              (λ own. not_own (probe_result_of mid.probe_results port.0) (used_for mid.slots port.0 0) (m.machine_relation.uses port.0 0) Identify (not_dead mid port.0 its_ready) (m.machine_relation.slot_uses_agree_unless_dead port.0 0) own),
+              (λ own. not_own (probe_result_of mid.probe_results port.0) (used_for mid.slots port.0 0) (m.machine_relation.uses port.0 0) Identify (not_dead mid port.0 its_ready) (m.machine_relation.slot_states_agree_unless_dead port.0 0) own),
               record { machine = m.machine; parked = m.machine_relation.awaiting_disposition; reached = m.reached; driver_relation = m.machine_relation.driver_relation },
             )) was_stands;
         runs = λ _. record { st_is_set = g.runs.st_is_set; cr_is_set = g.runs.cr_is_set; fre_is_set = g.runs.fre_is_set; bases_are_programmed = g.runs.areas_are_in_place; device_was_seen = g.link_wait_count_is_kept ∙ was.device_was_seen; faults_are_recorded = g.faults_are_on_record };
         shown = λ bad. absurd bad;
-        own = λ _. laws.recovery.shown_disk_stays_in port.0 done.1.driven.accesses mid.device a.device_after_handling done.1.driven.all_are_done ((m.port_invariant port.0 small).ready_has_disk_if_shown its_ready);
+        own = λ _. laws.recovery.shown_disk_stays_in port.0 done.1.driven.accesses mid.device a.device_after_handling done.1.driven.all_are_done ((m.port_invariant port.0 small).ready_has_disk_if_det_3 its_ready);
         halts = λ _. again_halts laws r.queued port.0 mid.device a.device_after_handling g
-            (λ plain. plain_port_stays_plain laws mid m port its_ready (subst (λ (queued : Bool). AreAllQueuedAs queued (slots_at mid.slots port.0)) plain r.are_queued_alike) ((m.port_invariant port.0 small).ready_is_not_log_only_and_halt_is_of_taken its_ready));
+            (λ plain. plain_port_stays_plain laws mid m port its_ready (subst (λ (queued : Bool). AreAllQueuedAs queued (slots_at mid.slots port.0)) plain r.are_queued_alike) ((m.port_invariant port.0 small).ready_halt_fits_taken_commands its_ready));
       }
 
   its_stands : Stands a.found new.device

@@ -9,10 +9,10 @@ use Rattle.adapter.specs.Access.Access.{Reading, Writing}
 use Rattle.adapter.specs.Device.{Device, DevicePort}
 use Rattle.adapter.specs.Rules.{IsOn}
 use Rattle.refinement.specs.Fragments.{TapeGrows}
-use Rattle.refinement.specs.Errors.{IsFatalErrorOf}
+use Rattle.refinement.specs.Errors.{IsFatalEntryOf}
 use Rattle.refinement.specs.PortFacts.{IsFaultOf}
 use Rattle.refinement.specs.PreservedParts.{IsPlugEvent}
-use Rattle.driver_history.specs.Evidence.{TapeGainsEntry, ShowsLinkChange, ShowsFailure, BeganWithLinkChangeOrNoDeviceAndNoneComes}
+use Rattle.driver_history.specs.Evidence.{TapeGainsEntry, ShowsLinkChange, ShowsFailure, ShowedLinkChangeOrNoDeviceAndNoneCame}
 use Rattle.error_recovery.specs.Evidence.{ShowsFatal}
 use Rattle.port_control.specs.PortEvents.{TakesEvent}
 use Rattle.port_control.specs.declared.events.PortEvent.{PortEvent}
@@ -46,7 +46,7 @@ module _ (laws : PrerequisiteLaws) (port : Port) (old seen new : Device) (on : I
   failed_all TimedOut shows = is_named_if (shows_failure p) port (failure_shows p shows)
 
   pub failed_only : (t : PortError) → ErrorIsFound port t old seen → Contains (failed_of port t p) port
-      → ShowsFailure p ⊎ (TapeGainsEntry (IsFaultOf port.0) old new ⊎ TapeGainsEntry (IsFatalErrorOf port.0) old new)
+      → ShowsFailure p ⊎ (TapeGainsEntry (IsFaultOf port.0) old new ⊎ TapeGainsEntry (IsFatalEntryOf port.0) old new)
   failed_only TaskFileError l here = errors_shown laws port look.TaskFileError old seen l on (inl refl) new (since_read look.TaskFileError l)
   failed_only FatalError l here = errors_shown laws port look.FatalError old seen l on (inr refl) new (since_read look.FatalError l)
   failed_only LinkChanged l here = inl (unfailed p (named_if_is (shows_failure p) port here))
@@ -60,7 +60,7 @@ module _ (laws : PrerequisiteLaws) (port : Port) (old seen new : Device) (on : I
   fatal_all LinkChanged l fatal = is_named_if (shows_fatal p) port (fatal_shows p fatal)
   fatal_all TimedOut same fatal = is_named_if (shows_fatal p) port (fatal_shows p fatal)
 
-  pub fatal_only : (t : PortError) → ErrorIsFound port t old seen → Contains (fatal_of port t p) port → ShowsFatal p ⊎ TapeGainsEntry (IsFatalErrorOf port.0) old new
+  pub fatal_only : (t : PortError) → ErrorIsFound port t old seen → Contains (fatal_of port t p) port → ShowsFatal p ⊎ TapeGainsEntry (IsFatalEntryOf port.0) old new
   fatal_only TaskFileError l here = absurd (nowhere port here)
   fatal_only FatalError l here = fatal_shown laws port look.FatalError old seen l on refl new (since_read look.FatalError l)
   fatal_only LinkChanged l here = inl (unfatal p (named_if_is (shows_fatal p) port here))
@@ -69,13 +69,13 @@ module _ (laws : PrerequisiteLaws) (port : Port) (old seen new : Device) (on : I
   -- ---- a loss
 
   -- a look that told something else found nothing of it
-  unlost_by : (told : PortEvent) → TakesEvent port told old seen → told ≢ look.LinkChanged → BeganWithLinkChangeOrNoDeviceAndNoneComes port old new → ⊥
+  unlost_by : (told : PortEvent) → TakesEvent port told old seen → told ≢ look.LinkChanged → ShowedLinkChangeOrNoDeviceAndNoneCame port old new → ⊥
   unlost_by told l other shows = ⊎_elim
       (no_change laws port told old seen l on other)
       (λ missing. not_missing laws port told old seen l on other new later undue missing.0 missing.1)
       shows
 
-  pub gone_all : (t : PortError) → ErrorIsFound port t old seen → BeganWithLinkChangeOrNoDeviceAndNoneComes port old new → Contains (gone_of port t p) port
+  pub gone_all : (t : PortError) → ErrorIsFound port t old seen → ShowedLinkChangeOrNoDeviceAndNoneCame port old new → Contains (gone_of port t p) port
   gone_all TaskFileError l shows = absurd (unlost_by look.TaskFileError l (λ e. let z : look.TaskFileError ≡ look.LinkChanged = e in cc) shows)
   gone_all FatalError l shows = absurd (unlost_by look.FatalError l (λ e. let z : look.FatalError ≡ look.LinkChanged = e in cc) shows)
   gone_all LinkChanged l shows = first_here port []

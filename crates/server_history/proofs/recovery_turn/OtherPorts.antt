@@ -19,7 +19,7 @@ use Rattle.refinement.specs.Relation.{port_at}
 use Rattle.refinement.specs.Fragments.{AnySlotStates, ReadsPortOrWrites, IsDrivenBy, IsSimulated, IsSimulatedChangingUses, SparesOtherPorts, GainsNoMove}
 use Rattle.refinement.specs.Driver.{AllFree, DriverAdvances, DriverRelation}
 use Rattle.refinement.specs.GivingUp.{slots_with_all_parked}
-use Rattle.refinement.specs.Halting.{NotLogOnlyAndQueuedHaltHasTakenCommandIfSt}
+use Rattle.refinement.specs.Halting.{HaltFitsTakenCommandsIfSt}
 use Rattle.refinement.specs.PreservedParts.{DoesNotWrite}
 use Rattle.refinement.specs.ReadySlots.{KeepsStoredCommand}
 use Rattle.refinement.specs.Slots.{Own, SlotState, SlotStates, client_operation_of, set_slot_state}
@@ -106,7 +106,7 @@ pub record Passes (s : ServerState) (port : Port) (slots : DriverSlots) (d : Dev
   pub driver_relation : DriverRelation machine (driver_state_of_slots slots d)
   pub clients : (q : ℕ) (o : Operation) → q ≢ port.0 → probe_result_of s.probe_results q ≢ Unready DeadState → slots.slot_states q 0 ≡ Own o → ⊥
   pub silent : (q : ℕ) (o : Operation) → client_operation_of o ≡ None → q ≢ port.0 → probe_result_of s.probe_results q ≢ Unready DeadState → GainsNoMove q o s.device d
-  pub halts : (q : ℕ) → q ≢ port.0 → NotLogOnlyAndQueuedHaltHasTakenCommandIfSt (s.device.port q) → NotLogOnlyAndQueuedHaltHasTakenCommandIfSt (d.port q)
+  pub halts : (q : ℕ) → q ≢ port.0 → HaltFitsTakenCommandsIfSt (s.device.port q) → HaltFitsTakenCommandsIfSt (d.port q)
   pub commands : (q slot : ℕ) (used : SlotUse) → q ≢ port.0 → used_for s.slots q slot ≡ Some used → HasStoredCommand used.queued d q slot
 
 -- what the server's machine has in the slots
@@ -120,7 +120,7 @@ passes_none s port k = record {
   machine = k.machine;
   reached = k.reached;
   driver_relation = k.machine_relation.driver_relation;
-  clients = λ q o other alive. not_own (probe_result_of s.probe_results q) (used_for s.slots q 0) (k.machine_relation.uses q 0) o alive (k.machine_relation.slot_uses_agree_unless_dead q 0);
+  clients = λ q o other alive. not_own (probe_result_of s.probe_results q) (used_for s.slots q 0) (k.machine_relation.uses q 0) o alive (k.machine_relation.slot_states_agree_unless_dead q 0);
   silent = λ q o own other alive. silent_none q o s.device;
   halts = λ q other h. h;
   commands = λ q slot used other is. k.slots_store_commands q slot used is;

@@ -39,7 +39,7 @@ use Rattle.port_control.specs.Engines.{EngineSticks}
 use Rattle.slots.specs.SlotUses.{PortSlots, use_at}
 use Rattle.server_history.specs.Prerequisites.{PrerequisiteLaws}
 use Rattle.server_history.specs.ErrorHandling.{IsFoundAfterError}
-use Rattle.server_history.specs.ServerState.{SlotUseAgreesUnlessDead, no_slots, slot_state_of, used_for}
+use Rattle.server_history.specs.ServerState.{SlotStateAgreesUnlessDead, no_slots, slot_state_of_use, used_for}
 use Rattle.port_control.specs.declared.events.PortError.{PortError}
 use Rattle.server_history.proofs.recovery_turn.BootOrAbsence.{IsFoundAbsent, boots_or_absent}
 
@@ -94,15 +94,15 @@ pub record LeavesIn (port : ℕ) (way : Next) (found : ProbeResult) (s t : Drive
 
 -- The slots of a server whose port was found so then, and uses none, are used so.
 pub uses_then : (port : ℕ) (way : Next) (found : ProbeResult) (ports : List ProbeResult) (slots : List PortSlots) (its : PortSlots) (s t : DriverSlots) → port < length ports → port < length slots
-    → ((slot : ℕ) → use_at its slot ≡ None) → LeavesIn port way found s t → ((q slot : ℕ) → SlotUseAgreesUnlessDead (probe_result_of ports q) (used_for slots q slot) (s.slot_states q slot))
-    → (q slot : ℕ) → SlotUseAgreesUnlessDead (probe_result_of (slice_set ports port found) q) (used_for (slice_set slots port its) q slot) (t.slot_states q slot)
+    → ((slot : ℕ) → use_at its slot ≡ None) → LeavesIn port way found s t → ((q slot : ℕ) → SlotStateAgreesUnlessDead (probe_result_of ports q) (used_for slots q slot) (s.slot_states q slot))
+    → (q slot : ℕ) → SlotStateAgreesUnlessDead (probe_result_of (slice_set ports port found) q) (used_for (slice_set slots port its) q slot) (t.slot_states q slot)
 uses_then port way found ports slots its s t listed within unused left used q slot = ⊎_elim
     (λ (same : q ≡ port).
-    subst (λ (p : ℕ). SlotUseAgreesUnlessDead (probe_result_of (slice_set ports port found) p) (used_for (slice_set slots port its) p slot) (t.slot_states p slot)) (sym same)
-    (λ lives. left.free (λ dead. lives (get_or-set_same ports port found Unserved listed ∙ dead)) slot ∙ ap slot_state_of (sym (ap (λ (x : PortSlots). use_at x slot) (get_or-set_same slots port its no_slots within) ∙ unused slot))))
+    subst (λ (p : ℕ). SlotStateAgreesUnlessDead (probe_result_of (slice_set ports port found) p) (used_for (slice_set slots port its) p slot) (t.slot_states p slot)) (sym same)
+    (λ lives. left.free (λ dead. lives (get_or-set_same ports port found Unserved listed ∙ dead)) slot ∙ ap slot_state_of_use (sym (ap (λ (x : PortSlots). use_at x slot) (get_or-set_same slots port its no_slots within) ∙ unused slot))))
     (λ (other : q ≢ port) lives.
     ap (λ (u : ℕ → SlotState). u slot) (left.uses q other) ∙ used q slot (λ dead. lives (get_or-set_other ports port q found Unserved other ∙ dead))
-    ∙ ap (λ (x : PortSlots). slot_state_of (use_at x slot)) (sym (get_or-set_other slots port q its no_slots other)))
+    ∙ ap (λ (x : PortSlots). slot_state_of_use (use_at x slot)) (sym (get_or-set_other slots port q its no_slots other)))
     (cases_eq q port)
 
 -- the steps lead to that

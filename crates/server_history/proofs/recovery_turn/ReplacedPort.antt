@@ -17,7 +17,7 @@ use Rattle.adapter.specs.declared.command.Operation.TheVariants.{Identify}
 use Rattle.refinement.specs.Acts.{DriverSlots}
 use Rattle.refinement.specs.Relation.{port_at}
 use Rattle.refinement.specs.Fragments.{AnyAccess, IsDrivenBy, SparesOtherPorts, OnlyDeviceChangesPort, GainsNoMove}
-use Rattle.refinement.specs.Halting.{NotLogOnlyAndQueuedHaltHasTakenCommand, NotLogOnlyAndQueuedHaltHasTakenCommandIfSt}
+use Rattle.refinement.specs.Halting.{HaltFitsTakenCommands, HaltFitsTakenCommandsIfSt}
 use Rattle.refinement.specs.PreservedParts.{HasDet3IfDiskPresent, SameAdapter}
 use Rattle.block_machine.specs.DueRequests.{is_plain}
 use Rattle.block_machine.specs.Events.{ShowsDisk}
@@ -64,14 +64,14 @@ pub record StandsAt (wanted : Wanted) (found : ProbeResult) (port : ℕ) (d : De
   pub runs : state_of found ≡ ReadyState → EngineRuns port d
   pub shown : FoundUnusableDevice (state_of found) → HasDet3IfDiskPresent (d.port port)
   pub own : state_of found ≡ ReadyState → ShownDiskIsIn (d.port port)
-  pub halts : state_of found ≡ ReadyState → NotLogOnlyAndQueuedHaltHasTakenCommand (d.port port)
+  pub halts : state_of found ≡ ReadyState → HaltFitsTakenCommands (d.port port)
 
 its_port : (wanted : List Wanted) (found : List ProbeResult) (port : ℕ) (d : Device) → StandsAt (wanted_of wanted port) (probe_result_of found port) port d → PortInvariant wanted found port d
-its_port wanted found port d s = record { probe_result_is_backed = s.behind; ready_engine_runs = s.runs; bad_disk_is_shown_if_in = s.shown; ready_has_disk_if_shown = s.own; ready_is_not_log_only_and_halt_is_of_taken = s.halts }
+its_port wanted found port d s = record { probe_result_is_backed = s.behind; ready_engine_runs = s.runs; bad_disk_is_shown_if_in = s.shown; ready_has_disk_if_det_3 = s.own; ready_halt_fits_taken_commands = s.halts }
 
 -- another port is left to the device
 other_stands : PrerequisiteLaws → (port : Port) (wanted : Wanted) (found : ProbeResult) (q : ℕ) (old new : Device) → q ≢ port.0 → IsOn old → IsDrivenBy (SparesOtherPorts port) old new → SameAdapter old new
-    → (found ≢ Unready DeadState → GainsNoMove q Identify old new) → (NotLogOnlyAndQueuedHaltHasTakenCommandIfSt (old.port q) → NotLogOnlyAndQueuedHaltHasTakenCommandIfSt (new.port q)) → StandsAt wanted found q old → StandsAt wanted found q new
+    → (found ≢ Unready DeadState → GainsNoMove q Identify old new) → (HaltFitsTakenCommandsIfSt (old.port q) → HaltFitsTakenCommandsIfSt (new.port q)) → StandsAt wanted found q old → StandsAt wanted found q new
 other_stands laws port wanted found q old new other on driven same silent halts s = record {
   behind = left_on laws wanted found q old new same left silent s.behind;
   runs = λ ready.
@@ -135,7 +135,7 @@ module _ (laws : PrerequisiteLaws) (wanted : Wanted) (port : Port) (d new : Devi
     }
     runs_as (Unready state) e is = absurd (subst (λ (s : PortState). BacksState (serial_of wanted) s port.0 new) is e.state_is_backed)
 
-    halts_as : (f : ProbeResult) → EndsReadyOrUnready wanted port f b.device_after_survey new → state_of f ≡ ReadyState → NotLogOnlyAndQueuedHaltHasTakenCommand (new.port port.0)
+    halts_as : (f : ProbeResult) → EndsReadyOrUnready wanted port f b.device_after_survey new → state_of f ≡ ReadyState → HaltFitsTakenCommands (new.port port.0)
     halts_as Unserved none is = absurd none
     halts_as (Ready info) e is = e.halt_is_of_taken
     halts_as (Unready state) e is = absurd (subst (λ (s : PortState). BacksState (serial_of wanted) s port.0 new) is e.state_is_backed)
@@ -248,7 +248,7 @@ module _ (laws : PrerequisiteLaws) (port : Port) (s : ServerState) (k : InCallIn
       let was = k.port_invariant q small in
       subst (λ (f : ProbeResult). StandsAt (wanted_of s.wanted q) f q device) (sym (found_other q other))
       (other_stands laws port (wanted_of s.wanted q) (probe_result_of s.probe_results q) q s.device device other k.adapter_is_on whole.driven alike (λ alive. whole.silent q Identify refl other alive) (whole.halts q other)
-      (record { behind = was.probe_result_is_backed; runs = was.ready_engine_runs; shown = was.bad_disk_is_shown_if_in; own = was.ready_has_disk_if_shown; halts = was.ready_is_not_log_only_and_halt_is_of_taken })))
+      (record { behind = was.probe_result_is_backed; runs = was.ready_engine_runs; shown = was.bad_disk_is_shown_if_in; own = was.ready_has_disk_if_det_3; halts = was.ready_halt_fits_taken_commands })))
       (cases_eq q port.0))
 
   there_is : (q : ℕ) → is_served (probe_result_of then_is.probe_results q) ≡ true → HasPort device q

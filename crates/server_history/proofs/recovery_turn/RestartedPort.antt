@@ -5,7 +5,7 @@ use Rattle.ata_types.specs.declared.PortState.TheVariants.{Ready as ReadyState}
 use Rattle.ata_types.specs.declared.request.Reply.{Reply}
 use Rattle.adapter.specs.declared.access.DeviceStep.{DeviceStep}
 use Rattle.refinement.specs.Fragments.{AnySlotStates, IsSimulated}
-use Rattle.block_machine.specs.Events.{AreStepsOfCall, UnpluggedOutcomeExcludesDeadAndSameSerialAndSize, Tick}
+use Rattle.block_machine.specs.Events.{AreStepsOfCall, UnpluggedExcludesDeadAndSameDisk, Tick}
 use Rattle.block_machine.specs.Histories.{IsReachable}
 use Rattle.block_machine.specs.Ports.{SameSerialAndSize}
 use Rattle.block_machine.specs.State.{Machine}
@@ -15,7 +15,7 @@ use Rattle.request_queue.specs.declared.disposition.Revalidation.TheVariants.{Di
 use Rattle.server_history.specs.Prerequisites.{PrerequisiteLaws}
 use Rattle.server_history.specs.ErrorHandling.{HasResolved, IsRevalidation, HandlesPortError}
 use Rattle.server_history.specs.ServerState.{InCallInvariant, MachineRelation, ServerState, ports_of, state_of}
-use Rattle.server_history.specs.Turns.{InRestart, RequeuesOnFailedPortsOrRestartsOrRestsByTurn, RestartsPort}
+use Rattle.server_history.specs.Turns.{InRestart, RequeuesAndAbortsFitTurn, RestartsPort}
 use Rattle.port_control.specs.declared.events.PortError.TheVariants.{TaskFileError, TimedOut, LinkChanged}
 use Rattle.server_history.proofs.recovery_turn.MendedPort.{dead_found, disk_same, interrupted, ready_info}
 use Rattle.server_history.proofs.recovery_turn.DecidedSteps.{DecidesTurn, nobody}
@@ -42,7 +42,7 @@ module _ (laws : PrerequisiteLaws) (port : Port) (replies : List Reply) (old new
   belongs = belong_tick (ports_of new) d.steps (d.gives unfailed) d.belong
 
   -- who is told Unplugged had another disk
-  another : UnpluggedOutcomeExcludesDeadAndSameSerialAndSize d.steps (ports_of old) (ports_of new)
+  another : UnpluggedExcludesDeadAndSameDisk d.steps (ports_of old) (ports_of new)
   another e here =
       let why = d.unplugged e here in
       let told : IsRevalidation a.error_handled.port_error a.disk_before a.found DiskLost = subst (IsRevalidation a.error_handled.port_error a.disk_before a.found) why.0 a.is_revalidation in
@@ -64,5 +64,5 @@ module _ (laws : PrerequisiteLaws) (port : Port) (replies : List Reply) (old new
     shown_disk_was_in_or_came = evident.had m is d.steps d.backed;
   }
 
-  pub owes : RequeuesOnFailedPortsOrRestartsOrRestsByTurn InRestart port evident.accesses old new m (evidence_by a) d.steps
+  pub owes : RequeuesAndAbortsFitTurn InRestart port evident.accesses old new m (evidence_by a) d.steps
   owes = (restarted, ap faults_of (nobody laws port replies old new k ready r looks kept unfailed))

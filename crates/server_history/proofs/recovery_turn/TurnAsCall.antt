@@ -6,7 +6,7 @@ use Rattle.ata_types.specs.declared.PortState.TheVariants as shown
 use Rattle.ata_types.specs.declared.PortState.TheVariants.{Ready as ReadyState}
 use Rattle.ata_types.specs.declared.request.Reply.{Reply}
 use Rattle.refinement.specs.Fragments.{AnySlotStates, IsSimulated}
-use Rattle.refinement.specs.Errors.{IsFatalErrorOf}
+use Rattle.refinement.specs.Errors.{IsFatalEntryOf}
 use Rattle.refinement.specs.HaltRecovery.{WorksOnUnqueuedCommandsOnly}
 use Rattle.block_machine.specs.Events.{Service}
 use Rattle.block_machine.specs.Histories.{IsReachable}
@@ -58,7 +58,7 @@ module _ (laws : PrerequisiteLaws) (port : Port) (replies : List Reply) (old new
 
   -- with plain commands outstanding, it has worked on plain ones alone
   plainly : r.has_resolved.error_handled.queued ≡ false → WorksOnUnqueuedCommandsOnly (r.has_resolved.server_after_handling.device.port port.0)
-  plainly plain = plain_port_stays_plain laws r.has_resolved.server_after_handling then_kept port then_ready (subst (λ (queued : Bool). AreAllQueuedAs queued (slots_at r.has_resolved.server_after_handling.slots port.0)) plain r.has_resolved.error_handled.are_queued_alike) ((then_kept.port_invariant port.0 (ready_found old port.0 k ready).0).ready_is_not_log_only_and_halt_is_of_taken then_ready)
+  plainly plain = plain_port_stays_plain laws r.has_resolved.server_after_handling then_kept port then_ready (subst (λ (queued : Bool). AreAllQueuedAs queued (slots_at r.has_resolved.server_after_handling.slots port.0)) plain r.has_resolved.error_handled.are_queued_alike) ((then_kept.port_invariant port.0 (ready_found old port.0 k ready).0).ready_halt_fits_taken_commands then_ready)
 
   -- where TFES alone was shown, and no fatal error came, a command had failed
   failing : r.has_resolved.error_handled.port_error ≢ TimedOut → HasOnlyTaskFileError port (joint_state_of old m) new.device → r.has_resolved.error_handled.port_error ≡ TaskFileError
@@ -68,7 +68,7 @@ module _ (laws : PrerequisiteLaws) (port : Port) (replies : List Reply) (old new
       by TaskFileError is = is
       by FatalError is =
           let here : Contains (fatal_of port r.has_resolved.error_handled.port_error (old.device.port port.0)) port = subst (λ (t : PortError). Contains (fatal_of port t (old.device.port port.0)) port) (sym is) (first_here port []) in
-          absurd (⊎_elim alone.shows_only_tfes.no_fatal_is_shown (gains_none (IsFatalErrorOf port.0) old.device new.device alone.none_is_fatal.new_entries alone.none_is_fatal.tape_is alone.none_is_fatal.no_such_entry) ((evident.evidenced Service m).named_showing_fatal_had_fatal here).1)
+          absurd (⊎_elim alone.shows_only_tfes.no_fatal_is_shown (gains_none (IsFatalEntryOf port.0) old.device new.device alone.none_is_fatal.new_entries alone.none_is_fatal.tape_is alone.none_is_fatal.no_such_entry) ((evident.evidenced Service m).named_showing_fatal_had_fatal here).1)
       by LinkChanged is =
           let here : Contains (gone_of port r.has_resolved.error_handled.port_error (old.device.port port.0)) port = subst (λ (t : PortError). Contains (gone_of port t (old.device.port port.0)) port) (sym is) (first_here port []) in
           absurd (⊎_elim alone.shows_only_tfes.no_change_is_shown

@@ -262,7 +262,7 @@ module _ (laws : PrerequisiteLaws) (port : Port) (replies : List Reply) (old new
 
   -- where a device showed at a moment of the turn, a disk was in
   own_at : (accesses : List Access) (d : Device) → DoesAll accesses old.device d → (d.port port.0).ssts_det ≡ 3 → (d.port port.0).present ≡ true
-  own_at accesses d does = laws.recovery.shown_disk_stays_in port.0 accesses old.device d does ((k.port_invariant port.0 low).ready_has_disk_if_shown ready)
+  own_at accesses d does = laws.recovery.shown_disk_stays_in port.0 accesses old.device d does ((k.port_invariant port.0 low).ready_has_disk_if_det_3 ready)
 
   had_at : (accesses : List Access) (d : Device) → DoesAll accesses old.device d → (d.port port.0).ssts_det ≡ 3 → TapeGrows d new.device → (m : Machine) → MachineRelation old m → (steps : List Step) → TapeBacksSteps old.device new.device m steps
       → (m.present port ≡ true) ⊎ (list_any (changes_disk port) steps ≡ true)

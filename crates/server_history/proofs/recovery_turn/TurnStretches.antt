@@ -41,7 +41,7 @@ use Rattle.port_control.specs.declared.events.PortEvent.TheVariants as look
 use Rattle.request_queue.specs.BookEntries.{BookEntry, as_unanswered, unanswered_of, due_ids}
 use Rattle.server_history.specs.Prerequisites.{PrerequisiteLaws}
 use Rattle.server_history.specs.ErrorHandling.{ErrorIsFound, IsErrorHandled, HasResolved, HandlesPortError}
-use Rattle.commands.specs.Batches.{IsBatchAccess}
+use Rattle.commands.specs.Batches.{IsCommandIssueAccess}
 use Rattle.server_history.specs.IssuingAndAnswering.{IssuesTogetherIfAny}
 use Rattle.server_history.specs.ServerState.{ServerState, InCallInvariant, mode_in, state_of, used_for}
 use Rattle.port_control.specs.declared.events.PortError.{PortError}
@@ -189,15 +189,15 @@ module _ (laws : PrerequisiteLaws) (port : Port) (replies : List Reply) (old new
   afterwards : AfterList port x.port_error x.result.next a.found a.device_after_handling r.server_after_resolving.device
   afterwards = after_list laws port low (wanted_of old.wanted port.0) x.port_error a.disk_before x.result.next a.device_after_handling r.server_after_resolving.device a.found a.is_found_after_error
 
-  each : IsDrivenBy (IsBatchAccess port) r.server_after_resolving.device new.device
+  each : IsDrivenBy (IsCommandIssueAccess port) r.server_after_resolving.device new.device
   each = each_driven laws port (due_ids (mode_in r.server_after_resolving port) port (unanswered_of r.server_after_resolving.book)) r.server_after_resolving new r.issued
 
   issuing : IsDrivenBy (IsPart port) r.server_after_resolving.device new.device
-  issuing = record { accesses = each.accesses; all_are_done = each.all_are_done; accesses_are_of_kind = All-weaker (IsBatchAccess port) (IsPart port) (λ access is. (issuing_turns laws port low access is).1) each.accesses each.accesses_are_of_kind }
+  issuing = record { accesses = each.accesses; all_are_done = each.all_are_done; accesses_are_of_kind = All-weaker (IsCommandIssueAccess port) (IsPart port) (λ access is. (issuing_turns laws port low access is).1) each.accesses each.accesses_are_of_kind }
 
   issuing_spares : All (DoesNotWrite (Px port Sctl)) issuing.accesses
   unfolding issuing
-  issuing_spares = All-weaker (IsBatchAccess port) (DoesNotWrite (Px port Sctl)) (λ access is. (issuing_leaves laws port port access is).1) each.accesses each.accesses_are_of_kind
+  issuing_spares = All-weaker (IsCommandIssueAccess port) (DoesNotWrite (Px port Sctl)) (λ access is. (issuing_leaves laws port port access is).1) each.accesses each.accesses_are_of_kind
 
   -- nothing is issued on a dead port, of which there are no requests
   none_issued : state_of (probe_result_of r.server_after_resolving.probe_results port.0) ≡ DeadState → new ≡ r.server_after_resolving
@@ -230,7 +230,7 @@ module _ (laws : PrerequisiteLaws) (port : Port) (replies : List Reply) (old new
   module _ (q : ℕ) (other : q ≢ port.0) (lives : state_of (probe_result_of old.probe_results q) ≢ DeadState) where
     -- its slot 0 has no command of the driver's own
     none_own : mid_kept.machine_relation.uses q 0 ≡ Own ReadLog → ⊥
-    none_own = not_own (probe_result_of a.server_after_handling.probe_results q) (used_for a.server_after_handling.slots q 0) (mid_kept.machine_relation.uses q 0) ReadLog (λ dead. lives (ap state_of (sym (mid_found q) ∙ dead))) (mid_kept.machine_relation.slot_uses_agree_unless_dead q 0)
+    none_own = not_own (probe_result_of a.server_after_handling.probe_results q) (used_for a.server_after_handling.slots q 0) (mid_kept.machine_relation.uses q 0) ReadLog (λ dead. lives (ap state_of (sym (mid_found q) ∙ dead))) (mid_kept.machine_relation.slot_states_agree_unless_dead q 0)
 
     -- nor has it once the port's slots were given up
     given : (token : Stopped) → x.result.next ≡ next.Restart token → (g : IsGivenUp port a.device_after_handling) × (g.uses q 0 ≡ Own ReadLog → ⊥)

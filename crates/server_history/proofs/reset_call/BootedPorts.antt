@@ -11,7 +11,7 @@ use Rattle.adapter.specs.Access.Access.{Loading, Reading, Storing, Writing}
 use Rattle.adapter.specs.Device.{Device}
 use Rattle.refinement.specs.Relation.{port_at}
 use Rattle.refinement.specs.Fragments.{ReadsPortOrWrites, IsDrivenBy}
-use Rattle.driver_history.specs.PortTurn.{HasTurnIn, IsOfOtherPort, call_accesses}
+use Rattle.driver_history.specs.PortTurn.{HasTurnIn, KeepsToAnotherPort, call_accesses}
 use Rattle.driver_history.specs.AccessTrace.{ResetsLink}
 use Rattle.host_boot.specs.TakeOver.{StopsAndBootsOrDoesNothing, BootsEachServedPortOrSticks, probe_result_of}
 use Rattle.host_boot.specs.declared.ProbeResult.{ProbeResult}
@@ -112,7 +112,7 @@ pub record WentBy (first : ℕ) (ports : List ProbeResult) (old new : Device) : 
   pub each : (port : Port) (k : ℕ) → port.0 ≡ first + k → k < length ports → TookTurn port (probe_result_of ports k) driven.accesses old new
 
 module _ (laws : PrerequisiteLaws) where
-  of_other : (port : Port) (first : ℕ) (ports : List ProbeResult) → port.0 < first → (access : Access) → IsOfFound first ports access → IsOfOtherPort port access
+  of_other : (port : Port) (first : ℕ) (ports : List ProbeResult) → port.0 < first → (access : Access) → IsOfFound first ports access → KeepsToAnotherPort port access
   of_other port first ports before access (q, k, at, its) = (q, (λ same. absurd (omega (arith, before, same, at))), laws.boot_access_is_of_port q access its.1)
 
   -- the first of them
@@ -141,8 +141,8 @@ module _ (laws : PrerequisiteLaws) where
         leads_to_start = refl;
         turn_leads_to_end = one.0.all_are_done;
         leads_to_new = more.driven.all_are_done;
-        earlier_are_of_others = All-nil (IsOfOtherPort (port_at first));
-        later_are_of_others = All-weaker (IsOfFound (first + 1) rest) (IsOfOtherPort (port_at first)) (of_other (port_at first) (first + 1) rest (omega arith)) more.driven.accesses more.driven.accesses_are_of_kind;
+        earlier_are_of_others = All-nil (KeepsToAnotherPort (port_at first));
+        later_are_of_others = All-weaker (IsOfFound (first + 1) rest) (KeepsToAnotherPort (port_at first)) (of_other (port_at first) (first + 1) rest (omega arith)) more.driven.accesses more.driven.accesses_are_of_kind;
       };
       all = refl;
       did = one.1;
@@ -160,8 +160,8 @@ module _ (laws : PrerequisiteLaws) where
         leads_to_start = laws.steps_and_accesses.does_append one.0.accesses t.turn.before old mid t.turn.start one.0.all_are_done t.turn.leads_to_start;
         turn_leads_to_end = t.turn.turn_leads_to_end;
         leads_to_new = t.turn.leads_to_new;
-        earlier_are_of_others = All-append (IsOfOtherPort port) one.0.accesses t.turn.before
-            (All-weaker (IsBootOf (port_at first) found) (IsOfOtherPort port) (λ access is. (port_at first, (λ same. absurd (omega (arith, at, same))), laws.boot_access_is_of_port (port_at first) access is.1)) one.0.accesses one.0.accesses_are_of_kind)
+        earlier_are_of_others = All-append (KeepsToAnotherPort port) one.0.accesses t.turn.before
+            (All-weaker (IsBootOf (port_at first) found) (KeepsToAnotherPort port) (λ access is. (port_at first, (λ same. absurd (omega (arith, at, same))), laws.boot_access_is_of_port (port_at first) access is.1)) one.0.accesses one.0.accesses_are_of_kind)
             t.turn.earlier_are_of_others;
         later_are_of_others = t.turn.later_are_of_others;
       };

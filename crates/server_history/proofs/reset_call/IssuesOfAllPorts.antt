@@ -34,7 +34,7 @@ use Rattle.server_history.specs.Prerequisites.{PrerequisiteLaws}
 use Rattle.server_history.specs.Resets.{IssuesOnEachReadyPort}
 use Rattle.commands.specs.Batches.{PlacedTask}
 use Rattle.server_history.specs.IssuingAndAnswering.{AllByDeviceOrIssue, IssuesDueOfPort, IssuesTogetherIfAny, PutsInSlots}
-use Rattle.server_history.specs.ServerState.{InCallInvariant, MachineRelation, SettledInvariant, ServerState, mode_in, ports_of, state_of}
+use Rattle.server_history.specs.ServerState.{InCallInvariant, MachineRelation, InvariantWithNoneDue, ServerState, mode_in, ports_of, state_of}
 
 -- the step is the device's, or issues a request of a ready port in the port's mode
 abbrev pub IsReissue : Ports → Step → Type 0
@@ -295,10 +295,10 @@ module _ (laws : PrerequisiteLaws) (old : ServerState) (k : InCallInvariant old)
       unready (info, one) other = let z : Ready info ≡ Unready state = sym one ∙ other in absurd cc
 
   -- once all four ports had their turn, nothing is due
-  pub settled_then : (new : ServerState) → AreReissued 4 new → SettledInvariant new
+  pub settled_then : (new : ServerState) → AreReissued 4 new → InvariantWithNoneDue new
   settled_then new a = record {
     in_call_invariant = a.kept;
-    nothing_is_due = λ port. ⊎_elim
+    none_is_due = λ port. ⊎_elim
         (λ (ready : IsReady port). subst (λ (mode : QueueMode). NoneDue mode (unanswered_of new.book) port) (sym (ap (λ (s : ServerState). mode_in s port) a.settings)) (a.none port (ready_found old port.0 k ready).0 ready))
         (λ unready. none_due_unready new a.kept port (λ ready. unready (ap (λ (s : ServerState). state_of (probe_result_of s.probe_results port.0)) (sym a.settings) ∙ ready)) (mode_in new port))
         (ready_or_not (state_of (probe_result_of old.probe_results port.0)));

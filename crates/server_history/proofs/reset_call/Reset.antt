@@ -17,7 +17,7 @@ use Rattle.ata_types.specs.declared.request.Reply.{Reply}
 use Rattle.ata_types.specs.declared.request.RequestId.{RequestId}
 use Rattle.server_history.proofs.state.ListMembers.{contains_cases}
 use Rattle.block_machine.specs.DueRequests.{requests_of_port}
-use Rattle.block_machine.specs.Events.{AnswersAndWaitsLawful, AllEnabled, AnswersReset, AreStepsOfCall, UnpluggedOutcomeExcludesDeadAndSameSerialAndSize, IsOutcomeWithoutDeviceVerdict, ShownDiskWasInOrCame, IsLawfulAnswer, IssueIsLastOfRequest, UnansweredKeepSerialAndSize, AbstractState, IssuedOnPortAreIssuedInSteps, ReleasesOnceBeforeServerSteps, Reset, ShowsDisk, RepliesMatch, UnpluggedOutcomeEmptiesPort, IsIssuedInBook, WasReset, answers_of, issues_id, IsReadyAfterStopSerialAndSizeKept}
+use Rattle.block_machine.specs.Events.{AnswersAndWaitsLawful, AllEnabled, AnswersReset, AreStepsOfCall, UnpluggedExcludesDeadAndSameDisk, IsOutcomeWithoutDeviceVerdict, ShownDiskWasInOrCame, IsLawfulAnswer, IssueIsLastOfRequest, UnansweredKeepSerialAndSize, AbstractState, IssuedOnPortAreIssuedInSteps, ReleasesOnceBeforeServerSteps, Reset, ShowsDisk, RepliesMatch, UnpluggedOutcomeEmptiesPort, IsIssuedInBook, WasReset, answers_of, issues_id, IsReadyAfterStopSerialAndSizeKept}
 use Rattle.block_machine.specs.Histories.{JointEvent, JointState, IsReachable, joint_state_after}
 use Rattle.block_machine.specs.Expected.{after}
 use Rattle.block_machine.specs.Ports.{MayBecome, Ports, SameSerialAndSize}
@@ -60,10 +60,10 @@ use Rattle.server_history.proofs.state.PortSlots.{issued_has, of_ready, ready_fo
 use Rattle.server_history.proofs.any_turn.TurnsInOrder.{belong_join, lawful_join}
 use Rattle.server_history.proofs.state.PairedLists.{at_right}
 use Rattle.server_history.specs.ResetLaws.{ResetLaws}
-use Rattle.server_history.specs.Histories.{ExtendsToSettled, LeadsToServer}
+use Rattle.server_history.specs.Histories.{ExtendsToNoneDue, LeadsToServer}
 use Rattle.server_history.proofs.reset_call.ResetDevice.{IsRebootedBy}
 use Rattle.server_history.specs.Resets.{IsResetRevalidation, IsReinitialized, IssuesOnEachReadyPort, ResetsServer, ResolvesEachPort}
-use Rattle.server_history.specs.ServerState.{InCallInvariant, MachineRelation, SettledInvariant, ServerState, last_disk_in, last_disk_of, is_served, mode_in, ports_of, remembered_at, last_sectors_of, last_serial_of, state_of}
+use Rattle.server_history.specs.ServerState.{InCallInvariant, MachineRelation, InvariantWithNoneDue, ServerState, last_disk_in, last_disk_of, is_served, mode_in, ports_of, remembered_at, last_sectors_of, last_serial_of, state_of}
 use Rattle.server_history.specs.StuckServer.{ServerInvariant}
 use Rattle.server_history.specs.Turns.{joint_state_of, abstract_state_of}
 use Rattle.ata_types.specs.declared.request.Outcome.TheVariants as outcome
@@ -438,7 +438,7 @@ module _ (laws : ResetLaws) (s taken settled new : ServerState) (replies : List 
     none_is_told_dead = λ e other here there own. (unplugged_expects e here).0 (ap (λ (p : Port). probe_result_of new.probe_results p.0) (sym own) ∙ dead_expects other there);
   }
 
-  finds : UnpluggedOutcomeExcludesDeadAndSameSerialAndSize steps (ports_of s) (ports_of new)
+  finds : UnpluggedExcludesDeadAndSameDisk steps (ports_of s) (ports_of new)
   finds e here = let lost = unplugged_expects e here in (not_dead e.request.port lost, other_disk e.request.port lost)
 
   -- no request keeps its issue
@@ -468,7 +468,7 @@ module _ (laws : ResetLaws) (s taken settled new : ServerState) (replies : List 
   abbrev end : AbstractState
   end = record { machine = after m steps; ports = ports_of new }
 
-  new_settled : SettledInvariant new
+  new_settled : InvariantWithNoneDue new
   new_settled = settled_at_last laws s taken settled booked takes replies settles m reached is new issues
 
   -- ---- the disks that it shows
@@ -500,7 +500,7 @@ module _ (laws : ResetLaws) (s taken settled new : ServerState) (replies : List 
     releases_once = releases;
     unplugged_outcome_empties_port = unplugs;
     unplugged_lost_disk = finds;
-    none_is_due_where_ready = λ port ready. none_due new (after m steps) stands_new (mode_in new port) port (new_settled.nothing_is_due port);
+    none_is_due_where_ready = λ port ready. none_due new (after m steps) stands_new (mode_in new port) port (new_settled.none_is_due port);
     empty_unless_ready = none_waits;
     port_may_become = becomes;
     issued_are_issued_in_steps = anew;
@@ -555,8 +555,8 @@ module _ (laws : ResetLaws) (s taken settled new : ServerState) (replies : List 
 
 -- ---- the whole
 
-pub resets_add_given : ResetLaws → (s new : ServerState) (replies : List Reply) → IsRebootedBy s new replies → ServerInvariant s → ResetsServer replies s new → ExtendsToSettled s new Reset (WasReset (Some replies))
+pub resets_add_given : ResetLaws → (s new : ServerState) (replies : List Reply) → IsRebootedBy s new replies → ServerInvariant s → ResetsServer replies s new → ExtendsToNoneDue s new Reset (WasReset (Some replies))
 resets_add_given laws s new replies by booked resets = record {
-  settled_invariant = settled_at_last laws s resets.server_after_take_over resets.server_after_resolving booked resets.is_reinitialized replies resets.resolves_each_port booked.machine booked.reached booked.machine_relation new resets.issues_on_each_ready_port;
+  invariant_with_none_due = settled_at_last laws s resets.server_after_take_over resets.server_after_resolving booked resets.is_reinitialized replies resets.resolves_each_port booked.machine booked.reached booked.machine_relation new resets.issues_on_each_ready_port;
   extends_history = λ first past leads. reset_event laws s resets.server_after_take_over resets.server_after_resolving new replies booked resets.is_reinitialized resets.resolves_each_port resets.issues_on_each_ready_port by first past leads;
 }

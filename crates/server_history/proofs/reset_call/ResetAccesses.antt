@@ -15,14 +15,14 @@ use Rattle.adapter.specs.Rules.{IsOn}
 use Rattle.adapter.specs.Steps.{Steps}
 use Rattle.refinement.specs.Relation.{port_at}
 use Rattle.refinement.specs.Fragments.{TapeGrows, ReadsPortOrWrites, IsDrivenBy, SparesOtherPorts}
-use Rattle.refinement.specs.Errors.{IsFatalErrorOf}
+use Rattle.refinement.specs.Errors.{IsFatalEntryOf}
 use Rattle.refinement.specs.PortFacts.{IsFaultOf, RunsWell}
 use Rattle.refinement.specs.PreservedParts.{NoPlugEvents, DoesNotWrite}
 use Rattle.error_recovery.specs.Evidence.{GainsSinceStart, HidesNoTrouble}
 use Rattle.driver_history.specs.Histories.{HasAeAndIe, IsPortServed}
-use Rattle.driver_history.specs.PortTurn.{HasTurnIn, IsOfOtherPort}
+use Rattle.driver_history.specs.PortTurn.{HasTurnIn, KeepsToAnotherPort}
 use Rattle.driver_history.specs.AccessTrace.{StaysInDriverFrames, UsesPortRegistersOf, ResetsLink}
-use Rattle.host_boot.specs.Resets.{WritesHrFirst, IsResetAccess}
+use Rattle.host_boot.specs.Resets.{BeginsWithReset, IsResetAccess}
 use Rattle.host_boot.specs.TakeOver.{SwitchesOnBootsAndEnablesInterrupts, IsServed, ReadsCapOrPi, BacksProbeResult, probe_result_of, wanted_of}
 use Rattle.host_boot.specs.declared.ProbeResult.{ProbeResult}
 use Rattle.host_boot.specs.declared.ProbeResult.TheVariants.{Unserved, Ready, Unready}
@@ -33,7 +33,7 @@ use Rattle.port_control.specs.Ports.{IsCommandRegister}
 use Rattle.request_queue.specs.BookEntries.{unanswered_of, due_ids}
 use Rattle.server_history.specs.Prerequisites.{PrerequisiteLaws}
 use Rattle.server_history.specs.Resets.{IsReinitialized, IssuesOnEachReadyPort, ResetsServer, ResolvesEachPort}
-use Rattle.commands.specs.Batches.{IsBatchAccess}
+use Rattle.commands.specs.Batches.{IsCommandIssueAccess}
 use Rattle.server_history.specs.ServerState.{ServerState, is_served, mode_in, ports_of}
 use Rattle.server_history.specs.StuckServer.{ServerInvariant}
 use Rattle.server_history.proofs.reset_call.BootedPorts.{DidBoot, IsOfFound, TookTurn, WentBy, command_boots, went_by}
@@ -57,7 +57,7 @@ settles_as port (found ∷ rest) replies old new (mid, its, later, are, one, mor
 
 -- an access that issues requests of one of these ports, which is ready; the first of them has this number
 abbrev pub IsOfReady : ℕ → List ProbeResult → Access → Type 0
-IsOfReady first ports access = (port : Port) × (k : ℕ) × (info : DiskInfo) × (port.0 ≡ first + k) × (probe_result_of ports k ≡ Ready info) × IsBatchAccess port access
+IsOfReady first ports access = (port : Port) × (k : ℕ) × (info : DiskInfo) × (port.0 ≡ first + k) × (probe_result_of ports k ≡ Ready info) × IsCommandIssueAccess port access
 
 ready_later : (first : ℕ) (found : ProbeResult) (rest : List ProbeResult) (access : Access) → IsOfReady (first + 1) rest access → IsOfReady first (found ∷ rest) access
 ready_later first found rest access (port, k, info, at, is, its) = (port, suc k, info, (omega (arith, at)), is, its)
@@ -82,7 +82,7 @@ module _ (laws : PrerequisiteLaws) where
         accesses = early.accesses ++ late.accesses;
         all_are_done = laws.steps_and_accesses.does_append early.accesses late.accesses old.device mid.device new.device early.all_are_done late.all_are_done;
         accesses_are_of_kind = All-append (IsOfReady first (Ready info ∷ rest)) early.accesses late.accesses
-            (All-weaker (IsBatchAccess (port_at first)) (IsOfReady first (Ready info ∷ rest)) (λ access is. (port_at first, 0, info, (omega arith), refl, is)) early.accesses early.accesses_are_of_kind)
+            (All-weaker (IsCommandIssueAccess (port_at first)) (IsOfReady first (Ready info ∷ rest)) (λ access is. (port_at first, 0, info, (omega arith), refl, is)) early.accesses early.accesses_are_of_kind)
             (All-weaker (IsOfReady (first + 1) rest) (IsOfReady first (Ready info ∷ rest)) (ready_later first (Ready info) rest) late.accesses late.accesses_are_of_kind);
       }
   issues_driven first (Unserved ∷ rest) old new more = driven_as (IsOfReady (first + 1) rest) (IsOfReady first (Unserved ∷ rest)) old.device new.device (ready_later first Unserved rest) (issues_driven (first + 1) rest old new more)
@@ -184,7 +184,7 @@ enabling_leaves port = (
 )
 
 -- those of another port leave this one
-other_leaves : PrerequisiteLaws → (port : Port) (access : Access) → IsOfOtherPort port access → LeavesTrouble port access
+other_leaves : PrerequisiteLaws → (port : Port) (access : Access) → KeepsToAnotherPort port access → LeavesTrouble port access
 other_leaves laws port access (at, apart, is) = (
   laws.one_port_spares_registers at port PortIs apart access is,
   laws.one_port_spares_registers at port Serr apart access is,
@@ -309,8 +309,8 @@ module _ (laws : PrerequisiteLaws) (s new : ServerState) (replies : List Reply) 
       (λ access (port, n, at, its). its_of (IsPortServed (ports_of s)) port (serves port n at its.0) access (laws.boot_access_is_of_port port access its.1)) tt
       (λ access (port, n, info, at, is, its). its_of (IsPortServed (ports_of s)) port (serves port n at (ready_other n info is)) access (laws.batch_access_is_of_port port access its))
 
-  pub begins : WritesHrFirst accesses
-  begins = record { rest = _; accesses_are = ap (λ (list : List Access). list ++ (Writing Ghc 0x80000000 ∷ (survey ++ (went.driven.accesses ++ last)))) t.resets.awaited.accesses_are }
+  pub begins : BeginsWithReset accesses
+  begins = record { reset_accesses = first; rest = Writing Ghc 0x80000000 ∷ (survey ++ (went.driven.accesses ++ last)); accesses_are = refl; hr_is_awaited = t.resets.awaited }
 
   -- ---- the adapter
 
@@ -345,7 +345,7 @@ module _ (laws : PrerequisiteLaws) (s new : ServerState) (replies : List Reply) 
     -- what resets its link in its part does so in the whole
     pub resets : ResetsLink port turn.turn.turn → ResetsLink port accesses
     resets is =
-        let later = All-weaker (IsOfOtherPort port) (DoesNotWrite (Px port Sctl)) (λ access other. (other_leaves laws port access other).3) its.later its.later_are_of_others in
+        let later = All-weaker (KeepsToAnotherPort port) (DoesNotWrite (Px port Sctl)) (λ access other. (other_leaves laws port access other).3) its.later its.later_are_of_others in
         let part = subst (ResetsLink port) turn.all (resets_more port its.before its.turn its.later is later) in
         resets_since port first (Writing Ghc 0x80000000 ∷ (survey ++ (went.driven.accesses ++ last))) (resets_since port (Writing Ghc 0x80000000 ∷ []) (survey ++ (went.driven.accesses ++ last))
         (resets_more port survey went.driven.accesses last part (All-weaker (LeavesTrouble port) (DoesNotWrite (Px port Sctl)) (λ access leaves. leaves.3) last (last_leaves port))))
@@ -369,7 +369,7 @@ module _ (laws : PrerequisiteLaws) (s new : ServerState) (replies : List Reply) 
       gets = did.1.2
 
       start_on : IsOn its.start
-      start_on = on_over laws its.before way.device_after_survey its.start surveyed_on (All-weaker (IsOfOtherPort port) StaysOn (λ access other. (other_leaves laws port access other).4) its.before its.earlier_are_of_others) its.leads_to_start
+      start_on = on_over laws its.before way.device_after_survey its.start surveyed_on (All-weaker (KeepsToAnotherPort port) StaysOn (λ access other. (other_leaves laws port access other).4) its.before its.earlier_are_of_others) its.leads_to_start
 
       stopped_on : IsOn stopped
       stopped_on = laws.one_port_keeps_adapter_on port its.start stopped start_on (driven_as (ReadsPortOrWrites IsCommandRegister port) (SparesOtherPorts port) its.start stopped (λ access x. laws.boot_access_is_of_port port access (command_boots port access x)) did.1.1)
@@ -388,7 +388,7 @@ module _ (laws : PrerequisiteLaws) (s new : ServerState) (replies : List Reply) 
       later = record {
         accesses = its.later ++ last;
         all_are_done = laws.steps_and_accesses.does_append its.later last its.end way.device_after_boots new.device its.leads_to_new last_does;
-        accesses_are_of_kind = All-append (LeavesTrouble port) its.later last (All-weaker (IsOfOtherPort port) (LeavesTrouble port) (other_leaves laws port) its.later its.later_are_of_others) (last_leaves port);
+        accesses_are_of_kind = All-append (LeavesTrouble port) its.later last (All-weaker (KeepsToAnotherPort port) (LeavesTrouble port) (other_leaves laws port) its.later its.later_are_of_others) (last_leaves port);
       }
 
       -- what came since ST was set is shown
@@ -396,5 +396,5 @@ module _ (laws : PrerequisiteLaws) (s new : ServerState) (replies : List Reply) 
       shows = ready_shows laws port s.device stopped its.end new.device stopped_on gets later
 
       -- and where nothing did, it runs well
-      pub goes_well : NoPlugEvents port.0 s.device new.device → (GainsSinceStart (IsFaultOf port.0) port.0 s.device new.device → ⊥) → (GainsSinceStart (IsFatalErrorOf port.0) port.0 s.device new.device → ⊥) → RunsWell (new.device.port port.0)
+      pub goes_well : NoPlugEvents port.0 s.device new.device → (GainsSinceStart (IsFaultOf port.0) port.0 s.device new.device → ⊥) → (GainsSinceStart (IsFatalEntryOf port.0) port.0 s.device new.device → ⊥) → RunsWell (new.device.port port.0)
       goes_well = ready_well laws port s.device stopped its.end new.device stopped_on gets later end_on early

@@ -10,7 +10,7 @@ use Rattle.block_machine.specs.State.{Machine}
 use Rattle.driver_history.specs.Evidence.{IsEvidencedOf}
 use Rattle.driver_history.specs.Histories.{BootsAnewWhereRequired, HasAeAndIe, LosesNoPortError, RunsWellAnew, IsPortServed}
 use Rattle.driver_history.specs.AccessTrace.{StaysInDriverFrames, UsesPortRegistersOf}
-use Rattle.host_boot.specs.Resets.{WritesHrFirst}
+use Rattle.host_boot.specs.Resets.{BeginsWithReset}
 use Rattle.server_history.specs.ServerState.{ServerState, ports_of}
 use Rattle.server_history.specs.Turns.{joint_state_of}
 
@@ -22,7 +22,7 @@ pub record IsRebootedBy (s new : ServerState) (replies : List Reply) : Type 0 wh
   pub does : DoesAll accesses s.device new.device
   pub own : All StaysInDriverFrames accesses
   pub of : All (UsesPortRegistersOf (IsPortServed (ports_of s))) accesses
-  pub begins : WritesHrFirst accesses
+  pub begins : BeginsWithReset accesses
   pub tells : HasAeAndIe new.device
   pub evidence : Evidence
   pub faults : evidence.faults ≡ []

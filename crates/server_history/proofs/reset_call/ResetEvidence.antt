@@ -17,7 +17,7 @@ use Rattle.block_machine.specs.Ports.{Evidence, Ports, SameSerialAndSize}
 use Rattle.block_machine.specs.State.{Machine}
 use Rattle.driver_history.specs.Evidence.{IsEvidencedOf}
 use Rattle.driver_history.specs.Histories.{LosesNoPortError, RunsWellAnew, IsPortServed}
-use Rattle.driver_history.specs.PortTurn.{IsOfOtherPort}
+use Rattle.driver_history.specs.PortTurn.{KeepsToAnotherPort}
 use Rattle.driver_history.specs.AccessTrace.{UsesPortRegistersOf, WritesNeitherCmdNorSctl, ResetsLink}
 use Rattle.host_boot.specs.TakeOver.{BacksProbeResult, probe_result_of, wanted_of}
 use Rattle.host_boot.specs.declared.ProbeResult.{ProbeResult}
@@ -83,12 +83,12 @@ unserved_leaves Such port none (Loading at bytes) is = (tt, tt)
 unserved_leaves Such port none (Storing at bytes) is = (tt, tt)
 
 -- what was noted of a port stays so over accesses of others
-notes_over : PrerequisiteLaws → (port : Port) (list : List Access) (old new : Device) → IsOn old → All (IsOfOtherPort port) list → DoesAll list old new → (new.port port.0).notes ≡ (old.port port.0).notes
+notes_over : PrerequisiteLaws → (port : Port) (list : List Access) (old new : Device) → IsOn old → All (KeepsToAnotherPort port) list → DoesAll list old new → (new.port port.0).notes ≡ (old.port port.0).notes
 notes_over laws port [] old new on all is = ap (λ (d : Device). (d.port port.0).notes) is
 notes_over laws port (access ∷ list) old new on all (mid, does, rest) =
-    let other = All-head (IsOfOtherPort port) access list all in
+    let other = All-head (KeepsToAnotherPort port) access list all in
     let driven = by_one _ access old mid other.2 does in
-    notes_over laws port list mid new (laws.one_port_keeps_adapter_on other.0 old mid on driven) (All-tail (IsOfOtherPort port) access list all) rest
+    notes_over laws port list mid new (laws.one_port_keeps_adapter_on other.0 old mid on driven) (All-tail (KeepsToAnotherPort port) access list all) rest
     ∙ (laws.port_event_laws.other_ports_are_left other.0 port.0 old mid other.1 on driven).notes
 
 -- ---- the whole
@@ -203,7 +203,7 @@ module _ (laws : PrerequisiteLaws) (s new : ServerState) (replies : List Reply) 
         sticks laws s new replies k r port (dead_low port dead) ((subst (λ (f : ProbeResult). DidBoot port f part.turn.turn part.turn.start part.turn.end) (dead_found port dead) part.did).0 refl)
 
     -- what is issued is of other ports
-    others : (access : Access) → IsOfReady 0 ports access → IsOfOtherPort port access
+    others : (access : Access) → IsOfReady 0 ports access → KeepsToAnotherPort port access
     others access (q, n, info, at, is, its) = (
       q,
       (λ same.
@@ -216,7 +216,7 @@ module _ (laws : PrerequisiteLaws) (s new : ServerState) (replies : List Reply) 
     counted : (new.device.port port.0).notes.engine_wait_count ≡ MOST_READINGS
     counted =
         let issuing = issues laws s new replies k r in
-        ap (λ (n : Notes). n.engine_wait_count) (notes_over laws port issuing.accesses r.server_after_take_over.device new.device t.takes_over.adapter_is_on (All-weaker (IsOfReady 0 ports) (IsOfOtherPort port) others issuing.accesses issuing.accesses_are_of_kind) issuing.all_are_done)
+        ap (λ (n : Notes). n.engine_wait_count) (notes_over laws port issuing.accesses r.server_after_take_over.device new.device t.takes_over.adapter_is_on (All-weaker (IsOfReady 0 ports) (KeepsToAnotherPort port) others issuing.accesses issuing.accesses_are_of_kind) issuing.all_are_done)
         ∙ (subst (λ (f : ProbeResult). BacksProbeResult (wanted_of s.wanted port.0) f port.0 r.server_after_take_over.device) (dead_found port dead) (t.takes_over.results_are_backed port.0 (dead_low port dead))).1.1
 
   -- ---- what is vouched for

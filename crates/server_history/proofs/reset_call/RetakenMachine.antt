@@ -120,7 +120,7 @@ parks_issued uses parked d m knows none = record {
 module _ (laws : ResetLaws) (found : List ProbeResult) (kept : List (List Lending)) (table later : OwnersAndLoans) (m : Machine) (reached : IsReachable m) (lent : (frame : Frame) → m.lent frame ≡ lent_to table frame) (are : KeptRequestsRelation found kept m.kept)
     (back : GivesBackLoans table later (IsKeptIn kept)) where
   limits : KeepsLimitsAndHoldsOwnFrames m
-  limits = subst KeepsLimitsAndHoldsOwnFrames (sym reached.leads_to_machine) (laws.prerequisites.frame_holders.legal_histories_stay_in_limits reached.initial_machine reached.steps_since reached.is_initial reached.is_legal)
+  limits = subst KeepsLimitsAndHoldsOwnFrames (sym reached.leads_to_machine) (laws.prerequisites.frame_holders.enabled_histories_stay_in_limits reached.initial_machine reached.steps_since reached.is_initial reached.steps_since_are_enabled)
 
   is_lent : (id : RequestId) (o : Option RequestId) → is_lent_to id o ≡ true → o ≡ Some id
   is_lent id None is = absurd (false≢true is)
@@ -273,7 +273,7 @@ module _ (laws : ResetLaws) (s taken : ServerState) (booked : ServerInvariant s)
   end_limits : KeepsLimitsAndHoldsOwnFrames end
   end_limits =
       let r = laws.prerequisites.steps_and_accesses.reachable_stays_reachable booked.machine (its.second ++ Release ∷ its.first) booked.reached its.may in
-      subst KeepsLimitsAndHoldsOwnFrames (sym r.leads_to_machine) (laws.prerequisites.frame_holders.legal_histories_stay_in_limits r.initial_machine r.steps_since r.is_initial r.is_legal)
+      subst KeepsLimitsAndHoldsOwnFrames (sym r.leads_to_machine) (laws.prerequisites.frame_holders.enabled_histories_stay_in_limits r.initial_machine r.steps_since r.is_initial r.steps_since_are_enabled)
 
   pub book_same : taken.book ≡ s.book
   book_same = ap (λ (t : ServerState). t.book) takes.server_is

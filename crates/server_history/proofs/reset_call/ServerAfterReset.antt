@@ -31,7 +31,7 @@ use Rattle.server_history.proofs.reset_call.RetakenMachine.{IsRetaken, issued_in
 use Rattle.server_history.specs.ResetLaws.{ResetLaws}
 use Rattle.server_history.proofs.state.PairedLists.{at_right}
 use Rattle.server_history.specs.Resets.{IsReinitialized, IssuesOnEachReadyPort, MayResolve, ResolvesEachPort}
-use Rattle.server_history.specs.ServerState.{SlotsInvariant, InCallInvariant, MachineRelation, SettledInvariant, ServerState, is_served, mode_at, probed_mode, state_of, used_for, RevokedMarkInvariant}
+use Rattle.server_history.specs.ServerState.{SlotsInvariant, InCallInvariant, MachineRelation, InvariantWithNoneDue, ServerState, is_served, mode_at, probed_mode, state_of, used_for, RevokedMarkInvariant}
 use Rattle.server_history.specs.StuckServer.{ServerInvariant}
 
 module _ (laws : ResetLaws) (s taken settled : ServerState) (booked : ServerInvariant s) (takes : IsReinitialized s taken) (replies : List Reply) (settles : ResolvesEachPort 0 taken.probe_results replies taken settled) (m : Machine) (reached : IsReachable m)
@@ -122,7 +122,7 @@ module _ (laws : ResetLaws) (s taken settled : ServerState) (booked : ServerInva
   pub stands_regained : MachineRelation settled z
   stands_regained = record {
     uses = all_fated.uses;
-    slot_uses_agree_unless_dead = λ port slot. left_as settled.probe_results settled.probe_results settled.slots all_fated.uses port slot refl (unused_then port slot) (all_fated.left port slot);
+    slot_states_agree_unless_dead = λ port slot. left_as settled.probe_results settled.probe_results settled.slots all_fated.uses port slot refl (unused_then port slot) (all_fated.left port slot);
     awaiting_disposition = all_fated.parked;
     only_dead_ports_park = unparked;
     driver_relation = all_fated.driver_relation;
@@ -201,5 +201,5 @@ module _ (laws : ResetLaws) (s taken settled : ServerState) (booked : ServerInva
     pub its_reissued : AreReissued laws.prerequisites settled keeps_all z z_reached stands_regained 4 new
     its_reissued = all_reissued laws.prerequisites settled keeps_all z z_reached stands_regained taken.probe_results (ap (λ (c : ServerState). c.probe_results) its_fated.settings) many new issues
 
-    pub settled_at_last : SettledInvariant new
+    pub settled_at_last : InvariantWithNoneDue new
     settled_at_last = settled_then laws.prerequisites settled keeps_all z z_reached stands_regained new its_reissued

@@ -31,11 +31,11 @@ use Rattle.hba_regs.specs.declared.reg.Reg.TheVariants.{Ghc}
 use Rattle.host_boot.specs.TakeOver.{probe_result_of}
 use Rattle.request_queue.specs.BookEntries.{unanswered_of, due_ids}
 use Rattle.server_history.specs.Prerequisites.{PrerequisiteLaws}
-use Rattle.server_history.specs.Histories.{ExtendsToSettled, ExtendsHistory}
+use Rattle.server_history.specs.Histories.{ExtendsToNoneDue, ExtendsHistory}
 use Rattle.server_history.specs.Revoking.{RevokesGrant}
-use Rattle.commands.specs.Batches.{IsBatchAccess}
+use Rattle.commands.specs.Batches.{IsCommandIssueAccess}
 use Rattle.server_history.specs.IssuingAndAnswering.{IssuesDueOfPort, IssuesTogetherIfAny}
-use Rattle.server_history.specs.ServerState.{InCallInvariant, MachineRelation, SettledInvariant, ServerState, mode_in, ports_of, state_of}
+use Rattle.server_history.specs.ServerState.{InCallInvariant, MachineRelation, InvariantWithNoneDue, ServerState, mode_in, ports_of, state_of}
 use Rattle.server_history.proofs.any_turn.JoinedParts.{ready_or_not}
 use Rattle.server_history.proofs.plain_calls.Acceptances.{issuing_clears_none, issuing_spares_host}
 use Rattle.server_history.proofs.plain_calls.IssueRounds.{AreIssued, any_append, belong_on, dues, dues_carried, each_driven, each_issued, each_settings, last_on, lawful_on, or_none, settled}
@@ -124,7 +124,7 @@ module _ (laws : PrerequisiteLaws) (s : ServerState) (client : ClientId) (number
 
   -- ---- where it is ready
 
-  module _ (t : SettledInvariant s) where
+  module _ (t : InvariantWithNoneDue s) where
     abbrev k : InCallInvariant s
     k = t.in_call_invariant
 
@@ -135,13 +135,13 @@ module _ (laws : PrerequisiteLaws) (s : ServerState) (client : ClientId) (number
     kept = revoked_kept laws s client number replies mid r k
 
     apart : (q : Port) → q ≢ port → NoneDue (mode_in s q) (unanswered_of r.now.book) q
-    apart = none_other laws s client number replies mid r k t.nothing_is_due
+    apart = none_other laws s client number replies mid r k t.none_is_due
 
     port_low : port.0 < 4
     port_low = let low = (All-contains IsValidRow s.grants r.has.0 k.rows_are_valid r.has.1).port_is_at_most_3 in omega (arith, low)
 
     module _ (new : ServerState) (issues : IssuesDueOfPort port then_is new) where
-      settles : SettledInvariant new
+      settles : InvariantWithNoneDue new
       settles = settled laws port then_is new kept apart issues
 
       abbrev ids : List RequestId
@@ -159,10 +159,10 @@ module _ (laws : PrerequisiteLaws) (s : ServerState) (client : ClientId) (number
       quiet : state_of (probe_result_of s.probe_results port.0) ≢ ReadyState → ExtendsHistory s new (RevokeOf client number) (WasRevoked (Some replies))
       quiet other =
           subst (λ (n : ServerState). ExtendsHistory s n (RevokeOf client number) (WasRevoked (Some replies))) (sym (with_issue_undone other))
-          (quiet_event (holding then_is kept) (stays laws s k) other (λ q ready. (subst SettledInvariant (with_issue_undone other) settles).nothing_is_due q) may)
+          (quiet_event (holding then_is kept) (stays laws s k) other (λ q ready. (subst InvariantWithNoneDue (with_issue_undone other) settles).none_is_due q) may)
 
       module _ (ready : state_of (probe_result_of s.probe_results port.0) ≡ ReadyState) where
-        driven : IsDrivenBy (IsBatchAccess port) s.device new.device
+        driven : IsDrivenBy (IsCommandIssueAccess port) s.device new.device
         driven = each_driven laws port ids then_is new issues
 
         event : ExtendsHistory s new (RevokeOf client number) (WasRevoked (Some replies))
@@ -172,11 +172,11 @@ module _ (laws : PrerequisiteLaws) (s : ServerState) (client : ClientId) (number
             (belong_on mode port {D = DeviceStep} (RevokeOf client number) (ports_of new) (λ p own. (its_ready p own, its_mode p own)) x.steps early x.only (revoked.belong laws s client number replies mid r m h (ports_of new)))
             (last_on mode port x.steps early x.only x.last (revoked.last laws s client number replies mid r m h) (λ id late first_too. false≢true (sym (revoked.issue_none laws s client number replies mid r m h id) ∙ first_too)))
             (lawful_on mode port old.abstract no_evidence (ports_of new) x.steps early x.only (revoked.lawful laws s client number replies mid r m h old.abstract no_evidence (ports_of new)))
-            (answers new (ap ports_of same) (ap (λ (n : ServerState). n.grants) same) old.abstract leads.state_is_at_history_end.ports_are h x.steps (no_answer_issuing mode port x.steps x.only) (issuing_answers mode port x.steps early x.only) stands (λ q on. settles.nothing_is_due q))
+            (answers new (ap ports_of same) (ap (λ (n : ServerState). n.grants) same) old.abstract leads.state_is_at_history_end.ports_are h x.steps (no_answer_issuing mode port x.steps x.only) (issuing_answers mode port x.steps early x.only) stands (λ q on. settles.none_is_due q))
             tt
             driven.accesses
-            (driven.all_are_done, (revoked.has_row laws s client number replies mid r m h, All-weaker (IsBatchAccess port) (StoresOrWritesSactOrCi port) (λ access here. issuing_is port port_low access here) driven.accesses driven.accesses_are_of_kind, λ other. absurd (other its_state)))
-            (λ q. All-weaker (IsBatchAccess port) (WritesNeitherCmdNorSctl q) (issuing_leaves laws port q) driven.accesses driven.accesses_are_of_kind)
+            (driven.all_are_done, (revoked.has_row laws s client number replies mid r m h, All-weaker (IsCommandIssueAccess port) (StoresOrWritesSactOrCi port) (λ access here. issuing_is port port_low access here) driven.accesses driven.accesses_are_of_kind, λ other. absurd (other its_state)))
+            (λ q. All-weaker (IsCommandIssueAccess port) (WritesNeitherCmdNorSctl q) (issuing_leaves laws port q) driven.accesses driven.accesses_are_of_kind)
             (λ q is_ready. due_now q)
             (λ q. record {
               finds_done = tt;
@@ -184,7 +184,7 @@ module _ (laws : PrerequisiteLaws) (s : ServerState) (client : ClientId) (number
               probes_disk = tt;
               boots_anew = tt;
               loses_no_error = laws.calls.ordinary_accesses_lose_no_error q (with_device s.device old) new.device driven.accesses (told_by s.device old.abstract.ports) (ports_of new) k.adapter_is_on driven.all_are_done
-                  (All-weaker (IsBatchAccess port) (DoesNotWrite Ghc) (issuing_spares_host port) driven.accesses driven.accesses_are_of_kind) (All-weaker (IsBatchAccess port) (WritesOneToNoTroubleBit q) (issuing_clears_none port q) driven.accesses driven.accesses_are_of_kind);
+                  (All-weaker (IsCommandIssueAccess port) (DoesNotWrite Ghc) (issuing_spares_host port) driven.accesses driven.accesses_are_of_kind) (All-weaker (IsCommandIssueAccess port) (WritesOneToNoTroubleBit q) (issuing_clears_none port q) driven.accesses driven.accesses_are_of_kind);
               runs_well_anew = λ i. absurd (uninterrupted s.device old.abstract.ports q i);
               handles_evidence = uninterrupted s.device old.abstract.ports q;
             })
@@ -235,13 +235,13 @@ module _ (laws : PrerequisiteLaws) (s : ServerState) (client : ClientId) (number
       pub adds : ExtendsHistory s new (RevokeOf client number) (WasRevoked (Some replies))
       adds = ⊎_elim event quiet (ready_or_not (state_of (probe_result_of s.probe_results port.0)))
 
-revocation_by : (laws : PrerequisiteLaws) (s mid new : ServerState) (client : ClientId) (number : ℕ) (replies : List Reply) → SettledInvariant s → (each : RevokesEach client number replies s mid) → IssuesDueOfPort each.has.0.port mid new
-    → ExtendsToSettled s new (RevokeOf client number) (WasRevoked (Some replies))
-revocation_by laws s mid new client number replies t each i = record { settled_invariant = settles laws s client number replies mid each t new issues; extends_history = adds laws s client number replies mid each t new issues }
+revocation_by : (laws : PrerequisiteLaws) (s mid new : ServerState) (client : ClientId) (number : ℕ) (replies : List Reply) → InvariantWithNoneDue s → (each : RevokesEach client number replies s mid) → IssuesDueOfPort each.has.0.port mid new
+    → ExtendsToNoneDue s new (RevokeOf client number) (WasRevoked (Some replies))
+revocation_by laws s mid new client number replies t each i = record { invariant_with_none_due = settles laws s client number replies mid each t new issues; extends_history = adds laws s client number replies mid each t new issues }
   where
     issues : IssuesDueOfPort each.has.0.port (with_revoked client number mid.table each.now.book s) new
     issues = subst (λ (n : ServerState). IssuesDueOfPort each.has.0.port n new) each.server i
 
-pub revocation : PrerequisiteLaws → (s mid new : ServerState) (client : ClientId) (number : ℕ) (replies : List Reply) → SettledInvariant s → (r : RevokesGrant client number replies s mid) → IssuesDueOfPort r.has_grant_row.0.port mid new
-    → ExtendsToSettled s new (RevokeOf client number) (WasRevoked (Some replies))
+pub revocation : PrerequisiteLaws → (s mid new : ServerState) (client : ClientId) (number : ℕ) (replies : List Reply) → InvariantWithNoneDue s → (r : RevokesGrant client number replies s mid) → IssuesDueOfPort r.has_grant_row.0.port mid new
+    → ExtendsToNoneDue s new (RevokeOf client number) (WasRevoked (Some replies))
 revocation laws s mid new client number replies t r i = revocation_by laws s mid new client number replies t (revokes_each laws s mid client number replies t.in_call_invariant.book_is_well_formed t.in_call_invariant.entries_are_well_formed r) i

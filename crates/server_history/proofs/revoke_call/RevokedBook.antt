@@ -8,7 +8,7 @@ use Rattle.ata_types.specs.declared.request.ClientId.{ClientId}
 use Rattle.ata_types.specs.declared.request.Outcome.TheVariants.{Aborted, Revoked}
 use Rattle.request_queue.specs.BookEntries.{BookEntry, IsEarlier, BookIsWellFormed, with_revoked_mark_if_under_grant, waits_under}
 use Rattle.request_queue.specs.declared.PendingRequest.{PendingRequest}
-use Rattle.server_history.specs.Revoking.{with_grant_removed_and_its_requests_marked}
+use Rattle.server_history.specs.Revoking.{with_grant_revoked}
 use Rattle.server_history.specs.ServerState.{RevokedMarkInvariant, ServerState, RevokedMarkAgrees}
 use Rattle.server_history.proofs.dispositions.FittingFates.{AllFit, ends_fits}
 use Rattle.server_history.proofs.plain_calls.IssueRounds.{not_true}
@@ -61,7 +61,7 @@ module _ (client : ClientId) (number : ℕ) where
 
   module _ (s : ServerState) where
     abbrev pub old : ServerState
-    old = with_grant_removed_and_its_requests_marked client number s
+    old = with_grant_revoked client number s
 
     -- the requests that are told Revoked
     abbrev pub requests : List BookEntry

@@ -30,7 +30,7 @@ use Rattle.request_queue.specs.declared.disposition.Disposition.TheVariants.{Com
 use Rattle.server_history.specs.Prerequisites.{PrerequisiteLaws}
 use Rattle.server_history.specs.ResolvedRequests.{IsResolveStep, AreResolvable, AreResolvedInMachine}
 use Rattle.server_history.specs.ErrorHandling.{book_and_loans_of}
-use Rattle.server_history.specs.Revoking.{with_grant_removed_and_its_requests_marked}
+use Rattle.server_history.specs.Revoking.{with_grant_revoked}
 use Rattle.server_history.specs.ServerState.{KeptRequestsRelation, RevokedMarkInvariant, MachineRelation, ServerState}
 use Rattle.server_history.proofs.any_turn.JoinedParts.{answers_append}
 use Rattle.server_history.proofs.any_turn.TurnsInOrder.{belong_join, lawful_join}
@@ -80,7 +80,7 @@ module _ (laws : PrerequisiteLaws) (s : ServerState) (client : ClientId) (number
   marked = may_revoke.marked
 
   abbrev old : ServerState
-  old = with_grant_removed_and_its_requests_marked client number s
+  old = with_grant_revoked client number s
 
   abbrev port : Port
   port = r.has.0.port
@@ -196,7 +196,7 @@ module _ (laws : PrerequisiteLaws) (s : ServerState) (client : ClientId) (number
   stands_z : MachineRelation new z
   stands_z = record {
     uses = is.uses;
-    slot_uses_agree_unless_dead = is.slot_uses_agree_unless_dead;
+    slot_states_agree_unless_dead = is.slot_states_agree_unless_dead;
     awaiting_disposition = met.parked;
     only_dead_ports_park = λ q alive. ⊎_elim
         (λ (same : q ≡ port.0).

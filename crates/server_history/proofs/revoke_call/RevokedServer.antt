@@ -16,7 +16,7 @@ use Rattle.host_boot.specs.TakeOver.{probe_result_of}
 use Rattle.request_queue.specs.BookEntries.{BookEntry, with_requests_under_grant_revoked, unanswered_of, IsWellFormedEntry}
 use Rattle.server_history.specs.Prerequisites.{PrerequisiteLaws}
 use Rattle.server_history.specs.ErrorHandling.{book_and_loans_of}
-use Rattle.server_history.specs.Revoking.{with_grant_removed_and_its_requests_marked}
+use Rattle.server_history.specs.Revoking.{with_grant_revoked}
 use Rattle.server_history.specs.ServerState.{InCallInvariant, ServerState, is_served, quarantined_at, mode_in, state_of}
 use Rattle.server_history.specs.StuckServer.{StuckInvariant, ServerInvariant}
 use Rattle.server_history.proofs.failed_reset.StuckInstant.{booked_then}
@@ -66,7 +66,7 @@ module _ (laws : PrerequisiteLaws) (s : ServerState) (client : ClientId) (number
         (after k.machine (revoked.steps laws s client number replies mid r k.machine may_revoke)) (revoked.reached_then laws s client number replies mid r k.machine may_revoke)
         (revoked.stands laws s client number replies mid r k.machine may_revoke)
       where
-        left : IsLeft r.has.0.port ends_revoked (waiting_under client number (with_grant_removed_and_its_requests_marked client number s).book) (book_and_loans_of r.has.0.port (with_grant_removed_and_its_requests_marked client number s)) r.now
+        left : IsLeft r.has.0.port ends_revoked (waiting_under client number (with_grant_revoked client number s).book) (book_and_loans_of r.has.0.port (with_grant_revoked client number s)) r.now
         left = revoked.left laws s client number replies mid r k.machine may_revoke
 
     pub none_other : ((q : Port) → NoneDue (mode_in s q) (unanswered_of s.book) q) → (q : Port) → q ≢ r.has.0.port → NoneDue (mode_in s q) (unanswered_of r.now.book) q
@@ -104,5 +104,5 @@ module _ (laws : PrerequisiteLaws) (s : ServerState) (client : ClientId) (number
       served_ports_are_dead = t.served_ports_are_dead;
     }
       where
-        left : IsLeft r.has.0.port ends_revoked (waiting_under client number (with_grant_removed_and_its_requests_marked client number s).book) (book_and_loans_of r.has.0.port (with_grant_removed_and_its_requests_marked client number s)) r.now
+        left : IsLeft r.has.0.port ends_revoked (waiting_under client number (with_grant_revoked client number s).book) (book_and_loans_of r.has.0.port (with_grant_revoked client number s)) r.now
         left = revoked.left laws s client number replies mid r b.machine may_revoke_off

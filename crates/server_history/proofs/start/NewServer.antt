@@ -45,7 +45,7 @@ use Rattle.block_machine.specs.DueRequests.{NoneDue}
 use Rattle.request_queue.specs.BookEntries.{BookEntry, IsWellFormedEntry, BookIsWellFormed, unanswered_of}
 use Rattle.request_queue.specs.BookRelation.{BookRelation}
 use Rattle.slots.specs.SlotUses.{PortSlots}
-use Rattle.server_history.specs.ServerState.{ServerState, SlotUsesAgreeUnlessDead, InCallInvariant, MachineRelation, IsNewServer, PortInvariant, SettledInvariant, SlotUseAgreesUnlessDead, is_served, KeptRequestsRelation, DifferInRequest, quarantined_at, mode_in, ports_of, state_of, slot_state_of, used_for, RevokedMarkInvariant}
+use Rattle.server_history.specs.ServerState.{ServerState, SlotStatesAgreeUnlessDead, InCallInvariant, MachineRelation, IsNewServer, PortInvariant, InvariantWithNoneDue, SlotStateAgreesUnlessDead, is_served, KeptRequestsRelation, DifferInRequest, quarantined_at, mode_in, ports_of, state_of, slot_state_of_use, used_for, RevokedMarkInvariant}
 use Rattle.server_history.proofs.state.FollowedAccesses.{followed_adds}
 use Rattle.server_history.proofs.start.TakenOverPorts.{behind, found_is, four, none_past, ports_on, served_there}
 use Rattle.server_history.proofs.state.FirstMembers.{nowhere}
@@ -147,8 +147,8 @@ kept_fit s k = record {
 
 -- a slot that was left as it was is used as a server without requests has it
 pub left_as : (ports found : List ProbeResult) (slots : List PortSlots) (uses : SlotStates) (port slot : ℕ) → probe_result_of found port ≡ probe_result_of ports port → used_for slots port slot ≡ None → IsUnusedOrIdentifyOfDeadPort ports uses port slot
-    → SlotUseAgreesUnlessDead (probe_result_of found port) (used_for slots port slot) (uses port slot)
-left_as ports found list uses port slot same none (inl free) = λ _. free ∙ sym (ap slot_state_of none)
+    → SlotStateAgreesUnlessDead (probe_result_of found port) (used_for slots port slot) (uses port slot)
+left_as ports found list uses port slot same none (inl free) = λ _. free ∙ sym (ap slot_state_of_use none)
 left_as ports found list uses port slot same none (inr (zero_is, own, dead)) = λ alive. absurd (alive (same ∙ dead))
 
 -- where no request is kept, no loan is
@@ -203,15 +203,15 @@ module _ (below : PrerequisiteLaws) (laws : TakeOverLaws) (s : ServerState) (hos
   }
 
   reached_first : IsReachable first_machine
-  reached_first = record { initial_machine = first_machine; steps_since = []; is_initial = start; is_legal = tt; leads_to_machine = refl }
+  reached_first = record { initial_machine = first_machine; steps_since = []; is_initial = start; steps_since_are_enabled = tt; leads_to_machine = refl }
 
-  uses_are : SlotUsesAgreeUnlessDead s taken.uses
+  uses_are : SlotStatesAgreeUnlessDead s taken.uses
   uses_are port slot = left_as host.ports s.probe_results s.slots taken.uses port slot (found_as port) (n.no_slot_is_used port slot) (taken.slots_are_unused_or_dead port slot)
 
   stands_for : (m : Machine) → IsInitial m → KeepsLoansAndPendingsOnlyAdvance first_machine m → DriverRelation m (driver_state_of taken.uses (λ port. []) s.device) → MachineRelation s m
   stands_for m begun spares knows = record {
     uses = taken.uses;
-    slot_uses_agree_unless_dead = uses_are;
+    slot_states_agree_unless_dead = uses_are;
     awaiting_disposition = λ port. [];
     only_dead_ports_park = λ port alive. refl;
     driver_relation = knows;
@@ -274,7 +274,7 @@ module _ (below : PrerequisiteLaws) (laws : TakeOverLaws) (s : ServerState) (hos
   none_due : (port : Port) → NoneDue (mode_in s port) (unanswered_of s.book) port
   none_due port = subst (λ (book : List BookEntry). NoneDue (mode_in s port) (unanswered_of book) port) (sym n.book_is_empty) (λ r own due. nowhere r due.is_in_book)
 
-  pub new_server : SettledInvariant s × StartsHistory s
+  pub new_server : InvariantWithNoneDue s × StartsHistory s
   new_server =
       let x = (followed_adds below taken.followed (λ port slot. Free) (λ port. []) refl).simulates first_machine reached_first (machine_knows below d s.grants (owner_of s.table) start is told) in
       let later : Machine = after first_machine x.0 in
@@ -283,7 +283,7 @@ module _ (below : PrerequisiteLaws) (laws : TakeOverLaws) (s : ServerState) (hos
       let stands : MachineRelation s later = stands_for later begun spares x.2 in
       let reached : IsReachable later = below.steps_and_accesses.reachable_stays_reachable first_machine x.0 reached_first x.1 in
       let kept : InCallInvariant s = kept_by later reached stands in (
-        record { in_call_invariant = kept; nothing_is_due = none_due },
+        record { in_call_invariant = kept; none_is_due = none_due },
         (
           record { device = s.device; abstract = record { machine = later; ports = ports_of s } },
           record {

@@ -4,7 +4,7 @@ use Rattle.std.proofs.lemmas.Bool.{false≢true, cases_lt}
 use Rattle.adapter.specs.Device.{Device}
 use Rattle.adapter.specs.Idle.{IsIdle}
 use Rattle.refinement.specs.PortFacts.{RecordsFaultsIfSt}
-use Rattle.refinement.specs.Halting.{NotLogOnlyAndQueuedHaltHasTakenCommand}
+use Rattle.refinement.specs.Halting.{HaltFitsTakenCommands}
 use Rattle.refinement.specs.PreservedParts.{HasDet3IfDiskPresent}
 use Rattle.ata_types.specs.declared.PortState.{PortState}
 use Rattle.ata_types.specs.declared.PortState.TheVariants.{Absent, Ready as ReadyState}
@@ -80,7 +80,7 @@ module _ (laws : TakeOverLaws) (s : ServerState) (host : Host) (d : Device) (is 
       not_ready : (state : PortState) → state ≡ ReadyState → BacksProbeResult (wanted_of s.wanted port) (Unready state) port s.device → ⊥
       not_ready state same stands = (subst (λ (t : PortState). BacksProbeResult (wanted_of s.wanted port) (Unready t) port s.device) same stands).1
 
-  halts_as : (port : ℕ) → port < 4 → (f : ProbeResult) → probe_result_of s.probe_results port ≡ f → state_of f ≡ ReadyState → NotLogOnlyAndQueuedHaltHasTakenCommand (s.device.port port)
+  halts_as : (port : ℕ) → port < 4 → (f : ProbeResult) → probe_result_of s.probe_results port ≡ f → state_of f ≡ ReadyState → HaltFitsTakenCommands (s.device.port port)
   halts_as port below Unserved e ready = let z : Absent ≡ ReadyState = ready in absurd cc
   halts_as port below (Ready info) e ready = taken.halt_is_of_taken port below info (sym (found_is port) ∙ e)
   halts_as port below (Unready state) e ready = absurd (not_ready state ready (subst (λ (f : ProbeResult). BacksProbeResult (wanted_of s.wanted port) f port s.device) e (behind port below)))
@@ -97,6 +97,6 @@ module _ (laws : TakeOverLaws) (s : ServerState) (host : Host) (d : Device) (is 
     probe_result_is_backed = laws_below.recovery.backing_begins (wanted_of s.wanted port) (probe_result_of s.probe_results port) port s.device (behind port below);
     ready_engine_runs = λ ready. (running port below ready).0;
     bad_disk_is_shown_if_in = shown_as port (probe_result_of s.probe_results port) refl;
-    ready_has_disk_if_shown = own_as port (probe_result_of s.probe_results port) refl;
-    ready_is_not_log_only_and_halt_is_of_taken = halts_as port below (probe_result_of s.probe_results port) refl;
+    ready_has_disk_if_det_3 = own_as port (probe_result_of s.probe_results port) refl;
+    ready_halt_fits_taken_commands = halts_as port below (probe_result_of s.probe_results port) refl;
   }

@@ -27,7 +27,7 @@ use Rattle.host_boot.specs.TakeOver.{probe_result_of}
 use Rattle.host_boot.specs.declared.ProbeResult.{ProbeResult}
 use Rattle.driver_history.specs.Evidence.{IsEvidenced}
 use Rattle.driver_history.specs.EvidenceHandling.{OnlyFailedPortsRequeueIfService}
-use Rattle.driver_history.specs.Histories.{IsFirstInstant, ExplainsAccesses, IssuesAllDue, CallCorresponds, PortCorresponds}
+use Rattle.driver_history.specs.Histories.{HasDriverInvariantAeAndIe, ExplainsAccesses, IssuesAllDue, CallCorresponds, PortCorresponds}
 use Rattle.driver_history.specs.AccessTrace.{WritesNeitherCmdNorSctl}
 use Rattle.driver_history.specs.PortInvariants.{DriverInvariant}
 use Rattle.server_history.specs.Histories.{LeadsToServer}
@@ -88,7 +88,7 @@ pub machine_with : PrerequisiteLaws → (s : ServerState) (new : Device) (m late
     → MachineRelation (record s { device = new }) later
 machine_with laws s new m later is spares knows = record {
   uses = is.uses;
-  slot_uses_agree_unless_dead = is.slot_uses_agree_unless_dead;
+  slot_states_agree_unless_dead = is.slot_states_agree_unless_dead;
   awaiting_disposition = is.awaiting_disposition;
   only_dead_ports_park = is.only_dead_ports_park;
   driver_relation = knows;
@@ -202,7 +202,7 @@ lead_with laws first past s new ask said evidence steps wanted_is leads holds fi
   refl,
   record {
     history = (
-      subst (λ wanted. IsHistory (IsFirstInstant wanted) (CallCorresponds wanted) first past) (sym wanted_is) leads.history,
+      subst (λ wanted. IsHistory (HasDriverInvariantAeAndIe wanted) (CallCorresponds wanted) first past) (sym wanted_is) leads.history,
       record { steps_are_enabled = may; steps_are_of_call = belong; issue_is_last_of_request = last; answers_are_lawful = lawful; ports_are_well_formed = fit; unanswered_keep_serial_and_size = disks; result_matches_steps = answered },
       subst (λ (d : Device). CallCorresponds new.wanted (with_device d old) h) (sym leads.state_is_at_history_end.device_is) ties,
     );

@@ -9,7 +9,7 @@ use Rattle.host_boot.specs.declared.ProbeResult.{ProbeResult}
 use Rattle.server_history.specs.Prerequisites.{PrerequisiteLaws}
 use Rattle.slots.specs.SlotUses.{PortSlots, with_use}
 use Rattle.slots.specs.declared.SlotUse.{SlotUse}
-use Rattle.server_history.specs.ServerState.{SlotsInvariant, SlotUseAgreesUnlessDead, mode_at, no_slots, usable_slots_of, slot_state_of, used_for, with_slot}
+use Rattle.server_history.specs.ServerState.{SlotsInvariant, SlotStateAgreesUnlessDead, mode_at, no_slots, usable_slots_of, slot_state_of_use, used_for, with_slot}
 
 -- it is this slot, or another
 pub its_or_other : (port slot q k : ℕ) → ((q ≡ port) × (k ≡ slot)) ⊎ (q ≡ port → k ≡ slot → ⊥)
@@ -37,16 +37,16 @@ module _ (slots : List PortSlots) (port slot : ℕ) (used : Option SlotUse) (low
       (cases_eq q port)
 
   -- where its uses are what they were but for this slot
-  pub placed_uses : PrerequisiteLaws → (found : List ProbeResult) (uses : SlotStates) → ((q k : ℕ) → SlotUseAgreesUnlessDead (probe_result_of found q) (used_for slots q k) (uses q k))
-      → (q k : ℕ) → SlotUseAgreesUnlessDead (probe_result_of found q) (used_for (with_slot slots port slot used) q k) (set_slot_state uses port slot (slot_state_of used) q k)
+  pub placed_uses : PrerequisiteLaws → (found : List ProbeResult) (uses : SlotStates) → ((q k : ℕ) → SlotStateAgreesUnlessDead (probe_result_of found q) (used_for slots q k) (uses q k))
+      → (q k : ℕ) → SlotStateAgreesUnlessDead (probe_result_of found q) (used_for (with_slot slots port slot used) q k) (set_slot_state uses port slot (slot_state_of_use used) q k)
   placed_uses laws found uses was q k = ⊎_elim
       (λ (at : (q ≡ port) × (k ≡ slot)).
-      λ _. ap (λ (p : ℕ). set_slot_state uses port slot (slot_state_of used) p k) at.0 ∙ ap (λ (n : ℕ). set_slot_state uses port slot (slot_state_of used) port n) at.1 ∙ laws.slots.set_slot_has_state uses port slot (slot_state_of used)
-      ∙ ap slot_state_of (sym placed_same ∙ ap (λ (n : ℕ). used_for (with_slot slots port slot used) port n) (sym at.1) ∙ ap (λ (p : ℕ). used_for (with_slot slots port slot used) p k) (sym at.0)))
+      λ _. ap (λ (p : ℕ). set_slot_state uses port slot (slot_state_of_use used) p k) at.0 ∙ ap (λ (n : ℕ). set_slot_state uses port slot (slot_state_of_use used) port n) at.1 ∙ laws.slots.set_slot_has_state uses port slot (slot_state_of_use used)
+      ∙ ap slot_state_of_use (sym placed_same ∙ ap (λ (n : ℕ). used_for (with_slot slots port slot used) port n) (sym at.1) ∙ ap (λ (p : ℕ). used_for (with_slot slots port slot used) p k) (sym at.0)))
       (λ (there : q ≡ port → k ≡ slot → ⊥).
-      let U : SlotState → Type 0 = λ u. SlotUseAgreesUnlessDead (probe_result_of found q) (used_for (with_slot slots port slot used) q k) u in
-      let P : Option SlotUse → Type 0 = λ p. SlotUseAgreesUnlessDead (probe_result_of found q) p (uses q k) in
-      subst U (sym (laws.recovery.setting_slot_keeps_others uses port slot (slot_state_of used) q k there)) (subst P (sym (placed_other q k there)) (was q k)))
+      let U : SlotState → Type 0 = λ u. SlotStateAgreesUnlessDead (probe_result_of found q) (used_for (with_slot slots port slot used) q k) u in
+      let P : Option SlotUse → Type 0 = λ p. SlotStateAgreesUnlessDead (probe_result_of found q) p (uses q k) in
+      subst U (sym (laws.recovery.setting_slot_keeps_others uses port slot (slot_state_of_use used) q k there)) (subst P (sym (placed_other q k there)) (was q k)))
       (its_or_other port slot q k)
 
   -- what is used afterwards, but for this slot, was used before

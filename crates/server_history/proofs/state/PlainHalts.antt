@@ -14,7 +14,7 @@ use Rattle.adapter.specs.Device.Halt.{HaltedPlain, HaltedQueued, LogOnly, NotHal
 use Rattle.adapter.specs.Steps.{halt_after_start}
 use Rattle.refinement.specs.Acts.{DriverSlots, driver_state_of_slots}
 use Rattle.refinement.specs.Fragments.{AnySlotStates, IsSimulated}
-use Rattle.refinement.specs.Halting.{NotLogOnlyAndQueuedHaltHasTakenCommand, NotLogOnlyAndQueuedHaltHasTakenCommandIfSt}
+use Rattle.refinement.specs.Halting.{HaltFitsTakenCommands, HaltFitsTakenCommandsIfSt}
 use Rattle.refinement.specs.PreservedParts.{DoesNotWrite}
 use Rattle.refinement.specs.HaltRecovery.{WorksOnUnqueuedCommandsOnly}
 use Rattle.refinement.specs.Slots.{IsEmptySlot, RelatesSlot, IsInSomeStage, SlotState}
@@ -61,7 +61,7 @@ module _ (laws : PrerequisiteLaws) (s : ServerState) (k : InCallInvariant s) (po
       (f.unarmed, λ t is. let z : None ≡ Some t = sym f.is_not_taken ∙ is in absurd cc))
       (used_or_not (used_for s.slots port.0 slot))
 
-  pub plain_port_stays_plain : NotLogOnlyAndQueuedHaltHasTakenCommand (s.device.port port.0) → WorksOnUnqueuedCommandsOnly (s.device.port port.0)
+  pub plain_port_stays_plain : HaltFitsTakenCommands (s.device.port port.0) → WorksOnUnqueuedCommandsOnly (s.device.port port.0)
   plain_port_stays_plain h = record { start_ends_halt = by (s.device.port port.0).halt refl; unarmed = λ slot. (each slot).0; taken_are_plain = λ slot t is. (each slot).1 t is }
     where
       by : (halt : Halt) → (s.device.port port.0).halt ≡ halt → halt_after_start (s.device.port port.0).halt ≡ NotHalted
@@ -74,7 +74,7 @@ module _ (laws : PrerequisiteLaws) (s : ServerState) (k : InCallInvariant s) (po
 
 -- so it stays over what was followed, without a write of PxCMD
 pub followed_halts : PrerequisiteLaws → (port : Port) (May : Access → Type 0) (s : ServerState) (k : InCallInvariant s) (new : Device) → (f : IsSimulated May AnySlotStates s.device new) → ((access : Access) → May access → DoesNotWrite (Px port Cmd) access)
-    → NotLogOnlyAndQueuedHaltHasTakenCommandIfSt (s.device.port port.0) → NotLogOnlyAndQueuedHaltHasTakenCommandIfSt (new.port port.0)
+    → HaltFitsTakenCommandsIfSt (s.device.port port.0) → HaltFitsTakenCommandsIfSt (new.port port.0)
 followed_halts laws port May s k new f spares h =
     let slots : DriverSlots = record { slot_states = k.machine_relation.uses; awaiting_disposition = k.machine_relation.awaiting_disposition } in
     let c = f.acts_reach slots k.machine k.reached k.machine_relation.driver_relation tt in
@@ -82,6 +82,6 @@ followed_halts laws port May s k new f spares h =
     (subst (All (DoesNotWrite (Px port Cmd))) (sym c.accesses_match_acts) (All-weaker May (DoesNotWrite (Px port Cmd)) spares f.is_driven.accesses f.is_driven.accesses_are_of_kind)) h
 
 -- and so it is once a port was recovered
-pub again_halts : PrerequisiteLaws → (queued : Bool) (port : ℕ) (old new : Device) → RunsAgain queued port old new → (queued ≡ false → WorksOnUnqueuedCommandsOnly (old.port port)) → NotLogOnlyAndQueuedHaltHasTakenCommand (new.port port)
-again_halts laws true port old new again plainly = laws.port_error.unhalted_has_no_halt (new.port port) (again.queued_halt_ends refl)
+pub again_halts : PrerequisiteLaws → (queued : Bool) (port : ℕ) (old new : Device) → RunsAgain queued port old new → (queued ≡ false → WorksOnUnqueuedCommandsOnly (old.port port)) → HaltFitsTakenCommands (new.port port)
+again_halts laws true port old new again plainly = laws.port_error.not_halted_fits_taken_commands (new.port port) (again.queued_halt_ends refl)
 again_halts laws false port old new again plainly = laws.port_error.plain_port_halt_is_of_taken (new.port port) (again.plain_port_stays_plain refl (plainly refl))

@@ -20,7 +20,8 @@ use Rattle.block_machine.specs.Ports.{IsValidMode}
 use Rattle.block_machine.specs.State.{Machine, Pending}
 use Rattle.block_machine.specs.Steps.{MayStillMove, NoneKept}
 use Rattle.block_machine.specs.declared.due.QueueMode.{QueueMode}
-use Rattle.refinement.specs.Slots.{Free, Own, Serves, SlotState, IsDropped, IsEnded, IsOver, RelatesSlot, ServesRequest, IsInSomeStage}
+use Rattle.adapter.specs.OneCommand.{SlotHasNoCommand}
+use Rattle.refinement.specs.Slots.{Free, Own, Serves, SlotState, IsDropped, IsEnded, RelatesSlot, ServesRequest, IsInSomeStage}
 use Rattle.host_boot.specs.TakeOver.{StillBacksProbeResult, probe_result_of, wanted_of}
 use Rattle.host_boot.specs.declared.ProbeResult.{ProbeResult}
 use Rattle.host_boot.specs.declared.ProbeResult.TheVariants.{Unserved, Ready, Unready}
@@ -31,7 +32,7 @@ use Rattle.std.proofs.lemmas.List.{get_or_past}
 use Rattle.slots.specs.SlotUses.{PortSlots, use_at}
 use Rattle.slots.specs.declared.SlotUse.{SlotUse}
 use Rattle.server_history.specs.IssuingAndAnswering.{is_used}
-use Rattle.server_history.specs.ServerState.{ServerState, InCallInvariant, MachineRelation, SlotUseAgreesUnlessDead, is_served, mode_at, probed_mode, no_slots, slots_at, state_of, usable_slots_of, slot_state_of, used_for}
+use Rattle.server_history.specs.ServerState.{ServerState, InCallInvariant, MachineRelation, SlotStateAgreesUnlessDead, is_served, mode_at, probed_mode, no_slots, slots_at, state_of, usable_slots_of, slot_state_of_use, used_for}
 use Rattle.server_history.proofs.state.PairedLists.{at_right}
 use Rattle.server_history.proofs.state.FirstMembers.{nowhere}
 
@@ -129,7 +130,7 @@ queued_op mode Flush queued = absurd (false≢true (sym queued))
 -- ---- slots
 
 -- but on a dead port, a slot has no command of the driver's own
-pub not_own : (found : ProbeResult) (used : Option SlotUse) (u : SlotState) (o : Operation) → found ≢ Unready Dead → SlotUseAgreesUnlessDead found used u → u ≡ Own o → ⊥
+pub not_own : (found : ProbeResult) (used : Option SlotUse) (u : SlotState) (o : Operation) → found ≢ Unready Dead → SlotStateAgreesUnlessDead found used u → u ≡ Own o → ⊥
 not_own found None u o other is own = let z : Free ≡ Own o = sym (is other) ∙ own in cc
 not_own found (Some used) u o other is own = let z : Serves used.id ≡ Own o = sym (is other) ∙ own in cc
 
@@ -189,14 +190,14 @@ busy_used (Some u) busy = (u, refl)
 
 module _ (s : ServerState) (m : Machine) (port : ℕ) (is : MachineRelation s m) (ready : state_of (probe_result_of s.probe_results port) ≡ ReadyState) where
   -- a slot of a ready port is used as the server has it
-  pub ready_use : (slot : ℕ) → is.uses port slot ≡ slot_state_of (used_for s.slots port slot)
-  ready_use slot = is.slot_uses_agree_unless_dead port slot (not_dead s port ready)
+  pub ready_use : (slot : ℕ) → is.uses port slot ≡ slot_state_of_use (used_for s.slots port slot)
+  ready_use slot = is.slot_states_agree_unless_dead port slot (not_dead s port ready)
 
   pub serves_used : (slot : ℕ) (u : SlotUse) → used_for s.slots port slot ≡ Some u → is.uses port slot ≡ Serves u.id
-  serves_used slot u used = ready_use slot ∙ ap slot_state_of used
+  serves_used slot u used = ready_use slot ∙ ap slot_state_of_use used
 
   pub free_unused : (slot : ℕ) → used_for s.slots port slot ≡ None → is.uses port slot ≡ Free
-  free_unused slot unused = ready_use slot ∙ ap slot_state_of unused
+  free_unused slot unused = ready_use slot ∙ ap slot_state_of_use unused
 
   -- what serves a request is used for it
   pub used_serves : (slot : ℕ) (id : RequestId) → is.uses port slot ≡ Serves id → (u : SlotUse) × (used_for s.slots port slot ≡ Some u) × (u.id ≡ id)
@@ -277,10 +278,10 @@ issued_has s m port is k ready e here own issued = ⊎_elim
 
 -- the commands of these slots are over
 abbrev pub CommandsAreOver : Port → ℕ → Device → Type 0
-CommandsAreOver port done d = (slot : ℕ) → slot < 32 → bit done slot ≡ true → IsOver (d.port port.0) slot
+CommandsAreOver port done d = (slot : ℕ) → slot < 32 → bit done slot ≡ true → SlotHasNoCommand (d.port port.0) slot
 
 -- a command that is over has ended, or was dropped
-pub stage_over : (memory : ℕ → ℕ) (p : DevicePort) (port slot : ℕ) (e : Pending) (c : Meaning) (places : List ℕ) → IsInSomeStage memory p port slot e c places → IsOver p slot → IsEnded p slot e ⊎ IsDropped p slot e
+pub stage_over : (memory : ℕ → ℕ) (p : DevicePort) (port slot : ℕ) (e : Pending) (c : Meaning) (places : List ℕ) → IsInSomeStage memory p port slot e c places → SlotHasNoCommand p slot → IsEnded p slot e ⊎ IsDropped p slot e
 stage_over memory p port slot e c places (inl w) over = absurd (false≢true (sym over.is_not_issued ∙ w.issued))
 stage_over memory p port slot e c places (inr (inl t)) over = let x : None ≡ Some t.command = sym over.is_not_taken ∙ t.taken in absurd cc
 stage_over memory p port slot e c places (inr (inr left)) over = left

@@ -9,7 +9,7 @@ use Rattle.adapter.specs.Rules.{IsOn}
 use Rattle.adapter.specs.declared.command.Operation.TheVariants.{Identify}
 use Rattle.refinement.specs.Relation.{port_at}
 use Rattle.refinement.specs.Fragments.{IsDrivenBy, SparesOtherPorts, OnlyDeviceChangesPort, GainsNoMove}
-use Rattle.refinement.specs.Halting.{NotLogOnlyAndQueuedHaltHasTakenCommandIfSt}
+use Rattle.refinement.specs.Halting.{HaltFitsTakenCommandsIfSt}
 use Rattle.refinement.specs.PreservedParts.{SameAdapter}
 use Rattle.server_history.proofs.state.DrivenAccesses.{by_one}
 use Rattle.host_boot.specs.TakeOver.{StillBacksProbeResult, probe_result_of, wanted_of}
@@ -53,14 +53,14 @@ bytes_leave laws access old new is on does port =
 -- over accesses that serve ports, where the port is left to the device, unless it is ready, and a halt is of a taken command still
 pub port_on : PrerequisiteLaws → (wanted : List Wanted) (found : List ProbeResult) (port : ℕ) (old new : Device) → SameAdapter old new → IsOn old → IsDrivenBy WritesOnlyHbaIsPxIsCiOrSact old new
     → (state_of (probe_result_of found port) ≢ ReadyState → OnlyDeviceChangesPort (old.port port) (new.port port))
-    → (probe_result_of found port ≢ Unready Dead → GainsNoMove port Identify old new) → (NotLogOnlyAndQueuedHaltHasTakenCommandIfSt (old.port port) → NotLogOnlyAndQueuedHaltHasTakenCommandIfSt (new.port port)) → PortInvariant wanted found port old → PortInvariant wanted found port new
+    → (probe_result_of found port ≢ Unready Dead → GainsNoMove port Identify old new) → (HaltFitsTakenCommandsIfSt (old.port port) → HaltFitsTakenCommandsIfSt (new.port port)) → PortInvariant wanted found port old → PortInvariant wanted found port new
 port_on laws wanted found port old new same on by left silent halts is =
     record {
       probe_result_is_backed = behind (probe_result_of found port) left silent is.probe_result_is_backed;
       ready_engine_runs = λ ready. runs_on laws (port_at port) old new on by (is.ready_engine_runs ready);
       bad_disk_is_shown_if_in = λ bad. shown_on laws (port_at port) old new on by (is.bad_disk_is_shown_if_in bad);
-      ready_has_disk_if_shown = λ ready. laws.recovery.shown_disk_stays_in port by.accesses old new by.all_are_done (is.ready_has_disk_if_shown ready);
-      ready_is_not_log_only_and_halt_is_of_taken = λ ready. halts (λ _. is.ready_is_not_log_only_and_halt_is_of_taken ready) (runs_on laws (port_at port) old new on by (is.ready_engine_runs ready)).st_is_set;
+      ready_has_disk_if_det_3 = λ ready. laws.recovery.shown_disk_stays_in port by.accesses old new by.all_are_done (is.ready_has_disk_if_det_3 ready);
+      ready_halt_fits_taken_commands = λ ready. halts (λ _. is.ready_halt_fits_taken_commands ready) (runs_on laws (port_at port) old new on by (is.ready_engine_runs ready)).st_is_set;
     }
   where
     behind : (f : ProbeResult) → (state_of f ≢ ReadyState → OnlyDeviceChangesPort (old.port port) (new.port port)) → (f ≢ Unready Dead → GainsNoMove port Identify old new)

@@ -21,14 +21,14 @@ use Rattle.server_history.proofs.state.PairedLists.{at_left}
 
 module _ (laws : FrameHolderLaws) (s : ServerState) (m : Machine) (reached : IsReachable m) (stands : MachineRelation s m) where
   accepted : (e : Pending) → IsInBookOrKept m e → WasAccepted reached.initial_machine reached.steps_since e.request
-  accepted e lives = laws.frame_holders_were_accepted reached.initial_machine reached.steps_since e reached.is_initial reached.is_legal (subst (λ (x : Machine). IsInBookOrKept x e) reached.leads_to_machine lives)
+  accepted e lives = laws.frame_holders_were_accepted reached.initial_machine reached.steps_since e reached.is_initial reached.steps_since_are_enabled (subst (λ (x : Machine). IsInBookOrKept x e) reached.leads_to_machine lives)
 
   -- one id is one request
   same_request : (a b : Pending) → IsInBookOrKept m a → IsInBookOrKept m b → a.request.id ≡ b.request.id → a.request ≡ b.request
   same_request a b left right same = laws.an_id_is_accepted_once reached.initial_machine reached.steps_since a.request b.request (accepted a left) (accepted b right) same
 
   within : KeepsLimitsAndHoldsOwnFrames m
-  within = subst KeepsLimitsAndHoldsOwnFrames (sym reached.leads_to_machine) (laws.legal_histories_stay_in_limits reached.initial_machine reached.steps_since reached.is_initial reached.is_legal)
+  within = subst KeepsLimitsAndHoldsOwnFrames (sym reached.leads_to_machine) (laws.enabled_histories_stay_in_limits reached.initial_machine reached.steps_since reached.is_initial reached.steps_since_are_enabled)
 
   module _ (port : ℕ) (loan : Lending) (here : Contains (quarantined_at s.kept_loans port) loan) where
     its : (e : Pending) × Contains m.kept e × (e.request.port.0 ≡ port) × (loan.request ≡ e.request.id) × (loan.frames ≡ e.request.asked.frames.items)

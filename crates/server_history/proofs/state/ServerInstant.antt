@@ -23,12 +23,12 @@ use Rattle.identify.specs.declared.wanted.Wanted.{Wanted}
 use Rattle.request_queue.specs.BookEntries.{BookEntry}
 use Rattle.request_queue.specs.BookRelation.{EntryRelation}
 use Rattle.slots.specs.declared.SlotUse.{SlotUse}
-use Rattle.server_history.specs.ServerState.{IsLoneSlot0, ServerState, InCallInvariant, MachineRelation, is_served, mode_at, probed_mode, mode_in, ports_of, last_disk_in, last_disk_of, remembered_at, last_sectors_of, last_serial_of, state_of, zeroes_after_trim_of, usable_slots_of, slot_state_of, used_for}
+use Rattle.server_history.specs.ServerState.{IsLoneSlot0, ServerState, InCallInvariant, MachineRelation, is_served, mode_at, probed_mode, mode_in, ports_of, last_disk_in, last_disk_of, remembered_at, last_sectors_of, last_serial_of, state_of, zeroes_after_trim_of, usable_slots_of, slot_state_of_use, used_for}
 use Rattle.server_history.proofs.state.PortSlots.{free_unused, none_kept, not_dead, of_ready, ready_use, usable_ready, used_serves}
 use Rattle.server_history.proofs.state.PairedLists.{at_right}
 
 -- what is used for a client's request or for none
-clients : (used : Option SlotUse) → IsFreeOrServes (slot_state_of used)
+clients : (used : Option SlotUse) → IsFreeOrServes (slot_state_of_use used)
 clients None = inl refl
 clients (Some used) = inr (used.id, refl)
 
@@ -59,8 +59,8 @@ module _ (s : ServerState) (k : InCallInvariant s) (m : Machine) (reached : IsRe
     nothing : (f : ProbeResult) → probe_result_of s.probe_results port.0 ≡ f → usable_slots_of f (mode_at s.modes port.0) ≡ 0 → f ≢ Unready Dead → HasAllSlotsFreeAndNoneParked slots port.0
     nothing f e none other = record {
       all_are_free = λ slot.
-          is.slot_uses_agree_unless_dead port.0 slot (alive f e other)
-          ∙ ap slot_state_of ((k.slots_invariant port.0 low).unusable_are_unused slot (subst (λ (n : ℕ). n ≤ slot) (sym (ap (λ (x : ProbeResult). usable_slots_of x (mode_at s.modes port.0)) e ∙ none)) (omega arith)));
+          is.slot_states_agree_unless_dead port.0 slot (alive f e other)
+          ∙ ap slot_state_of_use ((k.slots_invariant port.0 low).unusable_are_unused slot (subst (λ (n : ℕ). n ≤ slot) (sym (ap (λ (x : ProbeResult). usable_slots_of x (mode_at s.modes port.0)) e ∙ none)) (omega arith)));
       none_is_parked = is.only_dead_ports_park port.0 (alive f e other);
     }
 

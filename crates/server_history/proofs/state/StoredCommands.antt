@@ -16,7 +16,7 @@ use Rattle.refinement.specs.PreservedParts.{DoesNotWrite}
 use Rattle.refinement.specs.MemoryLayout.{IsTableOrHeaderByteButPrdbc}
 use Rattle.refinement.specs.ReadySlots.{KeepsStoredCommand}
 use Rattle.command_table.specs.TableStores.{IsBlockStore, IsHeaderTableOrBlockStore, IsHeaderOrTableStore}
-use Rattle.commands.specs.Batches.{IsBatchAccess, IsStoreForBatch, PlacedTask, StoresThenWritesAll}
+use Rattle.commands.specs.Batches.{IsCommandIssueAccess, IsStoreForBatch, PlacedTask, StoresThenWritesAll}
 use Rattle.commands.specs.Tasks.{IsStoreFor, issuing_writes}
 use Rattle.port_control.specs.ServiceAccesses.{WritesOnlyHbaIsPxIsCiOrSact}
 use Rattle.server_history.specs.Prerequisites.{PrerequisiteLaws}
@@ -106,7 +106,7 @@ of_batch port queued tasks accesses order =
 
 -- what issues in some slots leaves what is stored for another
 pub batch_leaves_stored : PrerequisiteLaws → (port other : Port) (tasks : List PlacedTask) (k : ℕ) → port.0 < 4 → other.0 < 4 → k < 32 → ((t : PlacedTask) → Contains tasks t → (t.slot < 32) × AreApart port.0 t.slot other.0 k)
-    → (access : Access) → IsBatchAccess port access → IsOfBatch port tasks access → KeepsStoredCommand other k access
+    → (access : Access) → IsCommandIssueAccess port access → IsOfBatch port tasks access → KeepsStoredCommand other k access
 batch_leaves_stored laws port other tasks k a c d apart access is (inr (r, v, same)) =
     service_leaves_stored laws other k access (issuing_serves port access is) (λ at bytes place e t from to. let z : Writing r v ≡ Storing at bytes = sym same ∙ e in cc)
 batch_leaves_stored laws port other tasks k a c d apart access is (inl (task, there, store)) = service_leaves_stored laws other k access (issuing_serves port access is) (λ at bytes place e t from to.

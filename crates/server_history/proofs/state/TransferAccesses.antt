@@ -6,13 +6,13 @@ use Rattle.hba_regs.specs.declared.reg.Reg.TheVariants.{Px}
 use Rattle.adapter.specs.Access.{Access, DoesAll, Reads}
 use Rattle.adapter.specs.Access.Access.{Reading, Writing, Loading, Storing}
 use Rattle.adapter.specs.Device.{Device}
-use Rattle.commands.specs.Batches.{IsBatchAccess}
+use Rattle.commands.specs.Batches.{IsCommandIssueAccess}
 use Rattle.commands.specs.Masks.{ReadsDone, ReadsCiOrSact}
 use Rattle.port_control.specs.ServiceAccesses.{WritesOnlyHbaIsPxIsCiOrSact}
 
 -- ---- issuing
 
-pub issuing_serves : (port : Port) (access : Access) → IsBatchAccess port access → WritesOnlyHbaIsPxIsCiOrSact access
+pub issuing_serves : (port : Port) (access : Access) → IsCommandIssueAccess port access → WritesOnlyHbaIsPxIsCiOrSact access
 issuing_serves port (Writing r v) here = ⊎_elim (λ (is : r ≡ Px port Sact). inr (port, inr (inr is))) (λ (is : r ≡ Px port Ci). inr (port, inr (inl is))) here
 issuing_serves port (Storing at bytes) here = tt
 issuing_serves port (Loading at bytes) here = absurd here

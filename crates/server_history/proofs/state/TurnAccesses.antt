@@ -21,7 +21,7 @@ use Rattle.refinement.specs.Fragments.{IsSoleBit, IsDrivenBy, SparesOtherPorts}
 use Rattle.refinement.specs.PortFacts.{RunsWell, Undisturbed}
 use Rattle.command_table.specs.TableStores.{IsHeaderTableOrBlockStore, IsHeaderOrTableStore}
 use Rattle.driver_history.specs.Histories.{StoresOrWritesSactOrCi}
-use Rattle.commands.specs.Batches.{IsBatchAccess}
+use Rattle.commands.specs.Batches.{IsCommandIssueAccess}
 use Rattle.driver_history.specs.AccessTrace.{StaysInDriverFrames, DoesNotWriteCmd, WritesNeitherCmdNorSctl, ReadsMasksBeforeCmdWrite}
 use Rattle.server_history.specs.Prerequisites.{PrerequisiteLaws}
 use Rattle.server_history.specs.IssuingAndAnswering.{PollsSlots, IsEmptyMask, PollsInTurnWithoutEvent, IsMaskOf, is_used}
@@ -55,13 +55,13 @@ stored_own : (port slot at : ℕ) (bytes : List ℕ) → port < 4 → slot < 32 
 stored_own port slot at bytes low small (inl table) = table_own port slot at bytes low small table
 stored_own port slot at bytes low small (inr block) = let here = block.1 in let size = block.2 in omega (arith, low, here, size)
 
-pub issuing_is : (port : Port) → port.0 < 4 → (access : Access) → IsBatchAccess port access → StoresOrWritesSactOrCi port access
+pub issuing_is : (port : Port) → port.0 < 4 → (access : Access) → IsCommandIssueAccess port access → StoresOrWritesSactOrCi port access
 issuing_is port low (Writing r v) here = here
 issuing_is port low (Storing at bytes) (slot, small, is) = stored_own port.0 slot at bytes low small is
 issuing_is port low (Reading r v) here = absurd here
 issuing_is port low (Loading at bytes) here = absurd here
 
-pub issuing_turns : PrerequisiteLaws → (port : Port) → port.0 < 4 → (access : Access) → IsBatchAccess port access → IsTurn port access
+pub issuing_turns : PrerequisiteLaws → (port : Port) → port.0 < 4 → (access : Access) → IsCommandIssueAccess port access → IsTurn port access
 issuing_turns laws port low access here = (issuing_serves port access here, (own access (issuing_is port low access here), laws.batch_access_is_of_port port access here))
   where
     own : (access : Access) → StoresOrWritesSactOrCi port access → StaysInDriverFrames access
@@ -74,7 +74,7 @@ issuing_turns laws port low access here = (issuing_serves port access here, (own
 service_leaves : PrerequisiteLaws → (port : Port) (access : Access) → WritesOnlyHbaIsPxIsCiOrSact access → WritesNeitherCmdNorSctl port access
 service_leaves laws port access here = (laws.look_laws.services_spare_other_registers port Cmd (λ e. cc) (λ e. cc) (λ e. cc) access here, laws.look_laws.services_spare_other_registers port Sctl (λ e. cc) (λ e. cc) (λ e. cc) access here)
 
-pub issuing_leaves : PrerequisiteLaws → (port other : Port) (access : Access) → IsBatchAccess port access → WritesNeitherCmdNorSctl other access
+pub issuing_leaves : PrerequisiteLaws → (port other : Port) (access : Access) → IsCommandIssueAccess port access → WritesNeitherCmdNorSctl other access
 issuing_leaves laws port other access here = service_leaves laws other access (issuing_serves port access here)
 
 pub turn_leaves : PrerequisiteLaws → (port other : Port) (access : Access) → IsTurn port access → WritesNeitherCmdNorSctl other access

@@ -34,7 +34,7 @@ use Rattle.port_control.specs.PortEvents.{IsPxisSstsOrOwnIsAccess}
 use Rattle.port_control.specs.ServiceAccesses.{WritesOnlyHbaIsPxIsCiOrSact}
 use Rattle.request_queue.specs.BookEntries.{unanswered_of}
 use Rattle.server_history.specs.Prerequisites.{PrerequisiteLaws}
-use Rattle.server_history.specs.ServerState.{KeptRequestsRelation, InCallInvariant, MachineRelation, PortInvariant, SettledInvariant, ServerState, is_served, mode_at, mode_in, plain_mode, state_of, usable_slots_of, slot_state_of}
+use Rattle.server_history.specs.ServerState.{KeptRequestsRelation, InCallInvariant, MachineRelation, PortInvariant, InvariantWithNoneDue, ServerState, is_served, mode_at, mode_in, plain_mode, state_of, usable_slots_of, slot_state_of_use}
 use Rattle.server_history.specs.Probing.{BootsUnreadyPort, IsFoundAfterStop, FindsReasonToBoot, ProbesPort}
 use Rattle.server_history.specs.Turns.{IsPortTurn, InProbe, ProbesUnready, abstract_state_of}
 use Rattle.port_control.specs.declared.events.PortError.TheVariants.{TimedOut}
@@ -60,7 +60,7 @@ use Rattle.server_history.proofs.unready_turn.TriedPort.{AddsTried, TellsTried, 
 
 -- ---- it was booted
 
-module _ (laws : PrerequisiteLaws) (s new : ServerState) (seen : Device) (port : Port) (state : PortState) (t : SettledInvariant s) (is : probe_result_of s.probe_results port.0 ≡ Unready state) (lives : state ≢ DeadState)
+module _ (laws : PrerequisiteLaws) (s new : ServerState) (seen : Device) (port : Port) (state : PortState) (t : InvariantWithNoneDue s) (is : probe_result_of s.probe_results port.0 ≡ Unready state) (lives : state ≢ DeadState)
     (looks : IsSimulated (IsPxisSstsOrOwnIsAccess port) AnySlotStates s.device seen) (b : BootsUnreadyPort port (record s { device = seen }) new) where
   abbrev k : InCallInvariant s
   k = t.in_call_invariant
@@ -103,7 +103,7 @@ module _ (laws : PrerequisiteLaws) (s new : ServerState) (seen : Device) (port :
     none_served : (slot : ℕ) (id : RequestId) → at.uses port.0 slot ≡ Serves id → ⊥
     none_served slot id serves =
         let none = (k.slots_invariant port.0 small).unusable_are_unused slot (subst (λ (f : ProbeResult). usable_slots_of f (mode_at s.modes port.0) ≤ slot) (sym is) (omega arith)) in
-        let z : Free ≡ Serves id = sym (ap slot_state_of none) ∙ sym (at.slot_uses_agree_unless_dead port.0 slot alive) ∙ serves in absurd cc
+        let z : Free ≡ Serves id = sym (ap slot_state_of_use none) ∙ sym (at.slot_states_agree_unless_dead port.0 slot alive) ∙ serves in absurd cc
 
     unparked : (q : ℕ) → probe_result_of then.probe_results q ≢ Unready DeadState → p.slots.awaiting_disposition q ≡ []
     unparked q other = ⊎_elim
@@ -125,8 +125,8 @@ module _ (laws : PrerequisiteLaws) (s new : ServerState) (seen : Device) (port :
     stands : MachineRelation then w
     stands = record {
       uses = p.slots.slot_states;
-      slot_uses_agree_unless_dead = uses_then port.0 b.probes_anew.result.next b.found s.probe_results s.slots b.slots (record { slot_states = at.uses; awaiting_disposition = at.awaiting_disposition }) p.slots (listed laws s new seen port state k is lives looks b)
-          (let four = k.slots_are_of_four_ports in let l = small in omega (arith, four, l)) b.has_no_used_slot.all_slots_are_free p.left at.slot_uses_agree_unless_dead;
+      slot_states_agree_unless_dead = uses_then port.0 b.probes_anew.result.next b.found s.probe_results s.slots b.slots (record { slot_states = at.uses; awaiting_disposition = at.awaiting_disposition }) p.slots (listed laws s new seen port state k is lives looks b)
+          (let four = k.slots_are_of_four_ports in let l = small in omega (arith, four, l)) b.has_no_used_slot.all_slots_are_free p.left at.slot_states_agree_unless_dead;
       awaiting_disposition = p.slots.awaiting_disposition;
       only_dead_ports_park = unparked;
       driver_relation = p.passes.driver_relation;
@@ -189,11 +189,11 @@ module _ (laws : PrerequisiteLaws) (s new : ServerState) (seen : Device) (port :
   none_due q = ⊎_elim
       (λ (same : q.0 ≡ port.0).
       subst (λ (x : Port). NoneDue (mode_in then q) (unanswered_of s.book) x) (ap (λ (x : ℕ). record { 0 = x }) (sym same)) (none_due_unready s k port (unready laws s new seen port state k is lives looks b) (mode_in then q)))
-      (λ (other : q.0 ≢ port.0). subst (λ (mode : QueueMode). NoneDue mode (unanswered_of s.book) q) (sym (get_or-set_other s.modes port.0 q.0 b.mode plain_mode other)) (t.nothing_is_due q))
+      (λ (other : q.0 ≢ port.0). subst (λ (mode : QueueMode). NoneDue mode (unanswered_of s.book) q) (sym (get_or-set_other s.modes port.0 q.0 b.mode plain_mode other)) (t.none_is_due q))
       (cases_eq q.0 port.0)
 
-  settled_then : SettledInvariant then
-  settled_then = record { in_call_invariant = kept_then; nothing_is_due = none_due }
+  settled_then : InvariantWithNoneDue then
+  settled_then = record { in_call_invariant = kept_then; none_is_due = none_due }
 
   part_then : IsPortTurn InProbe port [] s then
   part_then =
@@ -209,8 +209,8 @@ module _ (laws : PrerequisiteLaws) (s new : ServerState) (seen : Device) (port :
             (adds m reached stood);
       }
 
-  pub booted_turn : IsPortTurn InProbe port [] s new × SettledInvariant new
-  booted_turn = subst (λ (x : ServerState). IsPortTurn InProbe port [] s x × SettledInvariant x) (sym b.server_is) (part_then, settled_then)
+  pub booted_turn : IsPortTurn InProbe port [] s new × InvariantWithNoneDue new
+  booted_turn = subst (λ (x : ServerState). IsPortTurn InProbe port [] s x × InvariantWithNoneDue x) (sym b.server_is) (part_then, settled_then)
 
 -- ---- it was looked at, and that is all
 
@@ -218,7 +218,7 @@ module _ (laws : PrerequisiteLaws) (s new : ServerState) (seen : Device) (port :
 leaving : (port q : Port) (access : Access) → IsPxisSstsOrOwnIsAccess port access → WritesNeitherCmdNorSctl q access
 leaving port q access its = (looking_spares port q Cmd (λ e. let z : Is ≡ Cmd = e in cc) access its, looking_spares port q Sctl (λ e. let z : Is ≡ Sctl = e in cc) access its)
 
-module _ (laws : PrerequisiteLaws) (s : ServerState) (seen : Device) (port : Port) (state : PortState) (t : SettledInvariant s) (is : probe_result_of s.probe_results port.0 ≡ Unready state) (looks : IsSimulated (IsPxisSstsOrOwnIsAccess port) AnySlotStates s.device seen) where
+module _ (laws : PrerequisiteLaws) (s : ServerState) (seen : Device) (port : Port) (state : PortState) (t : InvariantWithNoneDue s) (is : probe_result_of s.probe_results port.0 ≡ Unready state) (looks : IsSimulated (IsPxisSstsOrOwnIsAccess port) AnySlotStates s.device seen) where
   abbrev rest : ServerState
   rest = record s { device = seen }
 
@@ -254,8 +254,8 @@ module _ (laws : PrerequisiteLaws) (s : ServerState) (seen : Device) (port : Por
               (subst (λ (f : ProbeResult). StillBacksProbeResult (wanted_of s.wanted port.0) f port.0 s.device) is was.probe_result_is_backed));
           ready_engine_runs = λ ready. absurd (never ready);
           bad_disk_is_shown_if_in = λ bad. shown_on laws port s.device seen t.in_call_invariant.adapter_is_on serves (was.bad_disk_is_shown_if_in bad);
-          ready_has_disk_if_shown = λ ready. absurd (never ready);
-          ready_is_not_log_only_and_halt_is_of_taken = λ ready. absurd (never ready);
+          ready_has_disk_if_det_3 = λ ready. absurd (never ready);
+          ready_halt_fits_taken_commands = λ ready. absurd (never ready);
         }
 
     other_port : (q : ℕ) → q < 4 → q ≢ port.0 → PortInvariant s.wanted s.probe_results q seen
@@ -273,10 +273,10 @@ module _ (laws : PrerequisiteLaws) (s : ServerState) (seen : Device) (port : Por
         (cases_eq q port.0))
 
   module _ (result : Bool) (l : FindsReasonToBoot state port result s.device seen) (none : result ≡ false) (kept : InCallInvariant rest) where
-    rests_settled : SettledInvariant rest
-    rests_settled = record { in_call_invariant = kept; nothing_is_due = t.nothing_is_due }
+    rests_settled : InvariantWithNoneDue rest
+    rests_settled = record { in_call_invariant = kept; none_is_due = t.none_is_due }
 
-    pub rests : IsPortTurn InProbe port [] s rest × SettledInvariant rest
+    pub rests : IsPortTurn InProbe port [] s rest × InvariantWithNoneDue rest
     rests = (
       record {
         accesses = looks.is_driven.accesses;
@@ -303,8 +303,8 @@ dead_or_not (Unfit n) = inr (λ is. let z : Unfit n ≡ DeadState = is in cc)
 dead_or_not DeadState = inl refl
 
 -- A dead port isn't looked at. Another one is, and booted where what it was looked at for was found.
-pub turns : PrerequisiteLaws → (s new : ServerState) (port : Port) → SettledInvariant s → (probes : ProbesPort port s new) → (probes.state ≢ DeadState → IsSimulated (IsPxisSstsOrOwnIsAccess port) AnySlotStates s.device probes.device_after_look)
-    → IsPortTurn InProbe port [] s new × SettledInvariant new
+pub turns : PrerequisiteLaws → (s new : ServerState) (port : Port) → InvariantWithNoneDue s → (probes : ProbesPort port s new) → (probes.state ≢ DeadState → IsSimulated (IsPxisSstsOrOwnIsAccess port) AnySlotStates s.device probes.device_after_look)
+    → IsPortTurn InProbe port [] s new × InvariantWithNoneDue new
 turns laws s new port t probes looks = ⊎_elim
     (λ (dead : probes.state ≡ DeadState).
     let l = subst (λ (state : PortState). FindsReasonToBoot state port probes.has_found_something s.device probes.device_after_look) dead probes.is_looked_at in
@@ -315,8 +315,8 @@ turns laws s new port t probes looks = ⊎_elim
     (cases_Bool probes.has_found_something))
     (dead_or_not probes.state)
   where
-    whole_rest : probes.has_found_something ≡ false → IsSimulated (IsPxisSstsOrOwnIsAccess port) AnySlotStates s.device probes.device_after_look → InCallInvariant (record s { device = probes.device_after_look }) → IsPortTurn InProbe port [] s new × SettledInvariant new
-    whole_rest none its kept = subst (λ (n : ServerState). IsPortTurn InProbe port [] s n × SettledInvariant n) (sym (probes.is_left_if_not_found none)) (rests laws s probes.device_after_look port probes.state t probes.unready_state_is its probes.has_found_something probes.is_looked_at none kept)
+    whole_rest : probes.has_found_something ≡ false → IsSimulated (IsPxisSstsOrOwnIsAccess port) AnySlotStates s.device probes.device_after_look → InCallInvariant (record s { device = probes.device_after_look }) → IsPortTurn InProbe port [] s new × InvariantWithNoneDue new
+    whole_rest none its kept = subst (λ (n : ServerState). IsPortTurn InProbe port [] s n × InvariantWithNoneDue n) (sym (probes.is_left_if_not_found none)) (rests laws s probes.device_after_look port probes.state t probes.unready_state_is its probes.has_found_something probes.is_looked_at none kept)
 
-pub tried : PrerequisiteLaws → (s new : ServerState) (port : Port) → SettledInvariant s → (probes : ProbesPort port s new) → (probes.state ≢ DeadState → IsSimulated (IsPxisSstsOrOwnIsAccess port) AnySlotStates s.device probes.device_after_look) → ProbesUnready port s new × SettledInvariant new
+pub tried : PrerequisiteLaws → (s new : ServerState) (port : Port) → InvariantWithNoneDue s → (probes : ProbesPort port s new) → (probes.state ≢ DeadState → IsSimulated (IsPxisSstsOrOwnIsAccess port) AnySlotStates s.device probes.device_after_look) → ProbesUnready port s new × InvariantWithNoneDue new
 tried laws s new port t probes looks = let x = turns laws s new port t probes looks in (record { does_turn = probes; is_port_turn = x.0 }, x.1)

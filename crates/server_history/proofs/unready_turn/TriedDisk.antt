@@ -15,7 +15,7 @@ use Rattle.adapter.specs.Rules.{IsOn}
 use Rattle.refinement.specs.Fragments.{TapeGrows}
 use Rattle.refinement.specs.Errors.{NoDiskComes}
 use Rattle.refinement.specs.PreservedParts.{IsPlugEvent, NoPlugEvents}
-use Rattle.refinement.specs.Vacant.{HasFirstFisIfShown, IsVacant}
+use Rattle.refinement.specs.Vacant.{HasFirstFisIfDet3, IsVacant}
 use Rattle.block_machine.specs.Events.{ShowsDisk}
 use Rattle.driver_history.specs.Evidence.{TapeGainsEntry, ShowsLinkChange}
 use Rattle.driver_history.specs.Histories.{HasFirstFisOrNoDevice}
@@ -54,15 +54,15 @@ module _ (laws : PrerequisiteLaws) (port : Port) where
   stays_vacant = stays_so laws port IsVacant (laws.vacant_port_stays_vacant_if_no_disk_comes port)
 
   -- once the link was reset, the first FIS of a disk that shows has come
-  reset_fresh : (accesses : List Access) (old new : Device) → ResetsLink port accesses → DoesAll accesses old new → NoDiskComes port.0 old new → HasFirstFisIfShown (new.port port.0)
+  reset_fresh : (accesses : List Access) (old new : Device) → ResetsLink port accesses → DoesAll accesses old new → NoDiskComes port.0 old new → HasFirstFisIfDet3 (new.port port.0)
   reset_fresh accesses old new r does none =
       let rest = r.between ++ (Writing (Px port Sctl) r.end_of_comreset_value ∷ r.later) in
       let x = split r.before (Writing (Px port Sctl) r.comreset_value ∷ rest) old new (subst (λ (list : List Access). DoesAll list old new) r.accesses_are_split does) in
       let sent = x.2.0 in
       let early = laws.port_event_laws.tape.growth_is_transitive old x.0 sent (grows_over laws r.before old x.0 x.1) (laws.port_event_laws.tape.access_grows (Writing (Px port Sctl) r.comreset_value) x.0 sent x.2.1) in
-      stays_so laws port HasFirstFisIfShown (laws.first_fis_if_shown_stays_if_no_disk_comes port) rest sent new x.2.2 (none_parts old sent new early (grows_over laws rest sent new x.2.2) none).1 (laws.comreset_has_first_fis_if_shown port r.comreset_value x.0 sent r.sends_comreset x.2.1)
+      stays_so laws port HasFirstFisIfDet3 (laws.first_fis_if_det_3_stays_if_no_disk_comes port) rest sent new x.2.2 (none_parts old sent new early (grows_over laws rest sent new x.2.2) none).1 (laws.comreset_has_first_fis_if_det_3 port r.comreset_value x.0 sent r.sends_comreset x.2.1)
 
-  fresh_or_gone : (p : DevicePort) → HasFirstFisIfShown p → HasFirstFisOrNoDevice p
+  fresh_or_gone : (p : DevicePort) → HasFirstFisIfDet3 p → HasFirstFisOrNoDevice p
   fresh_or_gone p fresh = ⊎_elim (λ (shows : p.ssts_det ≡ 3). inl (fresh shows)) (λ (gone : p.ssts_det ≢ 3). inr gone) (cases_eq p.ssts_det 3)
 
   pub reset_fresh_or_gone : (accesses : List Access) (old new : Device) → ResetsLink port accesses → DoesAll accesses old new → NoDiskComes port.0 old new → HasFirstFisOrNoDevice (new.port port.0)

@@ -28,8 +28,8 @@ use Rattle.port_control.specs.Engines.{EngineSticks, Stops}
 use Rattle.request_queue.specs.BookEntries.{BookEntry}
 use Rattle.request_queue.specs.BookRelation.{EntryRelation}
 use Rattle.server_history.specs.Prerequisites.{PrerequisiteLaws}
-use Rattle.server_history.specs.ServerState.{InCallInvariant, MachineRelation, SettledInvariant, ServerState, mode_in, ports_of, state_of}
-use Rattle.server_history.specs.Turns.{ServingReady, InProbe, IsTurnOrDeviceStep, SimulatesTurn, PortListsNameOnly, RequeuesOnFailedPortsOrRestartsOrRestsByTurn, TurnCorresponds, joint_state_of, abstract_state_of}
+use Rattle.server_history.specs.ServerState.{InCallInvariant, MachineRelation, InvariantWithNoneDue, ServerState, mode_in, ports_of, state_of}
+use Rattle.server_history.specs.Turns.{ServingReady, InProbe, IsTurnOrDeviceStep, SimulatesTurn, PortListsNameOnly, RequeuesAndAbortsFitTurn, TurnCorresponds, joint_state_of, abstract_state_of}
 use Rattle.server_history.proofs.state.AnswerSteps.{no_answer}
 use Rattle.server_history.proofs.state.DueRequests.{none_issued}
 use Rattle.server_history.proofs.state.DeviceSteps.{devices_belong, devices_last, devices_lawful}
@@ -84,7 +84,7 @@ module _ (laws : PrerequisiteLaws) (port : Port) (old : ServerState) (k : InCall
         let h = at_right EntryRelation old.book m.book is.book b.0 b.1 in
         none_held h.0 h.1 (sym h.2.port ∙ ap (λ r. r.port) (sym b.2.request) ∙ same)
 
-  module _ (new : ServerState) (settled : SettledInvariant new) (stopped stuck : List Port) (accesses : List Access) (t : TellsTried port stopped stuck accesses old new)
+  module _ (new : ServerState) (settled : InvariantWithNoneDue new) (stopped stuck : List Port) (accesses : List Access) (t : TellsTried port stopped stuck accesses old new)
       (did : DoesTried port (evidence_tried stopped stuck) accesses old new) where
     abbrev its : Evidence
     its = evidence_tried stopped stuck
@@ -125,7 +125,7 @@ module _ (laws : PrerequisiteLaws) (port : Port) (old : ServerState) (k : InCall
       unplugs : UnpluggedOutcomeEmptiesPort x.steps (after m x.steps)
       unplugs = record { none_is_left = λ e other here. absurd (no_answer x.steps x.only e Unplugged here); none_is_told_dead = λ e other here. absurd (no_answer x.steps x.only e Unplugged here) }
 
-      owes : RequeuesOnFailedPortsOrRestartsOrRestsByTurn InProbe port accesses old new m its x.steps
+      owes : RequeuesAndAbortsFitTurn InProbe port accesses old new m its x.steps
       owes = (devices_all (OnlyFailedPortsRequeueAbortRevokeOrFault its) (device_grounded its) tt x.steps x.only, refl, refl)
 
       ties : TurnCorresponds InProbe port [] accesses old new m its x.steps
@@ -154,13 +154,13 @@ module _ (laws : PrerequisiteLaws) (port : Port) (old : ServerState) (k : InCall
         issues_are_last = devices_last x.steps x.only;
         names_only_port = names;
         answers_are_lawful = devices_lawful (abstract_state_of old m) its (ports_of new) x.steps x.only;
-        requeues_on_failed_port_or_restarts_by_turn = owes;
+        requeues_and_aborts_fit_turn = owes;
         replies_match = tells;
         unplugged_outcome_empties_port = unplugs;
         port_is_serviced = t.becomes;
         shown_disk_was_in_or_came = x.disk;
         same_disk_or_none_unanswered = inr (none_waits m is x.steps x.only);
-        issues_due = λ _. none_issued new (after m x.steps) x.stands x.steps (λ id. devices_issue_none id x.steps x.only) (mode_in new port) port (settled.nothing_is_due port);
+        issues_due = λ _. none_issued new (after m x.steps) x.stands x.steps (λ id. devices_issue_none id x.steps x.only) (mode_in new port) port (settled.none_is_due port);
         is_evidenced = evidenced m;
         faults_are_told = λ told here. absurd (nowhere told here);
         turn_corresponds = ties;

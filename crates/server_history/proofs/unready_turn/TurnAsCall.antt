@@ -13,7 +13,7 @@ use Rattle.adapter.specs.Access.Access.{Reading}
 use Rattle.adapter.specs.Device.{Device}
 use Rattle.adapter.specs.Rules.{IsOn}
 use Rattle.refinement.specs.Fragments.{AnySlotStates, IsSimulated, IsDrivenBy}
-use Rattle.refinement.specs.Errors.{NoDiskComes, IsFatalErrorOf}
+use Rattle.refinement.specs.Errors.{NoDiskComes, IsFatalEntryOf}
 use Rattle.refinement.specs.PortFacts.{IsFaultOf, RunsWell}
 use Rattle.refinement.specs.PreservedParts.{NoPlugEvents}
 use Rattle.refinement.specs.Vacant.{IsVacant}
@@ -240,7 +240,7 @@ module _ (laws : PrerequisiteLaws) (s new : ServerState) (seen : Device) (port :
     shows_trouble : HidesNoTrouble port.0 s.device new.device
     shows_trouble = boot_shows laws port low_port (wanted_of s.wanted port.0) found.0 f.booted s.device b.probes_anew.stopped new.device new.device stopped_on f.boots found.1 nothing
 
-    runs_well : NoPlugEvents port.0 s.device new.device → (GainsSinceStart (IsFaultOf port.0) port.0 s.device new.device → ⊥) → (GainsSinceStart (IsFatalErrorOf port.0) port.0 s.device new.device → ⊥) → RunsWell (new.device.port port.0)
+    runs_well : NoPlugEvents port.0 s.device new.device → (GainsSinceStart (IsFaultOf port.0) port.0 s.device new.device → ⊥) → (GainsSinceStart (IsFatalEntryOf port.0) port.0 s.device new.device → ⊥) → RunsWell (new.device.port port.0)
     runs_well = booted_well laws port low_port (wanted_of s.wanted port.0) found.0 f.booted s.device b.probes_anew.stopped new.device new.device stopped_on f.boots found.1 nothing (whole laws s new seen port state k is lives looks b).1.on
         (grows_over laws first s.device b.probes_anew.stopped (until laws s new seen port state k is lives looks b))
 

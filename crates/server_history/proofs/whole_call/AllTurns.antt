@@ -33,11 +33,11 @@ use Rattle.host_boot.specs.declared.ProbeResult.TheVariants.{Unserved, Ready, Un
 use Rattle.driver_history.specs.Evidence.{BacksPlainFault, BacksQueuedFault, IsEvidencedOf}
 use Rattle.error_recovery.specs.Evidence.{BringsLastLogPage, HasFailed}
 use Rattle.driver_history.specs.Histories.{IssuesDue}
-use Rattle.driver_history.specs.PortTurn.{HasTurnIn, IsOfOtherPort, EvidenceAgreesOn}
+use Rattle.driver_history.specs.PortTurn.{HasTurnIn, KeepsToAnotherPort, EvidenceAgreesOn}
 use Rattle.driver_history.specs.AccessTrace.{UsesPortsAndNotGhc}
 use Rattle.server_history.specs.Prerequisites.{PrerequisiteLaws}
 use Rattle.server_history.specs.Turns.{IsPortTurn, IsFaultOfCommand, IsByDeviceOrOnSuchPort, SimulatesTurn, EachPortTakesTurn, IsFaultOfUsedSlot, abstract_state_of}
-use Rattle.server_history.specs.ServerState.{ServerState, InCallInvariant, MachineRelation, SettledInvariant, is_served, mode_in, ports_of, state_of, used_for}
+use Rattle.server_history.specs.ServerState.{ServerState, InCallInvariant, MachineRelation, InvariantWithNoneDue, is_served, mode_in, ports_of, state_of, used_for}
 use Rattle.server_history.proofs.state.DueRequests.{same_book}
 use Rattle.server_history.proofs.any_turn.TurnSteps.{answered_own, issued_before, stood}
 use Rattle.server_history.proofs.plain_calls.IssueRounds.{any_append, dues_carried, or_none}
@@ -56,7 +56,7 @@ use Rattle.server_history.proofs.any_turn.JoinedParts.{AreToldBelow, NamesSome, 
 same_some : {X : Type 0} {a b : X} → Some a ≡ Some b → a ≡ b
 same_some is = cc
 
-module _ (plan : Plan) (laws : PrerequisiteLaws) (s : ServerState) (start : SettledInvariant s) (old : AbstractState) (reached : IsReachable old.machine) (at : MachineRelation s old.machine) (ports_are : old.ports ≡ ports_of s) where
+module _ (plan : Plan) (laws : PrerequisiteLaws) (s : ServerState) (start : InvariantWithNoneDue s) (old : AbstractState) (reached : IsReachable old.machine) (at : MachineRelation s old.machine) (ports_are : old.ports ≡ ports_of s) where
   abbrev kept : InCallInvariant s
   kept = start.in_call_invariant
 
@@ -80,7 +80,7 @@ module _ (plan : Plan) (laws : PrerequisiteLaws) (s : ServerState) (start : Sett
 
   -- ---- a turn
 
-  module _ (n : ℕ) (c mid : ServerState) (before its : List Reply) (low : n < 4) (takes : TakesTurn plan (probe_result_of s.probe_results n)) (p : Progress n c before) (next : SettledInvariant mid) (part : IsPortTurn (turn_at plan (probe_result_of s.probe_results n) n) (port_at n) its c mid) where
+  module _ (n : ℕ) (c mid : ServerState) (before its : List Reply) (low : n < 4) (takes : TakesTurn plan (probe_result_of s.probe_results n)) (p : Progress n c before) (next : InvariantWithNoneDue mid) (part : IsPortTurn (turn_at plan (probe_result_of s.probe_results n) n) (port_at n) its c mid) where
     abbrev m : Machine
     m = after old.machine p.steps
 
@@ -107,7 +107,7 @@ module _ (plan : Plan) (laws : PrerequisiteLaws) (s : ServerState) (start : Sett
     takes_at q is = subst (λ (k : ℕ). TakesTurn plan (probe_result_of s.probe_results k)) (sym is) takes
 
     silent_or_ready : (state_at n ≡ ReadyState) ⊎ ((x.evidence.faults ≡ []) × (x.evidence.lost ≡ []))
-    silent_or_ready = ready_or_silent plan (probe_result_of s.probe_results n) n (port_at n) part.accesses c mid m x.evidence x.steps takes x.requeues_on_failed_port_or_restarts_by_turn
+    silent_or_ready = ready_or_silent plan (probe_result_of s.probe_results n) n (port_at n) part.accesses c mid m x.evidence x.steps takes x.requeues_and_aborts_fit_turn
 
     its_driven : IsDrivenBy (SparesOtherPorts (port_at n)) c.device mid.device
     its_driven = record { accesses = part.accesses; all_are_done = part.accesses_are_done; accesses_are_of_kind = part.accesses_are_of_port }
@@ -126,8 +126,8 @@ module _ (plan : Plan) (laws : PrerequisiteLaws) (s : ServerState) (start : Sett
     earlier q lt same = let is : q.0 ≡ n = ap (λ (r : Port). r.0) same in omega (arith, lt, is)
 
     -- the turn's accesses are of another port then
-    of_other : (q : Port) → q.0 ≢ n → All (IsOfOtherPort q) part.accesses
-    of_other q ne = All-weaker (SparesOtherPorts (port_at n)) (IsOfOtherPort q) (λ access of. (port_at n, ne, of)) part.accesses part.accesses_are_of_port
+    of_other : (q : Port) → q.0 ≢ n → All (KeepsToAnotherPort q) part.accesses
+    of_other q ne = All-weaker (SparesOtherPorts (port_at n)) (KeepsToAnotherPort q) (λ access of. (port_at n, ne, of)) part.accesses part.accesses_are_of_port
 
     same_n : SamePort old.ports (ports_of c) (port_at n)
     same_n = subst (λ (ports : Ports). SamePort ports (ports_of c) (port_at n)) (sym ports_are) (same_at s c (port_at n) (p.found (port_at n) not_yet) (p.remembered (port_at n) not_yet) (p.modes (port_at n) not_yet))
@@ -161,7 +161,7 @@ module _ (plan : Plan) (laws : PrerequisiteLaws) (s : ServerState) (start : Sett
       turn_leads_to_end = part.accesses_are_done;
       leads_to_new = refl;
       earlier_are_of_others = p.others (port_at n) not_yet;
-      later_are_of_others = All-nil (IsOfOtherPort (port_at n));
+      later_are_of_others = All-nil (KeepsToAnotherPort (port_at n));
     }
 
     -- an earlier port's part of it
@@ -175,7 +175,7 @@ module _ (plan : Plan) (laws : PrerequisiteLaws) (s : ServerState) (start : Sett
       leads_to_start = refl;
       turn_leads_to_end = p.turn_is_taken;
       leads_to_new = part.accesses_are_done;
-      earlier_are_of_others = All-nil (IsOfOtherPort q);
+      earlier_are_of_others = All-nil (KeepsToAnotherPort q);
       later_are_of_others = of_other q ne;
     }
 
@@ -479,14 +479,14 @@ module _ (plan : Plan) (laws : PrerequisiteLaws) (s : ServerState) (start : Sett
 
     had_turn : Progress (n + 1) mid (before ++ its)
     had_turn = record {
-      settled_invariant = next;
+      invariant_with_none_due = next;
       wanted = part.leaves_others.wanted ∙ p.wanted;
       adapter_is_on = on_mid;
       accesses = accesses;
       turn_is_taken = laws.steps_and_accesses.does_append p.accesses part.accesses s.device c.device mid.device p.turn_is_taken part.accesses_are_done;
       serving = All-append (UsesPortsAndNotGhc (Uses plan old.ports)) p.accesses part.accesses p.serving
           (serving laws n plan (probe_result_of s.probe_results n) old.ports (ap (λ (ports : Ports). ports.served (port_at n)) ports_are) (state_was (port_at n)) takes its c mid m part x);
-      others = λ q none. All-append (IsOfOtherPort q) p.accesses part.accesses
+      others = λ q none. All-append (KeepsToAnotherPort q) p.accesses part.accesses
           (p.others q (λ served. let lt = served.0 in none (omega (arith, lt), served.1)))
           (of_other q (λ is. none (omega (arith, is), takes_at q.0 is)));
       steps = all;
@@ -501,7 +501,7 @@ module _ (plan : Plan) (laws : PrerequisiteLaws) (s : ServerState) (start : Sett
           (names_more (HadTurn n) (HadTurn (n + 1)) (λ q served. let lt = served.0 in (omega (arith, lt), served.1)) p.evidence p.names)
           (names_more (λ q. q ≡ port_at n) (HadTurn (n + 1)) (λ q is. subst (HadTurn (n + 1)) (sym is) (omega arith, takes)) x.evidence mine);
       lawful = joined_lawful;
-      owes = owes_join plan (probe_result_of s.probe_results n) n (port_at n) part.accesses c mid m p.evidence x.evidence p.steps x.steps p.owes x.requeues_on_failed_port_or_restarts_by_turn;
+      owes = owes_join plan (probe_result_of s.probe_results n) n (port_at n) part.accesses c mid m p.evidence x.evidence p.steps x.steps p.owes x.requeues_and_aborts_fit_turn;
       unplugs = unplugs_join laws old reached n p.steps x.steps p.turns x.steps_are_of_turn x.steps_are_enabled x.issues_are_last p.unplugs x.unplugged_outcome_empties_port;
       answers = told_all.answers;
       permuted = told_all.permuted;
@@ -578,8 +578,8 @@ module _ (plan : Plan) (laws : PrerequisiteLaws) (s : ServerState) (start : Sett
         (is_other n c mid before state its_found p turn)
 
 -- a server whose ports had their turns keeps what it keeps
-pub turns_kept : (Such : Port → List Reply → ServerState → ServerState → Type 0) (Other : Port → ServerState → ServerState → Type 0) (found : List ProbeResult) (n : ℕ) (s new : ServerState) (replies : List Reply) → SettledInvariant s → EachPortTakesTurn Such Other n found replies s new → SettledInvariant new
-turns_kept Such Other [] n s new replies keeps turns = subst SettledInvariant (sym turns.1) keeps
+pub turns_kept : (Such : Port → List Reply → ServerState → ServerState → Type 0) (Other : Port → ServerState → ServerState → Type 0) (found : List ProbeResult) (n : ℕ) (s new : ServerState) (replies : List Reply) → InvariantWithNoneDue s → EachPortTakesTurn Such Other n found replies s new → InvariantWithNoneDue new
+turns_kept Such Other [] n s new replies keeps turns = subst InvariantWithNoneDue (sym turns.1) keeps
 turns_kept Such Other (Ready info ∷ found) n s new replies keeps (mid, its, later, is, next, turn, more) = turns_kept Such Other found (n + 1) mid new later next more
 turns_kept Such Other (Unserved ∷ found) n s new replies keeps turns = turns_kept Such Other found (n + 1) s new replies keeps turns
 turns_kept Such Other (Unready state ∷ found) n s new replies keeps (mid, next, turn, more) = turns_kept Such Other found (n + 1) mid new replies next more

@@ -23,13 +23,13 @@ use Rattle.block_machine.specs.Expected.{after}
 use Rattle.block_machine.specs.Ports.{Evidence, Ports, SameSerialAndSize, SamePort}
 use Rattle.block_machine.specs.State.{Machine, Pending}
 use Rattle.block_machine.specs.Steps.{Step, WaitAgain, Answer}
-use Rattle.driver_history.specs.PortTurn.{IsOfOtherPort, EvidenceAgreesOn}
+use Rattle.driver_history.specs.PortTurn.{KeepsToAnotherPort, EvidenceAgreesOn}
 use Rattle.driver_history.specs.AccessTrace.{StaysInDriverFrames, UsesPortsAndNotGhc, WritesNeitherCmdNorSctl, ResetsLink}
 use Rattle.host_boot.specs.TakeOver.{probe_result_of}
 use Rattle.host_boot.specs.declared.ProbeResult.{ProbeResult}
 use Rattle.server_history.specs.Prerequisites.{PrerequisiteLaws}
-use Rattle.server_history.specs.ServerState.{ServerState, MachineRelation, SettledInvariant, is_served, ports_of, state_of}
-use Rattle.server_history.specs.Turns.{RestingInTick, IsPortTurn, InRestart, SimulatesTurn, RequeuesOnFailedPortsOrRestartsOrRestsByTurn, RestartsPort, TurnCorresponds}
+use Rattle.server_history.specs.ServerState.{ServerState, MachineRelation, InvariantWithNoneDue, is_served, ports_of, state_of}
+use Rattle.server_history.specs.Turns.{RestingInTick, IsPortTurn, InRestart, SimulatesTurn, RequeuesAndAbortsFitTurn, RestartsPort, TurnCorresponds}
 use Rattle.server_history.proofs.whole_call.EarlierResults as carrying
 use Rattle.server_history.proofs.any_turn.JoinedParts.{ready_or_not, same_then}
 use Rattle.server_history.proofs.whole_call.TurnResults as lifting
@@ -97,13 +97,13 @@ module _ (laws : PrerequisiteLaws) (n : ℕ) where
   serving (ATick hung) found ports served state takes its c mid m part x = ⊎_elim
       (λ (so : hung n ≡ true). of_such (Uses (ATick hung) ports) (state ∙ takes, so) part.accesses part.accesses_are_of_port part.accesses_are_drivers_own)
       (λ (not_so : hung n ≡ false).
-      let rests = subst (λ (b : Bool). RequeuesOnFailedPortsOrRestartsOrRestsByTurn (if b then InRestart else RestingInTick) (port_at n) part.accesses c mid m x.evidence x.steps) not_so x.requeues_on_failed_port_or_restarts_by_turn in
+      let rests = subst (λ (b : Bool). RequeuesAndAbortsFitTurn (if b then InRestart else RestingInTick) (port_at n) part.accesses c mid m x.evidence x.steps) not_so x.requeues_and_aborts_fit_turn in
       subst (All (UsesPortsAndNotGhc (Uses (ATick hung) ports))) (sym rests.0) (All-nil (UsesPortsAndNotGhc (Uses (ATick hung) ports))))
       (cases_Bool (hung n))
 
 -- ---- a tick
 
-module _ (hung : ℕ → Bool) (laws : PrerequisiteLaws) (s : ServerState) (start : SettledInvariant s) (old : AbstractState) (reached : IsReachable old.machine) (at : MachineRelation s old.machine) (ports_are : old.ports ≡ ports_of s) where
+module _ (hung : ℕ → Bool) (laws : PrerequisiteLaws) (s : ServerState) (start : InvariantWithNoneDue s) (old : AbstractState) (reached : IsReachable old.machine) (at : MachineRelation s old.machine) (ports_are : old.ports ≡ ports_of s) where
   abbrev plan : Plan
   plan = ATick hung
 
@@ -115,7 +115,7 @@ module _ (hung : ℕ → Bool) (laws : PrerequisiteLaws) (s : ServerState) (star
 
   -- ---- a port's turn
 
-  module _ (n : ℕ) (c mid : ServerState) (before its : List Reply) (ready : state_of (probe_result_of s.probe_results n) ≡ ReadyState) (p : Progress n c before) (next : SettledInvariant mid) (part : IsPortTurn (turn_at plan (probe_result_of s.probe_results n) n) (port_at n) its c mid)
+  module _ (n : ℕ) (c mid : ServerState) (before its : List Reply) (ready : state_of (probe_result_of s.probe_results n) ≡ ReadyState) (p : Progress n c before) (next : InvariantWithNoneDue mid) (part : IsPortTurn (turn_at plan (probe_result_of s.probe_results n) n) (port_at n) its c mid)
       (m_reached : IsReachable (after old.machine p.steps)) (on_mid : IsOn mid.device) (evidence : Evidence) where
     abbrev m : Machine
     m = after old.machine p.steps
@@ -158,14 +158,14 @@ module _ (hung : ℕ → Bool) (laws : PrerequisiteLaws) (s : ServerState) (star
       }
         where
           r : RestartsPort (port_at n) part.accesses c mid m x.evidence x.steps
-          r = (subst (λ (b : Bool). RequeuesOnFailedPortsOrRestartsOrRestsByTurn (if b then InRestart else RestingInTick) (port_at n) part.accesses c mid m x.evidence x.steps) so x.requeues_on_failed_port_or_restarts_by_turn).0
+          r = (subst (λ (b : Bool). RequeuesAndAbortsFitTurn (if b then InRestart else RestingInTick) (port_at n) part.accesses c mid m x.evidence x.steps) so x.requeues_and_aborts_fit_turn).0
 
           ties : TurnCorresponds InRestart (port_at n) its part.accesses c mid m x.evidence x.steps
           ties = subst (λ (b : Bool). TurnCorresponds (if b then InRestart else RestingInTick) (port_at n) its part.accesses c mid m x.evidence x.steps) so x.turn_corresponds
 
       rested : hung n ≡ false → HasRested old (port_at n) accesses mid evidence all
       rested not_so = record {
-        others = subst (λ (list : List Access). All (IsOfOtherPort (port_at n)) (p.accesses ++ list)) (sym rests.0) (subst (All (IsOfOtherPort (port_at n))) (sym (append-nil p.accesses))
+        others = subst (λ (list : List Access). All (KeepsToAnotherPort (port_at n)) (p.accesses ++ list)) (sym rests.0) (subst (All (KeepsToAnotherPort (port_at n))) (sym (append-nil p.accesses))
             (p.others (port_at n) (lifting.not_yet plan laws s start old reached at ports_are n c mid before its p next part m_reached on_mid)));
         same = ⊎_elim
             (λ same. same_then old.ports (ports_of c) (ports_of mid) (port_at n) same_n same)
@@ -176,8 +176,8 @@ module _ (hung : ℕ → Bool) (laws : PrerequisiteLaws) (s : ServerState) (star
         answer = λ e o here. not_early e o (subst (λ (list : List Step). Contains (list ++ p.steps) (Answer e o)) rests.1 here);
       }
         where
-          rests : RequeuesOnFailedPortsOrRestartsOrRestsByTurn RestingInTick (port_at n) part.accesses c mid m x.evidence x.steps
-          rests = subst (λ (b : Bool). RequeuesOnFailedPortsOrRestartsOrRestsByTurn (if b then InRestart else RestingInTick) (port_at n) part.accesses c mid m x.evidence x.steps) not_so x.requeues_on_failed_port_or_restarts_by_turn
+          rests : RequeuesAndAbortsFitTurn RestingInTick (port_at n) part.accesses c mid m x.evidence x.steps
+          rests = subst (λ (b : Bool). RequeuesAndAbortsFitTurn (if b then InRestart else RestingInTick) (port_at n) part.accesses c mid m x.evidence x.steps) not_so x.requeues_and_aborts_fit_turn
 
       pub ticked : HasTicked hung s old (port_at n) accesses mid evidence all
       ticked = record {
@@ -204,8 +204,8 @@ module _ (hung : ℕ → Bool) (laws : PrerequisiteLaws) (s : ServerState) (star
     abbrev accesses_then : List Access
     accesses_then = p.accesses ++ part.accesses
 
-    of_others : All (IsOfOtherPort q) part.accesses
-    of_others = All-weaker (SparesOtherPorts (port_at n)) (IsOfOtherPort q) (λ access of. (port_at n, carrying.other plan laws s start old reached at ports_are n c mid before its p part m_reached q apart, of)) part.accesses part.accesses_are_of_port
+    of_others : All (KeepsToAnotherPort q) part.accesses
+    of_others = All-weaker (SparesOtherPorts (port_at n)) (KeepsToAnotherPort q) (λ access of. (port_at n, carrying.other plan laws s start old reached at ports_are n c mid before its p part m_reached q apart, of)) part.accesses part.accesses_are_of_port
 
     pub still_ticked : HasTicked hung s old q accesses_then mid evidence steps_then
     still_ticked = record {
@@ -231,7 +231,7 @@ module _ (hung : ℕ → Bool) (laws : PrerequisiteLaws) (s : ServerState) (star
       rested = λ not.
           let r = d.ties.rested not in
           record {
-            others = All-append (IsOfOtherPort q) p.accesses part.accesses r.others of_others;
+            others = All-append (KeepsToAnotherPort q) p.accesses part.accesses r.others of_others;
             same = same_then old.ports (ports_of c) (ports_of mid) q r.same same;
             uninterrupted = λ i. r.uninterrupted (carrying.unnamed plan laws s start old reached at ports_are n c mid before its p part m_reached q apart evidence alike i);
             again = λ e here own. ⊎_elim
@@ -247,8 +247,8 @@ module _ (hung : ℕ → Bool) (laws : PrerequisiteLaws) (s : ServerState) (star
 
 -- ---- both
 
-pub ties_turned : (plan : Plan) (laws : PrerequisiteLaws) (s : ServerState) (start : SettledInvariant s) (old : AbstractState) (reached : IsReachable old.machine) (at : MachineRelation s old.machine) (ports_are : old.ports ≡ ports_of s) (n : ℕ) (c mid : ServerState) (before its : List Reply)
-    (takes : TakesTurn plan (probe_result_of s.probe_results n)) (p : progress.Progress plan laws s start old reached at ports_are n c before) (next : SettledInvariant mid) (part : IsPortTurn (turn_at plan (probe_result_of s.probe_results n) n) (port_at n) its c mid)
+pub ties_turned : (plan : Plan) (laws : PrerequisiteLaws) (s : ServerState) (start : InvariantWithNoneDue s) (old : AbstractState) (reached : IsReachable old.machine) (at : MachineRelation s old.machine) (ports_are : old.ports ≡ ports_of s) (n : ℕ) (c mid : ServerState) (before its : List Reply)
+    (takes : TakesTurn plan (probe_result_of s.probe_results n)) (p : progress.Progress plan laws s start old reached at ports_are n c before) (next : InvariantWithNoneDue mid) (part : IsPortTurn (turn_at plan (probe_result_of s.probe_results n) n) (port_at n) its c mid)
     (m_reached : IsReachable (after old.machine p.steps)) (on_mid : IsOn mid.device) (evidence : Evidence) → EvidenceAgreesOn (port_at n) (part.simulates_turn (after old.machine p.steps) m_reached p.machine_relation).evidence evidence → SamePort old.ports (ports_of c) (port_at n)
     → TiesSoFar plan s old (port_at n) (p.accesses ++ part.accesses) mid evidence ((part.simulates_turn (after old.machine p.steps) m_reached p.machine_relation).steps ++ p.steps)
 ties_turned AService laws s start old reached at ports_are n c mid before its takes p next part m_reached on_mid evidence alike same_n =
@@ -261,7 +261,7 @@ ties_turned AService laws s start old reached at ports_are n c mid before its ta
     (ready_or_not (state_of (probe_result_of s.probe_results n)))
 ties_turned (ATick hung) laws s start old reached at ports_are n c mid before its takes p next part m_reached on_mid evidence alike same_n = ticked hung laws s start old reached at ports_are n c mid before its takes p next part m_reached on_mid evidence alike same_n
 
-pub ties_carried : (plan : Plan) (laws : PrerequisiteLaws) (s : ServerState) (start : SettledInvariant s) (old : AbstractState) (reached : IsReachable old.machine) (at : MachineRelation s old.machine) (ports_are : old.ports ≡ ports_of s) (n : ℕ) (c mid : ServerState) (before its : List Reply)
+pub ties_carried : (plan : Plan) (laws : PrerequisiteLaws) (s : ServerState) (start : InvariantWithNoneDue s) (old : AbstractState) (reached : IsReachable old.machine) (at : MachineRelation s old.machine) (ports_are : old.ports ≡ ports_of s) (n : ℕ) (c mid : ServerState) (before its : List Reply)
     (p : progress.Progress plan laws s start old reached at ports_are n c before) (part : IsPortTurn (turn_at plan (probe_result_of s.probe_results n) n) (port_at n) its c mid) (m_reached : IsReachable (after old.machine p.steps)) (q : Port) (apart : q ≢ port_at n)
     (d : progress.IsDone plan laws s start old reached at ports_are c p.accesses p.steps p.evidence q) (evidence : Evidence) (alike : EvidenceAgreesOn q p.evidence evidence) (same : SamePort (ports_of c) (ports_of mid) q)
     → TiesSoFar plan s old q (p.accesses ++ part.accesses) mid evidence ((part.simulates_turn (after old.machine p.steps) m_reached p.machine_relation).steps ++ p.steps)

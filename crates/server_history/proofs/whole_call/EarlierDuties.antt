@@ -24,7 +24,7 @@ use Rattle.driver_history.specs.Histories.{IsForeignOrUnfit, HasOnlyTaskFileErro
 use Rattle.driver_history.specs.PortTurn.{HasTurnIn, EvidenceAgreesOn}
 use Rattle.server_history.specs.Prerequisites.{PrerequisiteLaws}
 use Rattle.server_history.specs.Turns.{IsPortTurn, HandlesShownErrors, ServingReady, SimulatesTurn, joint_event_of_turn}
-use Rattle.server_history.specs.ServerState.{ServerState, InCallInvariant, MachineRelation, SettledInvariant, ports_of}
+use Rattle.server_history.specs.ServerState.{ServerState, InCallInvariant, MachineRelation, InvariantWithNoneDue, ports_of}
 use Rattle.server_history.proofs.any_turn.JoinedParts.{same_then}
 use Rattle.server_history.proofs.any_turn.TurnSteps.{stood}
 use Rattle.server_history.proofs.whole_call.EarlierResults as carrying
@@ -33,7 +33,7 @@ use Rattle.server_history.proofs.whole_call.Progress as progress
 use Rattle.server_history.proofs.whole_call.TurnResults.{counts_apart}
 use Rattle.server_history.proofs.unready_turn.UnfitPort.{ready_fits}
 
-module _ (laws : PrerequisiteLaws) (s : ServerState) (start : SettledInvariant s) (old : AbstractState) (reached : IsReachable old.machine) (at : MachineRelation s old.machine) (ports_are : old.ports ≡ ports_of s) where
+module _ (laws : PrerequisiteLaws) (s : ServerState) (start : InvariantWithNoneDue s) (old : AbstractState) (reached : IsReachable old.machine) (at : MachineRelation s old.machine) (ports_are : old.ports ≡ ports_of s) where
   abbrev kept : InCallInvariant s
   kept = start.in_call_invariant
 

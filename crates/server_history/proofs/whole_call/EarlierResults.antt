@@ -26,12 +26,12 @@ use Rattle.block_machine.specs.Steps.{Step, WaitAgain, Answer}
 use Rattle.host_boot.specs.TakeOver.{probe_result_of}
 use Rattle.driver_history.specs.Evidence.{ShowsLinkChange, ShowsFailure}
 use Rattle.driver_history.specs.Histories.{FindsDone}
-use Rattle.driver_history.specs.PortTurn.{HasTurnIn, IsOfOtherPort, EvidenceAgreesOn}
+use Rattle.driver_history.specs.PortTurn.{HasTurnIn, KeepsToAnotherPort, EvidenceAgreesOn}
 use Rattle.driver_history.specs.AccessTrace.{UsesPortsAndNotGhc, ResetsLink}
 use Rattle.driver_history.specs.PortInvariants.{EngineRuns}
 use Rattle.server_history.specs.Prerequisites.{PrerequisiteLaws}
 use Rattle.server_history.specs.Turns.{IsPortTurn, HandlesShownErrors, SimulatesTurn, abstract_state_of}
-use Rattle.server_history.specs.ServerState.{ServerState, InCallInvariant, MachineRelation, SettledInvariant, ports_of, state_of}
+use Rattle.server_history.specs.ServerState.{ServerState, InCallInvariant, MachineRelation, InvariantWithNoneDue, ports_of, state_of}
 use Rattle.server_history.proofs.any_turn.TurnSteps.{others_were}
 use Rattle.server_history.proofs.whole_call.ServiceAndTick.{Plan, Uses, no_reset, turn_at}
 use Rattle.server_history.proofs.whole_call.Progress as progress
@@ -40,7 +40,7 @@ use Rattle.server_history.proofs.state.PortSlots.{ready_found}
 use Rattle.server_history.proofs.any_turn.TurnsInOrder.{again_of, answered_of}
 use Rattle.server_history.proofs.any_turn.JoinedParts.{dead_or_not}
 
-module _ (plan : Plan) (laws : PrerequisiteLaws) (s : ServerState) (start : SettledInvariant s) (old : AbstractState) (reached : IsReachable old.machine) (at : MachineRelation s old.machine) (ports_are : old.ports ≡ ports_of s) where
+module _ (plan : Plan) (laws : PrerequisiteLaws) (s : ServerState) (start : InvariantWithNoneDue s) (old : AbstractState) (reached : IsReachable old.machine) (at : MachineRelation s old.machine) (ports_are : old.ports ≡ ports_of s) where
   abbrev kept : InCallInvariant s
   kept = start.in_call_invariant
 
@@ -87,8 +87,8 @@ module _ (plan : Plan) (laws : PrerequisiteLaws) (s : ServerState) (start : Sett
         leads_to_start = refl;
         turn_leads_to_end = p.turn_is_taken;
         leads_to_new = part.accesses_are_done;
-        earlier_are_of_others = All-nil (IsOfOtherPort q);
-        later_are_of_others = All-weaker (SparesOtherPorts (port_at n)) (IsOfOtherPort q) (λ access of. (port_at n, other, of)) part.accesses part.accesses_are_of_port;
+        earlier_are_of_others = All-nil (KeepsToAnotherPort q);
+        later_are_of_others = All-weaker (SparesOtherPorts (port_at n)) (KeepsToAnotherPort q) (λ access of. (port_at n, other, of)) part.accesses part.accesses_are_of_port;
       }
 
       -- the turn answers nobody of it, and lets nobody of it wait again
@@ -157,7 +157,7 @@ module _ (plan : Plan) (laws : PrerequisiteLaws) (s : ServerState) (start : Sett
       module _ (d : IsDone c p.accesses p.steps p.evidence q) where
         -- one that is left ready so far runs
         runs_so_far : state_of (probe_result_of c.probe_results q.0) ≡ ReadyState → EngineRuns q.0 c.device
-        runs_so_far ready_c = (p.settled_invariant.in_call_invariant.port_invariant q.0 (ready_found c q.0 p.settled_invariant.in_call_invariant ready_c).0).ready_engine_runs ready_c
+        runs_so_far ready_c = (p.invariant_with_none_due.in_call_invariant.port_invariant q.0 (ready_found c q.0 p.invariant_with_none_due.in_call_invariant ready_c).0).ready_engine_runs ready_c
 
         -- where it was stopped so far and left ready, ST was set since the call began
         set_since : state_of (probe_result_of c.probe_results q.0) ≡ ReadyState → IsStoppedOrStuck p.evidence q → length s.device.tape ≤ (c.device.port q.0).notes.st_set_at

@@ -27,12 +27,12 @@ use Rattle.host_boot.specs.TakeOver.{probe_result_of}
 use Rattle.driver_history.specs.Evidence.{IsEvidencedOf, IsFaultTold}
 use Rattle.driver_history.specs.Histories.{FindsDone, IsForeignOrUnfit, IssuesDue, PortCorresponds}
 use Rattle.driver_history.specs.PortInvariants.{HasNoUnanswered}
-use Rattle.driver_history.specs.PortTurn.{ForeignOrUnfitShowingXEndsNoLinkDue, IsOfOtherPort}
+use Rattle.driver_history.specs.PortTurn.{ForeignOrUnfitShowingXEndsNoLinkDue, KeepsToAnotherPort}
 use Rattle.driver_history.specs.AccessTrace.{UsesPortsAndNotGhc, WritesNeitherCmdNorSctl, ResetsLink}
 use Rattle.server_history.specs.Prerequisites.{PrerequisiteLaws}
 use Rattle.server_history.specs.Turns.{HandlesShownErrors, ServingReady, IsByDeviceOrOnSuchPort, abstract_state_of, joint_event_of_turn}
 use Rattle.server_history.proofs.whole_call.ServiceAndTick.{AService, ATick, OwesBy, Plan, TakesTurn, Uses, asks_for, owes_nothing, ready_takes}
-use Rattle.server_history.specs.ServerState.{ServerState, InCallInvariant, MachineRelation, SettledInvariant, mode_at, mode_in, ports_of, remembered_at, slots_at, state_of}
+use Rattle.server_history.specs.ServerState.{ServerState, InCallInvariant, MachineRelation, InvariantWithNoneDue, mode_at, mode_in, ports_of, remembered_at, slots_at, state_of}
 use Rattle.server_history.proofs.state.DueRequests.{none_issued}
 use Rattle.server_history.proofs.state.CallEvidence.{no_evidence}
 use Rattle.server_history.proofs.any_turn.TurnsInOrder.{AreTurns, again_of, all_of_ports, answered_of, no_turns, turns_more}
@@ -56,7 +56,7 @@ pub record IsRestarted (old : JointState Device) (port : Port) (accesses : List 
 
 -- It has let the port rest.
 pub record HasRested (old : AbstractState) (port : Port) (accesses : List Access) (c : ServerState) (evidence : Evidence) (steps : List Step) : Type 0 where
-  pub others : All (IsOfOtherPort port) accesses
+  pub others : All (KeepsToAnotherPort port) accesses
   pub same : SamePort old.ports (ports_of c) port
   pub uninterrupted : IsStoppedOrStuck evidence port → ⊥
   pub again : (e : Pending) → Contains steps (WaitAgain e) → e.request.port ≢ port
@@ -114,7 +114,7 @@ rested_ties (ATick hung) s old port accesses c evidence steps ports_are not rest
 
 -- ---- and of all
 
-module _ (plan : Plan) (laws : PrerequisiteLaws) (s : ServerState) (start : SettledInvariant s) (old : AbstractState) (reached : IsReachable old.machine) (at : MachineRelation s old.machine) (ports_are : old.ports ≡ ports_of s) where
+module _ (plan : Plan) (laws : PrerequisiteLaws) (s : ServerState) (start : InvariantWithNoneDue s) (old : AbstractState) (reached : IsReachable old.machine) (at : MachineRelation s old.machine) (ports_are : old.ports ≡ ports_of s) where
   abbrev pub kept : InCallInvariant s
   kept = start.in_call_invariant
 
@@ -147,13 +147,13 @@ module _ (plan : Plan) (laws : PrerequisiteLaws) (s : ServerState) (start : Sett
 
   -- Ports below this number had their turns, which led to this server with these replies.
   pub record Progress (n : ℕ) (c : ServerState) (replies : List Reply) : Type 0 where
-    pub settled_invariant : SettledInvariant c
+    pub invariant_with_none_due : InvariantWithNoneDue c
     pub wanted : c.wanted ≡ s.wanted
     pub adapter_is_on : IsOn c.device
     pub accesses : List Access
     pub turn_is_taken : DoesAll accesses s.device c.device
     pub serving : All (UsesPortsAndNotGhc (Uses plan old.ports)) accesses
-    pub others : (q : Port) → (HadTurn n q → ⊥) → All (IsOfOtherPort q) accesses
+    pub others : (q : Port) → (HadTurn n q → ⊥) → All (KeepsToAnotherPort q) accesses
     pub steps : List Step
     pub turns : AreTurns old n steps
     pub machine_relation : MachineRelation c (after old.machine steps)
@@ -181,13 +181,13 @@ module _ (plan : Plan) (laws : PrerequisiteLaws) (s : ServerState) (start : Sett
 
   pub begun : Progress 0 s []
   begun = record {
-    settled_invariant = start;
+    invariant_with_none_due = start;
     wanted = refl;
     adapter_is_on = kept.adapter_is_on;
     accesses = [];
     turn_is_taken = refl;
     serving = All-nil (UsesPortsAndNotGhc (Uses plan old.ports));
-    others = λ q none. All-nil (IsOfOtherPort q);
+    others = λ q none. All-nil (KeepsToAnotherPort q);
     steps = [];
     turns = no_turns laws old reached;
     machine_relation = at;
@@ -213,7 +213,7 @@ module _ (plan : Plan) (laws : PrerequisiteLaws) (s : ServerState) (start : Sett
     told = refl;
     faults = λ told here. absurd (nowhere told here);
     done = λ q lt. absurd (omega (arith, lt));
-    due = λ q is_ready. none_issued s old.machine at [] (λ id. refl) (mode_in s q) q (start.nothing_is_due q);
+    due = λ q is_ready. none_issued s old.machine at [] (λ id. refl) (mode_in s q) q (start.none_is_due q);
     of = All-nil (IsByDeviceOrOnSuchPort (HadTurn 0));
     found = λ q none. refl;
     remembered = λ q none. refl;
@@ -233,11 +233,11 @@ module _ (plan : Plan) (laws : PrerequisiteLaws) (s : ServerState) (start : Sett
     (λ here. none (All-contains (HadTurn n) evidence.stuck q names.stuck here)),
   )
 
-  pub others_leave : (q : Port) (accesses : List Access) → All (IsOfOtherPort q) accesses → All (WritesNeitherCmdNorSctl q) accesses
-  others_leave q accesses of = All-weaker (IsOfOtherPort q) (WritesNeitherCmdNorSctl q) (λ access x. (laws.one_port_spares_registers x.0 q Cmd x.1 access x.2, laws.one_port_spares_registers x.0 q Sctl x.1 access x.2)) accesses of
+  pub others_leave : (q : Port) (accesses : List Access) → All (KeepsToAnotherPort q) accesses → All (WritesNeitherCmdNorSctl q) accesses
+  others_leave q accesses of = All-weaker (KeepsToAnotherPort q) (WritesNeitherCmdNorSctl q) (λ access x. (laws.one_port_spares_registers x.0 q Cmd x.1 access x.2, laws.one_port_spares_registers x.0 q Sctl x.1 access x.2)) accesses of
 
   -- nothing is asked of the evidence of a port that has no turn, and that it doesn't name
-  none_evidenced : (accesses : List Access) (new : Device) (ports : Ports) (evidence : Evidence) (q : Port) → (Takes q → ⊥) → NamesSome Takes evidence → All (IsOfOtherPort q) accesses
+  none_evidenced : (accesses : List Access) (new : Device) (ports : Ports) (evidence : Evidence) (q : Port) → (Takes q → ⊥) → NamesSome Takes evidence → All (KeepsToAnotherPort q) accesses
       → IsEvidencedOf (asks_for plan) (Replied []) accesses began ports new evidence q
   none_evidenced accesses new ports evidence q not names of =
       let was_ready : old.ports.state q ≡ ReadyState → ⊥ = λ is. not (ready_takes plan (probe_result_of s.probe_results q.0) (sym (ap (λ (ports : Ports). ports.state q) ports_are) ∙ is)) in
@@ -287,7 +287,7 @@ module _ (plan : Plan) (laws : PrerequisiteLaws) (s : ServerState) (start : Sett
   -- a port is passed over that has no turn
   pub skipped : (n : ℕ) (c : ServerState) (replies : List Reply) → (TakesTurn plan (probe_result_of s.probe_results n) → ⊥) → Progress n c replies → Progress (n + 1) c replies
   skipped n c replies other p = record {
-    settled_invariant = p.settled_invariant;
+    invariant_with_none_due = p.invariant_with_none_due;
     wanted = p.wanted;
     adapter_is_on = p.adapter_is_on;
     accesses = p.accesses;

@@ -21,11 +21,11 @@ use Rattle.driver_history.specs.Histories.{PortCorresponds}
 use Rattle.server_history.proofs.any_turn.JoinedParts.{dead_or_not}
 use Rattle.driver_history.specs.Evidence.{IsEvidenced}
 use Rattle.request_queue.specs.BookRelation.{EntryRelation}
-use Rattle.server_history.specs.Histories.{ExtendsToSettled, LeadsToServer}
+use Rattle.server_history.specs.Histories.{ExtendsToNoneDue, LeadsToServer}
 use Rattle.server_history.specs.Prerequisites.{PrerequisiteLaws}
 use Rattle.server_history.specs.Turns.{IsPortTurn, ServicesEachPort, ServicesPort, ProbesUnready}
 use Rattle.server_history.specs.Probing.{FindsReasonToBoot}
-use Rattle.server_history.specs.ServerState.{ServerState, InCallInvariant, MachineRelation, SettledInvariant, mode_in, ports_of, state_of}
+use Rattle.server_history.specs.ServerState.{ServerState, InCallInvariant, MachineRelation, InvariantWithNoneDue, mode_in, ports_of, state_of}
 use Rattle.server_history.proofs.state.DueRequests.{none_due}
 use Rattle.server_history.proofs.start.NewServer.{kept_fit}
 use Rattle.server_history.proofs.state.HistorySteps.{holding, happening_with, lead_with, with_device}
@@ -35,7 +35,7 @@ use Rattle.server_history.proofs.whole_call.ServiceAndTick.{AService, TakesTurn,
 use Rattle.server_history.proofs.whole_call.Progress.{IsDone, Progress, answered_was, begun, idle_done}
 use Rattle.server_history.proofs.whole_call.AllTurns.{Whole, go, turns_kept}
 
-module _ (laws : PrerequisiteLaws) (s new : ServerState) (replies : List Reply) (start : SettledInvariant s) (serves : ServicesEachPort 0 s.probe_results replies s new) (first : JointState Device) (past : List (JointEvent Device DeviceStep)) (leads : LeadsToServer first past s) where
+module _ (laws : PrerequisiteLaws) (s new : ServerState) (replies : List Reply) (start : InvariantWithNoneDue s) (serves : ServicesEachPort 0 s.probe_results replies s new) (first : JointState Device) (past : List (JointEvent Device DeviceStep)) (leads : LeadsToServer first past s) where
   abbrev old : AbstractState
   old = (joint_state_after first past).abstract
 
@@ -78,7 +78,7 @@ module _ (laws : PrerequisiteLaws) (s new : ServerState) (replies : List Reply) 
   p = ends.progress
 
   abbrev holds : InCallInvariant new
-  holds = p.settled_invariant.in_call_invariant
+  holds = p.invariant_with_none_due.in_call_invariant
 
   abbrev began : JointState Device
   began = with_device s.device (joint_state_after first past)
@@ -106,7 +106,7 @@ module _ (laws : PrerequisiteLaws) (s new : ServerState) (replies : List Reply) 
     replies_match = record { answers = p.answers; is_permutation = p.permuted; ordered = p.book_is_in_order; replies_are_of_answers = p.told };
     dead_ports_tell_only_port_dead = λ e o h dead. absurd ((answered_was AService laws s start old reached at same ends.count new replies p e o h).1 (sym (is_ready e.request.port) ∙ dead));
     unplugged_outcome_empties_port = p.unplugs;
-    none_is_due_where_ready = λ port ready. none_due new (after old.machine p.steps) p.machine_relation (mode_in new port) port (p.settled_invariant.nothing_is_due port);
+    none_is_due_where_ready = λ port ready. none_due new (after old.machine p.steps) p.machine_relation (mode_in new port) port (p.invariant_with_none_due.none_is_due port);
     empty_unless_ready = none_waits;
     answers_ok_what_had_ended = λ port ready. ((done port).ties.0.handles_evidence ready).answers_ok_what_had_ended;
     port_is_serviced = λ port. (done port).becomes;
@@ -152,5 +152,5 @@ module _ (laws : PrerequisiteLaws) (s new : ServerState) (replies : List Reply) 
       port_part
       p.backed p.machine_relation
 
-pub law_services_extend_history : PrerequisiteLaws → (s new : ServerState) (replies : List Reply) → SettledInvariant s → ServicesEachPort 0 s.probe_results replies s new → ExtendsToSettled s new Service (Replied replies)
-law_services_extend_history laws s new replies start serves = record { settled_invariant = turns_kept ServicesPort ProbesUnready s.probe_results 0 s new replies start serves; extends_history = λ first past leads. service_event laws s new replies start serves first past leads }
+pub law_services_extend_history : PrerequisiteLaws → (s new : ServerState) (replies : List Reply) → InvariantWithNoneDue s → ServicesEachPort 0 s.probe_results replies s new → ExtendsToNoneDue s new Service (Replied replies)
+law_services_extend_history laws s new replies start serves = record { invariant_with_none_due = turns_kept ServicesPort ProbesUnready s.probe_results 0 s new replies start serves; extends_history = λ first past leads. service_event laws s new replies start serves first past leads }

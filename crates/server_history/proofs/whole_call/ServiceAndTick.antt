@@ -22,7 +22,7 @@ use Rattle.driver_history.specs.Histories.{IsServedAndNotDead}
 use Rattle.host_boot.specs.declared.ProbeResult.{ProbeResult}
 use Rattle.host_boot.specs.declared.ProbeResult.TheVariants.{Ready, Unready, Unserved}
 use Rattle.server_history.specs.ServerState.{ServerState, is_served, state_of}
-use Rattle.server_history.specs.Turns.{RestingInTick, InRestart, ServingReady, InProbe, IsByDeviceOrOnSuchPort, RequeuesOnFailedPortsOrRestartsOrRestsByTurn, Turn, ask_of_turn}
+use Rattle.server_history.specs.Turns.{RestingInTick, InRestart, ServingReady, InProbe, IsByDeviceOrOnSuchPort, RequeuesAndAbortsFitTurn, Turn, ask_of_turn}
 use Rattle.server_history.proofs.any_turn.JoinedParts.{joined}
 use Rattle.server_history.proofs.state.CallEvidence.{no_evidence}
 use Rattle.server_history.proofs.any_turn.TurnsInOrder.{grounded_join, grounded_on}
@@ -147,13 +147,13 @@ any_said (ATick hung) one other made i ports d e q v = record {
 }
 
 -- what is owed is so of more steps, with what the turn owes
-pub owes_join : (plan : Plan) (found : ProbeResult) (n : ℕ) (port : Port) (accesses : List Access) (old new : ServerState) (m : Machine) (early its : Evidence) (steps late : List Step) → OwesBy plan early steps → RequeuesOnFailedPortsOrRestartsOrRestsByTurn (turn_at plan found n) port accesses old new m its late
+pub owes_join : (plan : Plan) (found : ProbeResult) (n : ℕ) (port : Port) (accesses : List Access) (old new : ServerState) (m : Machine) (early its : Evidence) (steps late : List Step) → OwesBy plan early steps → RequeuesAndAbortsFitTurn (turn_at plan found n) port accesses old new m its late
     → OwesBy plan (joined early its) (late ++ steps)
 owes_join AService found n port accesses old new m early its steps late so_far turn = grounded_join (joined early its) late steps
     (grounded_on its (joined early its) (λ q there. Contains-append_right early.showing_error its.showing_error q there) late (by found turn))
     (grounded_on early (joined early its) (λ q there. Contains-append_left early.showing_error its.showing_error q there) steps so_far)
   where
-    by : (was : ProbeResult) → RequeuesOnFailedPortsOrRestartsOrRestsByTurn (turn_at AService was n) port accesses old new m its late → OnlyFailedPortsRequeueAbortRevokeOrFault its late
+    by : (was : ProbeResult) → RequeuesAndAbortsFitTurn (turn_at AService was n) port accesses old new m its late → OnlyFailedPortsRequeueAbortRevokeOrFault its late
     by (Ready info) o = o
     by (Unready state) o = o.0
     by Unserved o = o.0
@@ -162,12 +162,12 @@ owes_join (ATick hung) found n port accesses old new m early its steps late so_f
     none : its.faults ≡ [] → early.faults ++ its.faults ≡ []
     none is = ap (λ list. list ++ its.faults) so_far ∙ is
 
-    by : (b : Bool) → RequeuesOnFailedPortsOrRestartsOrRestsByTurn (if b then InRestart else RestingInTick) port accesses old new m its late → early.faults ++ its.faults ≡ []
+    by : (b : Bool) → RequeuesAndAbortsFitTurn (if b then InRestart else RestingInTick) port accesses old new m its late → early.faults ++ its.faults ≡ []
     by true (restarts, is) = none is
     by false (made, did, is, uninterrupted) = none is
 
 -- of a port that isn't ready no fault is told, and no loss
-pub ready_or_silent : (plan : Plan) (found : ProbeResult) (n : ℕ) (port : Port) (accesses : List Access) (old new : ServerState) (m : Machine) (its : Evidence) (steps : List Step) → TakesTurn plan found → RequeuesOnFailedPortsOrRestartsOrRestsByTurn (turn_at plan found n) port accesses old new m its steps
+pub ready_or_silent : (plan : Plan) (found : ProbeResult) (n : ℕ) (port : Port) (accesses : List Access) (old new : ServerState) (m : Machine) (its : Evidence) (steps : List Step) → TakesTurn plan found → RequeuesAndAbortsFitTurn (turn_at plan found n) port accesses old new m its steps
     → (state_of found ≡ ReadyState) ⊎ ((its.faults ≡ []) × (its.lost ≡ []))
 ready_or_silent AService (Ready info) n port accesses old new m its steps takes o = inl refl
 ready_or_silent AService (Unready state) n port accesses old new m its steps takes o = inr (o.1, o.2)

@@ -35,7 +35,7 @@ use Rattle.block_machine.specs.Steps.{Step, Age, WaitAgain, Answer, after_step, 
 use Rattle.server_history.proofs.state.ListMembers.{contains_cases, contains_here, into_map, map_in, none_of}
 use Rattle.driver_history.specs.Evidence.{IsEvidenced}
 use Rattle.driver_history.specs.Histories.{FindsDone, IssuesDue, PortCorresponds}
-use Rattle.driver_history.specs.PortTurn.{IsOfOtherPort}
+use Rattle.driver_history.specs.PortTurn.{KeepsToAnotherPort}
 use Rattle.driver_history.specs.AccessTrace.{WritesOneToNoTroubleBit, StaysInDriverFrames, UsesPortsAndNotGhc, WritesNeitherCmdNorSctl}
 use Rattle.host_boot.specs.TakeOver.{probe_result_of}
 use Rattle.host_boot.specs.declared.ProbeResult.{ProbeResult}
@@ -43,8 +43,8 @@ use Rattle.host_boot.specs.declared.ProbeResult.TheVariants.{Ready, Unready, Uns
 use Rattle.request_queue.specs.BookEntries.{BookEntry, HasOverdueOn}
 use Rattle.request_queue.specs.BookRelation.{EntryRelation}
 use Rattle.server_history.specs.Prerequisites.{PrerequisiteLaws}
-use Rattle.server_history.specs.Histories.{ExtendsToSettled, LeadsToServer}
-use Rattle.server_history.specs.ServerState.{ServerState, InCallInvariant, MachineRelation, SettledInvariant, mode_in, ports_of, state_of}
+use Rattle.server_history.specs.Histories.{ExtendsToNoneDue, LeadsToServer}
+use Rattle.server_history.specs.ServerState.{ServerState, InCallInvariant, MachineRelation, InvariantWithNoneDue, mode_in, ports_of, state_of}
 use Rattle.server_history.specs.Turns.{RestingInTick, IsPortTurn, HandlesShownErrors, InRestart, ServingReady, IsByDeviceOrOnSuchPort, Ticks, TakesTickTurn, a_tick_older, joint_state_of, is_ready}
 use Rattle.server_history.proofs.plain_calls.OlderRequests.{older_by, older_ended, older_issued, older_request, older_settled, older_stands, serves_on}
 use Rattle.server_history.proofs.plain_calls.Acceptances.{any_in}
@@ -88,7 +88,7 @@ is_so_overdue book port o = ⊎_elim
 
 -- ---- a port that rests
 
-module _ (laws : PrerequisiteLaws) (port : Port) (low : port.0 < 4) (c : ServerState) (settled : SettledInvariant c) where
+module _ (laws : PrerequisiteLaws) (port : Port) (low : port.0 < 4) (c : ServerState) (settled : InvariantWithNoneDue c) where
   resting : IsPortTurn RestingInTick port [] c c
   resting = record {
     accesses = [];
@@ -124,13 +124,13 @@ module _ (laws : PrerequisiteLaws) (port : Port) (low : port.0 < 4) (c : ServerS
         stuck = All-nil (λ q. q ≡ port);
       };
       answers_are_lawful = tt;
-      requeues_on_failed_port_or_restarts_by_turn = (refl, refl, refl, uninterrupted);
+      requeues_and_aborts_fit_turn = (refl, refl, refl, uninterrupted);
       replies_match = record { answers = []; is_permutation = IsPermutation-refl []; ordered = λ i j d lt below. absurd (omega (arith, lt, below)); replies_are_of_answers = refl };
       unplugged_outcome_empties_port = record { none_is_left = λ e other here there. absurd (nowhere (Answer e Unplugged) here); none_is_told_dead = λ e other here there. absurd (nowhere (Answer e Unplugged) here) };
       port_is_serviced = (λ dead. same, λ lives. (record { served_is_unchanged = refl; dead_exactly_if_stuck = (λ dead. absurd (lives dead), λ named. absurd (nowhere port named)); disk_is_remembered_unless_ready = λ unready. (refl, refl) }, inl same));
       shown_disk_was_in_or_came = inl same;
       same_disk_or_none_unanswered = inl (refl, refl);
-      issues_due = λ ready. none_issued c m is [] (λ id. refl) (mode_in c port) port (settled.nothing_is_due port);
+      issues_due = λ ready. none_issued c m is [] (λ id. refl) (mode_in c port) port (settled.none_is_due port);
       is_evidenced = evidenced_of (port ∷ []) Tick (Replied []) [] (joint_state_of c m) (ports_of c) c.device port (λ ready. contains_here port [] port refl) (All-nil (WritesNeitherCmdNorSctl port));
       faults_are_told = λ told here. absurd (nowhere told here);
       turn_corresponds = tt;
@@ -178,7 +178,7 @@ serving_on One Other each (Loading at bytes) is = (is.0, is.1, tt)
 serving_on One Other each (Storing at bytes) is = (is.0, is.1, tt)
 
 -- accesses of another port clear no bit that tells of this one's trouble
-other_clears_none : (port : Port) (access : Access) → IsOfOtherPort port access → WritesOneToNoTroubleBit port access
+other_clears_none : (port : Port) (access : Access) → KeepsToAnotherPort port access → WritesOneToNoTroubleBit port access
 other_clears_none port (Writing (Px at r) v) (other, apart, of) = record {
   pxis_trouble_is_kept = λ q. let z : Px at r ≡ Px port register.Is = q in absurd (apart (ap (λ (p : Port). p.0) (sym (let same : at ≡ port = cc in same) ∙ of)));
   serr_trouble_is_kept = λ q. let z : Px at r ≡ Px port register.Serr = q in absurd (apart (ap (λ (p : Port). p.0) (sym (let same : at ≡ port = cc in same) ∙ of)));
@@ -190,7 +190,7 @@ other_clears_none port (Storing at bytes) of = tt
 
 -- ---- the event
 
-module _ (laws : PrerequisiteLaws) (s new : ServerState) (replies : List Reply) (start : SettledInvariant s) (ticks : Ticks replies s new) (first : JointState Device) (past : List (JointEvent Device DeviceStep)) (leads : LeadsToServer first past s) where
+module _ (laws : PrerequisiteLaws) (s new : ServerState) (replies : List Reply) (start : InvariantWithNoneDue s) (ticks : Ticks replies s new) (first : JointState Device) (past : List (JointEvent Device DeviceStep)) (leads : LeadsToServer first past s) where
   abbrev kept : InCallInvariant s
   kept = start.in_call_invariant
 
@@ -216,7 +216,7 @@ module _ (laws : PrerequisiteLaws) (s new : ServerState) (replies : List Reply) 
   abbrev old : AbstractState
   old = record { machine = after_step was.machine (Age ready); ports = was.ports }
 
-  aged_start : SettledInvariant aged
+  aged_start : InvariantWithNoneDue aged
   aged_start = older_settled laws s start
 
   aged_at : MachineRelation aged old.machine
@@ -239,7 +239,7 @@ module _ (laws : PrerequisiteLaws) (s new : ServerState) (replies : List Reply) 
   turn_part n c mid before its is_ready_n p (inr (young, none, still)) =
       subst (λ (b : Bool). IsPortTurn (if b then InRestart else RestingInTick) (port_at n) its c mid)
       (sym (⊎_elim (λ so. absurd (young (overdue_is aged.book n so))) (λ not_so. not_so) (cases_Bool (hung n))))
-      (subst (IsPortTurn RestingInTick (port_at n) its c) (sym still) (subst (λ (list : List Reply). IsPortTurn RestingInTick (port_at n) list c c) (sym none) (resting laws (port_at n) (ready_found s n kept is_ready_n).0 c p.settled_invariant)))
+      (subst (IsPortTurn RestingInTick (port_at n) its c) (sym still) (subst (λ (list : List Reply). IsPortTurn RestingInTick (port_at n) list c c) (sym none) (resting laws (port_at n) (ready_found s n kept is_ready_n).0 c p.invariant_with_none_due)))
 
   -- another port is passed over
   other_part : (n : ℕ) (c mid : ServerState) (before : List Reply) (state : PortState) → probe_result_of s.probe_results n ≡ Unready state → Progress plan laws aged aged_start old aged_reached aged_at same n c before → mid ≡ c
@@ -256,7 +256,7 @@ module _ (laws : PrerequisiteLaws) (s new : ServerState) (replies : List Reply) 
   steps = p.steps ++ Age ready ∷ []
 
   abbrev holds : InCallInvariant new
-  holds = p.settled_invariant.in_call_invariant
+  holds = p.invariant_with_none_due.in_call_invariant
 
   abbrev end : AbstractState
   end = record { machine = after was.machine steps; ports = ports_of new }
@@ -441,7 +441,7 @@ module _ (laws : PrerequisiteLaws) (s new : ServerState) (replies : List Reply) 
       none_is_left = λ e other here there. p.unplugs.none_is_left e other (in_steps e Unplugged here) (in_end other there);
       none_is_told_dead = λ e other here there. p.unplugs.none_is_told_dead e other (in_steps e Unplugged here) (in_steps other PortDead there);
     };
-    none_is_due_where_ready = λ port is. none_due new end.machine stands_then (mode_in new port) port (p.settled_invariant.nothing_is_due port);
+    none_is_due_where_ready = λ port is. none_due new end.machine stands_then (mode_in new port) port (p.invariant_with_none_due.none_is_due port);
     was_ready_empty_unless_ready = λ port _. none_waits port;
   }
     where
@@ -491,7 +491,7 @@ module _ (laws : PrerequisiteLaws) (s new : ServerState) (replies : List Reply) 
       (λ r. record {
         loses_no_error = laws.calls.ordinary_accesses_lose_no_error port (record { device = s.device; abstract = old }) new.device p.accesses p.evidence (ports_of new) kept.adapter_is_on p.turn_is_taken
             (All-weaker (UsesPortsAndNotGhc (Uses plan old.ports)) (DoesNotWrite Ghc) (λ access serving. serving.1) p.accesses p.serving)
-            (All-weaker (IsOfOtherPort port) (WritesOneToNoTroubleBit port) (other_clears_none port) p.accesses r.1.others);
+            (All-weaker (KeepsToAnotherPort port) (WritesOneToNoTroubleBit port) (other_clears_none port) p.accesses r.1.others);
         runs_well_anew = λ i. absurd (r.1.uninterrupted i);
       })
       (restarted_or_not port)
@@ -528,8 +528,8 @@ module _ (laws : PrerequisiteLaws) (s new : ServerState) (replies : List Reply) 
       (laws.backed_parts_join s.device s.device new.device was.machine (Age ready ∷ []) p.steps (laws.drivers_own_step_is_backed s.device was.machine (Age ready) (λ x. x)) p.backed)
       (subst (MachineRelation new) (sym whole_is) p.machine_relation)
 
-pub law_ticks_extend_history : PrerequisiteLaws → (s new : ServerState) (replies : List Reply) → SettledInvariant s → Ticks replies s new → ExtendsToSettled s new Tick (Replied replies)
+pub law_ticks_extend_history : PrerequisiteLaws → (s new : ServerState) (replies : List Reply) → InvariantWithNoneDue s → Ticks replies s new → ExtendsToNoneDue s new Tick (Replied replies)
 law_ticks_extend_history laws s new replies start ticks = record {
-  settled_invariant = turns_kept (TakesTickTurn (a_tick_older s).book) (λ port one other. other ≡ one) s.probe_results 0 (a_tick_older s) new replies (older_settled laws s start) ticks;
+  invariant_with_none_due = turns_kept (TakesTickTurn (a_tick_older s).book) (λ port one other. other ≡ one) s.probe_results 0 (a_tick_older s) new replies (older_settled laws s start) ticks;
   extends_history = λ first past leads. tick_event laws s new replies start ticks first past leads;
 }

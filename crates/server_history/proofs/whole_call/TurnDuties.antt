@@ -30,7 +30,7 @@ use Rattle.driver_history.specs.Histories.{BootsAnewWhereRequired, FindsDone, Is
 use Rattle.driver_history.specs.PortTurn.{HasTurnIn, EvidenceAgreesOn}
 use Rattle.server_history.specs.Prerequisites.{PrerequisiteLaws}
 use Rattle.server_history.specs.Turns.{IsPortTurn, HandlesShownErrors, ServingReady, SimulatesTurn, TurnCorresponds, Turn, joint_state_of, abstract_state_of, joint_event_of_turn}
-use Rattle.server_history.specs.ServerState.{HasStoredCommand, ServerState, InCallInvariant, MachineRelation, SettledInvariant, ports_of, state_of}
+use Rattle.server_history.specs.ServerState.{HasStoredCommand, ServerState, InCallInvariant, MachineRelation, InvariantWithNoneDue, ports_of, state_of}
 use Rattle.server_history.proofs.any_turn.JoinedParts.{same_then}
 use Rattle.server_history.proofs.whole_call.TurnResults as lifting
 use Rattle.server_history.proofs.whole_call.TurnResults.{counts_apart}
@@ -39,7 +39,7 @@ use Rattle.server_history.proofs.whole_call.Progress as progress
 use Rattle.server_history.proofs.state.PortSlots.{ready_found, free_unused}
 use Rattle.server_history.proofs.unready_turn.UnfitPort.{ready_fits}
 
-module _ (laws : PrerequisiteLaws) (s : ServerState) (start : SettledInvariant s) (old : AbstractState) (reached : IsReachable old.machine) (at : MachineRelation s old.machine) (ports_are : old.ports ≡ ports_of s) where
+module _ (laws : PrerequisiteLaws) (s : ServerState) (start : InvariantWithNoneDue s) (old : AbstractState) (reached : IsReachable old.machine) (at : MachineRelation s old.machine) (ports_are : old.ports ≡ ports_of s) where
   abbrev kept : InCallInvariant s
   kept = start.in_call_invariant
 
@@ -52,7 +52,7 @@ module _ (laws : PrerequisiteLaws) (s : ServerState) (start : SettledInvariant s
   abbrev Progress : ℕ → ServerState → List Reply → Type 0
   Progress n c replies = progress.Progress AService laws s start old reached at ports_are n c replies
 
-  module _ (n : ℕ) (c mid : ServerState) (before its : List Reply) (ready : state_at n ≡ ReadyState) (p : Progress n c before) (next : SettledInvariant mid) (part : IsPortTurn (turn_at AService (probe_result_of s.probe_results n) n) (port_at n) its c mid)
+  module _ (n : ℕ) (c mid : ServerState) (before its : List Reply) (ready : state_at n ≡ ReadyState) (p : Progress n c before) (next : InvariantWithNoneDue mid) (part : IsPortTurn (turn_at AService (probe_result_of s.probe_results n) n) (port_at n) its c mid)
       (m_reached : IsReachable (after old.machine p.steps)) (on_mid : IsOn mid.device) where
     abbrev m : Machine
     m = after old.machine p.steps
@@ -134,7 +134,7 @@ module _ (laws : PrerequisiteLaws) (s : ServerState) (start : SettledInvariant s
 
         plain_now : is_queued (lifting.by AService laws s start old reached at ports_are n c mid before its p next part m_reached on_mid ready e it).serves.command.operation ≡ false
         plain_now =
-            let k = p.settled_invariant.in_call_invariant.slots_store_commands n it.has.slot it.has.used it.has.used_is in
+            let k = p.invariant_with_none_due.in_call_invariant.slots_store_commands n it.has.slot it.has.used it.has.used_is in
             let its = (lifting.by AService laws s start old reached at ports_are n c mid before its p next part m_reached on_mid ready e it).serves in
             let same = laws.slots.decoding_is_unique c.device.memory (c.device.port n).bases.clb it.has.slot its.command k.command its.places k.places its.slot_decodes_to.decodes_to k.stored.slot_decodes_to.decodes_to in
             ap (λ (y : Meaning). is_queued y.operation) same.0 ∙ k.is_queued_as_given ∙ used_plain
@@ -145,14 +145,14 @@ module _ (laws : PrerequisiteLaws) (s : ServerState) (start : SettledInvariant s
 
         -- the fault that is shown then is of that slot, which is in use
         faults : RecordsFaults c.device.tape (c.device.port n) n
-        faults = ((p.settled_invariant.in_call_invariant.port_invariant n low).ready_engine_runs ready_c).faults_are_recorded
+        faults = ((p.invariant_with_none_due.in_call_invariant.port_invariant n low).ready_engine_runs ready_c).faults_are_recorded
 
         fault : ShowsFault (drop (c.device.port n).notes.st_set_at c.device.tape) (c.device.port n) n
         fault = faults.shows_last_fault (faults.tfes_tells_fault alone_now.shows_only_tfes.tfes_is_set)
 
         used_still : InUse (c.device.port n) it.has.slot
         used_still =
-            let sole = p.settled_invariant.in_call_invariant.plain_is_alone_in_slot_0 n it.has.slot it.has.used it.has.used_is used_plain in
+            let sole = p.invariant_with_none_due.in_call_invariant.plain_is_alone_in_slot_0 n it.has.slot it.has.used it.has.used_is used_plain in
             subst (InUse (c.device.port n)) (laws.slots.shown_fault_is_of_lone_slot p.machine_relation.uses m c.device n it.has.slot (drop (c.device.port n).notes.st_set_at c.device.tape) p.machine_relation.driver_relation.state_relation fault
             (λ other apart. free_unused c m n p.machine_relation ready_c other (sole.1 other (λ zero. apart (zero ∙ sym sole.0))))) fault.slot_is_issued_or_taken
 

@@ -32,13 +32,13 @@ use Rattle.host_boot.specs.TakeOver.{probe_result_of}
 use Rattle.driver_history.specs.EvidenceHandling.{tells_fault}
 use Rattle.driver_history.specs.Evidence.{ShowsLinkChange, ShowsFailure}
 use Rattle.driver_history.specs.Histories.{FindsDone, IsAnsweredOk, IsIssuedOn, RunsWellAnew}
-use Rattle.driver_history.specs.PortTurn.{HasTurnIn, IsOfOtherPort, EvidenceAgreesOn}
+use Rattle.driver_history.specs.PortTurn.{HasTurnIn, KeepsToAnotherPort, EvidenceAgreesOn}
 use Rattle.driver_history.specs.AccessTrace.{DoesNotWriteCmd, WritesNeitherCmdNorSctl, ResetsLink}
 use Rattle.driver_history.specs.PortInvariants.{EngineRuns}
 use Rattle.server_history.specs.Prerequisites.{PrerequisiteLaws}
 use Rattle.server_history.specs.Turns.{FindsDoneInTurn, IsPortTurn, HandlesShownErrors, SimulatesTurn, joint_state_of, abstract_state_of}
 use Rattle.server_history.proofs.whole_call.ServiceAndTick.{Plan, TakesTurn, not_reset, turn_at}
-use Rattle.server_history.specs.ServerState.{ServerState, InCallInvariant, MachineRelation, SettledInvariant, ports_of, state_of, used_for}
+use Rattle.server_history.specs.ServerState.{ServerState, InCallInvariant, MachineRelation, InvariantWithNoneDue, ports_of, state_of, used_for}
 use Rattle.server_history.proofs.any_turn.TurnSteps.{IsSame, counts_none}
 use Rattle.server_history.proofs.whole_call.Progress.{others_leave}
 use Rattle.server_history.proofs.whole_call.Progress as progress
@@ -62,7 +62,7 @@ none_told q (step ∷ steps) apart = none_told q steps (λ y o here. apart y o (
 pub counts_apart : (q : Port) (steps : List Step) → ((e : Pending) (o : Outcome) → Contains steps (Answer e o) → e.request.port ≢ q) → count_by (tells_fault q) steps ≡ 0
 counts_apart q steps apart = counts_none (tells_fault q) steps (none_told q steps apart)
 
-module _ (plan : Plan) (laws : PrerequisiteLaws) (s : ServerState) (start : SettledInvariant s) (old : AbstractState) (reached : IsReachable old.machine) (at : MachineRelation s old.machine) (ports_are : old.ports ≡ ports_of s) where
+module _ (plan : Plan) (laws : PrerequisiteLaws) (s : ServerState) (start : InvariantWithNoneDue s) (old : AbstractState) (reached : IsReachable old.machine) (at : MachineRelation s old.machine) (ports_are : old.ports ≡ ports_of s) where
   abbrev kept : InCallInvariant s
   kept = start.in_call_invariant
 
@@ -78,7 +78,7 @@ module _ (plan : Plan) (laws : PrerequisiteLaws) (s : ServerState) (start : Sett
   abbrev Progress : ℕ → ServerState → List Reply → Type 0
   Progress n c replies = progress.Progress plan laws s start old reached at ports_are n c replies
 
-  module _ (n : ℕ) (c mid : ServerState) (before its : List Reply) (p : Progress n c before) (next : SettledInvariant mid) (part : IsPortTurn (turn_at plan (probe_result_of s.probe_results n) n) (port_at n) its c mid)
+  module _ (n : ℕ) (c mid : ServerState) (before its : List Reply) (p : Progress n c before) (next : InvariantWithNoneDue mid) (part : IsPortTurn (turn_at plan (probe_result_of s.probe_results n) n) (port_at n) its c mid)
       (m_reached : IsReachable (after old.machine p.steps)) (on_mid : IsOn mid.device) where
     abbrev m : Machine
     m = after old.machine p.steps
@@ -123,7 +123,7 @@ module _ (plan : Plan) (laws : PrerequisiteLaws) (s : ServerState) (start : Sett
       turn_leads_to_end = part.accesses_are_done;
       leads_to_new = refl;
       earlier_are_of_others = p.others (port_at n) not_yet;
-      later_are_of_others = All-nil (IsOfOtherPort (port_at n));
+      later_are_of_others = All-nil (KeepsToAnotherPort (port_at n));
     }
 
     -- ---- what is answered, and what keeps its issue
@@ -206,7 +206,7 @@ module _ (plan : Plan) (laws : PrerequisiteLaws) (s : ServerState) (start : Sett
       leading e own =
           let w = p.turns.further e own.is_in_book (let q = ap (λ (x : Port). x.0) own.port_is in omega (arith, q)) in
           let issued : w.0.issued ≡ true = w.2.issued ∙ own.issued in
-          record { now_is = w.0; here = w.1; same_as = w.2; issued_now = issued; has = issued_has c m (port_at n) p.machine_relation p.settled_invariant.in_call_invariant ready_c w.0 w.1 (ap (λ r. r.port) w.2.request ∙ own.port_is) issued }
+          record { now_is = w.0; here = w.1; same_as = w.2; issued_now = issued; has = issued_has c m (port_at n) p.machine_relation p.invariant_with_none_due.in_call_invariant ready_c w.0 w.1 (ap (λ r. r.port) w.2.request ∙ own.port_is) issued }
 
       pub then_issued : (e : Pending) → IsIssuedOn (port_at n) old.machine e → (h : IsLeading e) → IsIssuedOn (port_at n) m h.now_is
       then_issued e own h = record { is_in_book = h.here; port_is = ap (λ r. r.port) h.same_as.request ∙ own.port_is; issued = h.issued_now }

@@ -21,7 +21,7 @@ use Rattle.host_boot.specs.TakeOver.{probe_result_of}
 use Rattle.host_boot.specs.declared.ProbeResult.{ProbeResult}
 use Rattle.host_boot.specs.declared.ProbeResult.TheVariants.{Ready, Unready, Unserved}
 use Rattle.server_history.specs.Prerequisites.{PrerequisiteLaws}
-use Rattle.server_history.specs.ServerState.{ServerState, InCallInvariant, MachineRelation, SettledInvariant, ports_of, state_of}
+use Rattle.server_history.specs.ServerState.{ServerState, InCallInvariant, MachineRelation, InvariantWithNoneDue, ports_of, state_of}
 use Rattle.server_history.specs.Turns.{IsPortTurn, HandlesShownErrors, ServingReady, InProbe, SimulatesTurn, TurnCorresponds, Turn, joint_state_of, abstract_state_of, joint_event_of_turn}
 use Rattle.server_history.proofs.whole_call.EarlierResults as carrying
 use Rattle.server_history.proofs.any_turn.JoinedParts.{dead_or_not}
@@ -36,7 +36,7 @@ is_tried Unserved n unready = refl
 is_tried (Ready info) n unready = absurd (unready refl)
 is_tried (Unready state) n unready = refl
 
-module _ (laws : PrerequisiteLaws) (s : ServerState) (start : SettledInvariant s) (old : AbstractState) (reached : IsReachable old.machine) (at : MachineRelation s old.machine) (ports_are : old.ports ≡ ports_of s) where
+module _ (laws : PrerequisiteLaws) (s : ServerState) (start : InvariantWithNoneDue s) (old : AbstractState) (reached : IsReachable old.machine) (at : MachineRelation s old.machine) (ports_are : old.ports ≡ ports_of s) where
   abbrev kept : InCallInvariant s
   kept = start.in_call_invariant
 
@@ -61,7 +61,7 @@ module _ (laws : PrerequisiteLaws) (s : ServerState) (start : SettledInvariant s
 
   -- ---- its turn
 
-  module _ (n : ℕ) (c mid : ServerState) (before its : List Reply) (unready : state_of (probe_result_of s.probe_results n) ≢ ReadyState) (p : Progress n c before) (next : SettledInvariant mid) (part : IsPortTurn (turn_at AService (probe_result_of s.probe_results n) n) (port_at n) its c mid)
+  module _ (n : ℕ) (c mid : ServerState) (before its : List Reply) (unready : state_of (probe_result_of s.probe_results n) ≢ ReadyState) (p : Progress n c before) (next : InvariantWithNoneDue mid) (part : IsPortTurn (turn_at AService (probe_result_of s.probe_results n) n) (port_at n) its c mid)
       (m_reached : IsReachable (after old.machine p.steps)) (on_mid : IsOn mid.device) (evidence : Evidence) where
     abbrev m : Machine
     m = after old.machine p.steps

@@ -2,7 +2,7 @@
 use Rattle.ata_types.specs.declared.memory.TheConstants.{TABLE_HEAD_BYTES}
 use Rattle.std.proofs.Common.{ℕ, ◌≡◌, ◌<◌, ◌+◌, ◌*◌, ◌^◌, ◌%◌, true, cond, List, [], ◌∷◌, ◌++◌, length, replicate, refl, zero, suc, All, arith}
 use Rattle.byteorder.specs.Endian.{little_from}
-use Rattle.adapter.specs.Commands.{Meaning, IsValidMeaning, command_of, piece_count, reads_memory}
+use Rattle.adapter.specs.Commands.{Meaning, IsValidMeaning, command_of, transfer_sector_count, reads_memory}
 use Rattle.adapter.specs.Memory.{patched, bytes_at}
 use Rattle.adapter.specs.Decoding.{DecodesTo, IsWholePieces}
 use Rattle.adapter.specs.Encoding.{EncodesCommand, EncodesPrd}
@@ -69,7 +69,7 @@ says_by : (list slot table : ℕ) (m : Meaning) (address : ℕ)
     → EncodesCommand (bytes_at memory table 20) (command_of m.operation slot m.first m.count)
     → IsValidMeaning m
     → EncodesPrd (bytes_at memory (table + TABLE_HEAD_BYTES) 16) (prd address)
-    → 1 ≡ piece_count m.operation m.count
+    → 1 ≡ transfer_sector_count m.operation m.count
     → DecodesTo memory list slot m (address ∷ [])
 says_by list slot table m address size first points aligned zeros fis meaning entry many = record {
   table = table;

@@ -20,7 +20,7 @@ use Rattle.block_machine.specs.State.{Pending, unanswered}
 use Rattle.block_machine.specs.Steps.{Step, WaitAgain, Age, Answer}
 use Rattle.block_machine.specs.declared.due.Unanswered.{Unanswered}
 use Rattle.identify.specs.declared.wanted.Wanted.TheVariants.{Any}
-use Rattle.driver_history.specs.Evidence.{IsEvidencedOf, ShowsFailure, BeganWithLinkChangeOrNoDeviceAndNoneComes}
+use Rattle.driver_history.specs.Evidence.{IsEvidencedOf, ShowsFailure, ShowedLinkChangeOrNoDeviceAndNoneCame}
 use Rattle.driver_history.specs.Histories.{IssuesDue, CallCorresponds, PortCorresponds}
 use Rattle.driver_history.specs.AccessTrace.{UsesPortsAndNotGhc, WritesNeitherCmdNorSctl}
 use Rattle.witnesses.specs.RunningAdapter.{plain_disk_mode}
@@ -69,7 +69,7 @@ pub not_due : (age : ℕ) (port : Port) → NoneDue plain_disk_mode (unanswered 
 not_due age = none_due plain_disk_mode (unanswered (waiting_for age) ∷ []) (λ r here. ap (λ (x : Unanswered). x.issued) (only (unanswered (waiting_for age)) r here))
 
 -- nor does a port tell of trouble
-pub quiet : (n : ℕ) → both.state (port_at n) ≡ Ready → (BeganWithLinkChangeOrNoDeviceAndNoneComes (port_at n) submitted submitted → ⊥) × (ShowsFailure (submitted.port n) → ⊥)
+pub quiet : (n : ℕ) → both.state (port_at n) ≡ Ready → (ShowedLinkChangeOrNoDeviceAndNoneCame (port_at n) submitted submitted → ⊥) × (ShowsFailure (submitted.port n) → ⊥)
 quiet = calm submitted.tape read_memory issued refl refl refl (λ place from. refl) submitted
 
 -- ---- a tick that restarts nothing

@@ -32,7 +32,7 @@ use Rattle.adapter.specs.declared.access.DeviceStep.{DeviceStep}
 use Rattle.refinement.specs.PreservedParts.{IsPlugEvent}
 use Rattle.error_recovery.specs.Evidence.{ShowsFatal}
 use Rattle.driver_history.specs.EvidenceHandling.{ServicesReadyPort}
-use Rattle.driver_history.specs.Evidence.{TapeGainsEntry, IsEvidencedOf, BeganWithLinkChangeOrNoDeviceAndNoneComes, ShowsFailure}
+use Rattle.driver_history.specs.Evidence.{TapeGainsEntry, IsEvidencedOf, ShowedLinkChangeOrNoDeviceAndNoneCame, ShowsFailure}
 use Rattle.driver_history.specs.Histories.{FindsDone, IsIssuedOn, CallCorresponds, PortCorresponds, BootsAnewWhereRequired, LosesNoPortError, RunsWellAnew, IsServedAndNotDead}
 use Rattle.driver_history.specs.AccessTrace.{DoesNotWriteCmd}
 use Rattle.port_control.specs.Engines.{Stops}
@@ -283,10 +283,10 @@ heeds (suc zero) is = record {
 }
 heeds (suc (suc n)) is = absurd (let x : Absent ≡ Ready = is in cc)
 
-quiet : (n : ℕ) → both.state (port_at n) ≡ Ready → (BeganWithLinkChangeOrNoDeviceAndNoneComes (port_at n) submitted lost → ⊥) × (ShowsFailure (submitted.port n) → ⊥)
+quiet : (n : ℕ) → both.state (port_at n) ≡ Ready → (ShowedLinkChangeOrNoDeviceAndNoneCame (port_at n) submitted lost → ⊥) × (ShowsFailure (submitted.port n) → ⊥)
 quiet = calm submitted.tape read_memory issued refl refl refl (λ place from. refl) lost
 
-not_shown : (n : ℕ) → both.state (port_at n) ≡ Ready → ShowsFatal (submitted.port n) ⊎ BeganWithLinkChangeOrNoDeviceAndNoneComes (port_at n) submitted lost → ⊥
+not_shown : (n : ℕ) → both.state (port_at n) ≡ Ready → ShowsFatal (submitted.port n) ⊎ ShowedLinkChangeOrNoDeviceAndNoneCame (port_at n) submitted lost → ⊥
 not_shown n is f = ⊎_elim (λ fatal. (quiet n is).1 (inl fatal)) (quiet n is).0 f
 
 service_boots : (n : ℕ) → BootsAnewWhereRequired Service (Replied (reply ∷ [])) turns submitted_at one lost (port_at n)

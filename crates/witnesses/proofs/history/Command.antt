@@ -7,7 +7,7 @@ use Rattle.byteorder.specs.Endian.{little_from}
 use Rattle.adapter.specs.FirstRead.{header_bytes}
 use Rattle.adapter.specs.Memory.{bytes_at, patched}
 use Rattle.adapter.specs.ReadDone.{read_of}
-use Rattle.adapter.specs.Commands.{IsValidMeaning, Meaning, command_of, piece_count, reads_memory}
+use Rattle.adapter.specs.Commands.{IsValidMeaning, Meaning, command_of, transfer_sector_count, reads_memory}
 use Rattle.adapter.specs.Decoding.{IsWholePieces, piece_addresses}
 use Rattle.adapter.specs.Encoding.{EncodesCommand, EncodesHeader, EncodesPrd}
 use Rattle.refinement.specs.MemoryLayout.{command_table_address}
@@ -45,7 +45,7 @@ whole prd is (suc k) d small = absurd (omega (arith, small))
 -- The header, the FIS and the PRD of a slot of port 0 say a read of one sector into this place.
 pub told_one : (memory : ℕ → ℕ) (slot : ℕ) (c : Meaning) (address : ℕ) → EncodesHeader (bytes_at memory (0 + 32 * slot) 32) (reads_memory c.operation) 1 (command_table_address 0 slot)
     → EncodesCommand (bytes_at memory (command_table_address 0 slot) 20) (command_of c.operation slot c.first c.count) → IsValidMeaning c
-    → EncodesPrd (bytes_at memory (command_table_address 0 slot + 128) 16) (record { address = address; bytes = 512 }) → 1 ≡ piece_count c.operation c.count → SlotDecodesTo memory 0 0 slot c (piece_addresses address 1)
+    → EncodesPrd (bytes_at memory (command_table_address 0 slot + 128) 16) (record { address = address; bytes = 512 }) → 1 ≡ transfer_sector_count c.operation c.count → SlotDecodesTo memory 0 0 slot c (piece_addresses address 1)
 told_one memory slot c address header fis meaning prd many = record {
   decodes_to = record {
     table = command_table_address 0 slot;

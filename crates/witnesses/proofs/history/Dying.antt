@@ -2,7 +2,7 @@
 use Rattle.std.proofs.Common.{◌∙◌, ℕ, zero, suc, ◌≡◌, false, List, [], ◌∷◌, ◌++◌, None, inl, inr, ⊎_elim, refl, sym, ap, arith, true, ◌≢◌, append-nil}
 use Rattle.std.proofs.lemmas.Bool.{true≢false}
 use Rattle.std.specs.List.{Contains}
-use Rattle.std.proofs.lemmas.List.Elements.{All-nil}
+use Rattle.std.proofs.lemmas.List.Elements.{All-cons, All-nil}
 use Rattle.std.proofs.lemmas.List.Sorted.{IsPermutation-refl}
 use Rattle.ata_types.specs.declared.Port.{Port}
 use Rattle.ata_types.specs.declared.PortState.TheVariants.{Absent, Ready, Unfit, Foreign, Dead}
@@ -27,11 +27,12 @@ use Rattle.driver_history.specs.Evidence.{IsEvidencedOf}
 use Rattle.driver_history.specs.Histories.{CallCorresponds, PortCorresponds, ProbesDisk, IsForeignOrUnfit, IsServedAndNotDead}
 use Rattle.driver_history.specs.PortInvariants.{PortStateInvariant, DriverInvariantWith, HasNoUnanswered}
 use Rattle.driver_history.specs.AccessTrace.{WritesNeitherCmdNorSctl, UsesPortsAndNotGhc}
-use Rattle.host_boot.specs.Resets.{ReadsGlobalControl}
+use Rattle.host_boot.specs.Resets.{ReadsHrSet}
 use Rattle.witnesses.specs.StuckReset.{stuck_reset_accesses, StuckResetIsAHistory}
 use Rattle.witnesses.specs.RunningAdapter.{port_or_empty, ports_with_disks}
 use Rattle.hba_regs.specs.declared.reg.Reg.TheVariants.{Ghc}
-use Rattle.adapter.specs.Access.{DoesAll}
+use Rattle.adapter.specs.Access.{DoesAll, Reads}
+use Rattle.adapter.specs.Access.Access.{Reading}
 use Rattle.adapter.specs.Rules.{IsOn}
 use Rattle.refinement.specs.Acts.{driver_state_of_slots}
 use Rattle.refinement.specs.Driver.{DriverRelation}
@@ -60,8 +61,11 @@ resets : DoesAll stuck_reset_accesses submitted pending
 resets = (
   pending,
   record { at_access = submitted; steps = record { steps = []; lead = refl }; effect = refl },
-  (pending, record { at_access = pending; steps = record { steps = []; lead = refl }; shows = (refl, refl, refl); effect = refl }, refl),
+  (pending, asked_once, (pending, asked_once, refl)),
 )
+  where
+    asked_once : Reads Ghc 0x80000001 pending pending
+    asked_once = record { at_access = pending; steps = record { steps = []; lead = refl }; shows = (refl, refl, refl); effect = refl }
 
 abbrev stuck_evidence : Evidence
 stuck_evidence = record { faults = []; lost = []; link_changed = []; showing_error = []; showing_fatal_error = []; stopped = []; stuck = port_at 0 ∷ port_at 1 ∷ [] }
@@ -194,7 +198,7 @@ reset_part n = record {
 reset_ties : CallCorresponds (Any ∷ Any ∷ []) submitted_at reset
 reset_ties = record {
   accesses = stuck_reset_accesses;
-  accesses_are_explained = (resets, record { polls = []; last_ghc = 0x80000001; accesses_are = refl; only_reads_ghc = All-nil ReadsGlobalControl; hr_is = refl });
+  accesses_are_explained = (resets, record { polls = Reading Ghc 0x80000001 ∷ []; last_ghc = 0x80000001; accesses_are = refl; polls_show_hr = All-cons ReadsHrSet (Reading Ghc 0x80000001) [] refl (All-nil ReadsHrSet); hr_is = refl });
   is_backed = reset_backed;
   is_evidenced = record { faults_are_told = λ f here. absurd (nowhere f here); each_port_is_evidenced = λ port. reset_evidenced port.0 };
   only_failed_requeue_if_service = tt;

@@ -39,7 +39,7 @@ use Rattle.block_machine.specs.Steps.{Step, Answer, End, Touch, AllTouched, mark
 use Rattle.block_machine.specs.declared.due.Unanswered.{Unanswered}
 use Rattle.identify.specs.declared.wanted.Wanted.TheVariants.{Any}
 use Rattle.driver_history.specs.EvidenceHandling.{ServicesReadyPort}
-use Rattle.driver_history.specs.Evidence.{IsEvidencedOf, ShowsFailure, BeganWithLinkChangeOrNoDeviceAndNoneComes}
+use Rattle.driver_history.specs.Evidence.{IsEvidencedOf, ShowsFailure, ShowedLinkChangeOrNoDeviceAndNoneCame}
 use Rattle.driver_history.specs.Histories.{FindsDone, IsAnsweredOk, IsIssuedOn, IsServedAndNotDead, CallCorresponds, PortCorresponds, with_issue_undone}
 use Rattle.driver_history.specs.PortInvariants.{mode_of_disk}
 use Rattle.driver_history.specs.AccessTrace.{DoesNotWriteCmd, WritesNeitherCmdNorSctl}
@@ -205,7 +205,7 @@ module _ (c : Discovery) where
         brought : (b : ℕ) → b < 512 → slice_index (first_disk_sector c.sector) b ≡ c.machine.disk_bytes (port_at 0) (c.sector + 0) b
         brought b low = tells c.sector b low ∙ (let same : c.sector ≡ c.sector + 0 = omega arith in same) ∙ sym (ap (λ (f : Port → ℕ → ℕ → ℕ). f (port_at 0) (c.sector + 0) b) is.agreed.disks.3)
 
-    quiet : (n : ℕ) → two_states (port_at n) ≡ Ready → (BeganWithLinkChangeOrNoDeviceAndNoneComes (port_at n) before.device served_at.device → ⊥) × (ShowsFailure (before.device.port n) → ⊥)
+    quiet : (n : ℕ) → two_states (port_at n) ≡ Ready → (ShowedLinkChangeOrNoDeviceAndNoneCame (port_at n) before.device served_at.device → ⊥) × (ShowsFailure (before.device.port n) → ⊥)
     quiet = shows_none before.device.tape c.memory c.port is.agreed.stands served_at.device
 
     pub evidenced : (n : ℕ) → IsEvidencedOf Service (Replied replies) masks before (two_ready c.disk) served_at.device nothing (port_at n)

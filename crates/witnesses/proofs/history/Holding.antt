@@ -1,6 +1,6 @@
 -- What holds between two calls, of ports of these devices; and the evidence of ports that aren't named.
 use Rattle.refinement.specs.PreservedParts.{IsPlugEvent}
-use Rattle.refinement.specs.Errors.{IsFatalErrorOf}
+use Rattle.refinement.specs.Errors.{IsFatalEntryOf}
 use Rattle.std.proofs.lemmas.List.Elements.{All-contains, Contains-append_right}
 use Rattle.std.proofs.lemmas.List.{append_cancel_left}
 use Rattle.std.proofs.Common.{ℕ, zero, suc, ◌≡◌, ◌≢◌, ◌≤◌, ◌∙◌, ◌++◌, true, false, List, [], ◌∷◌, length, None, inl, inr, ⊎_elim, refl, sym, ap, subst, arith}
@@ -32,7 +32,7 @@ use Rattle.block_machine.specs.declared.due.QueueMode.{QueueMode}
 use Rattle.port_boot.specs.States.{HasFitDiskAndInterrupts}
 use Rattle.port_control.specs.Ports.{programmed_bases}
 use Rattle.error_recovery.specs.Evidence.{GainsSinceStart}
-use Rattle.driver_history.specs.Evidence.{IsEvidencedOf, ShowsFailure, BeganWithLinkChangeOrNoDeviceAndNoneComes, TapeGainsEntry}
+use Rattle.driver_history.specs.Evidence.{IsEvidencedOf, ShowsFailure, ShowedLinkChangeOrNoDeviceAndNoneCame, TapeGainsEntry}
 use Rattle.driver_history.specs.Histories.{IsForeignOrUnfit, ProbesDisk, LosesNoPortError}
 use Rattle.driver_history.specs.PortInvariants.{HasAllSlotsFreeAndNoneParked, ReadySlotsInvariant, IsFreeOrServes, SlotCommandIsQueuedUnlessPlain, IsUnservedAt, HasNoUnanswered, EngineRuns}
 use Rattle.driver_history.specs.AccessTrace.{WritesNeitherCmdNorSctl}
@@ -171,7 +171,7 @@ pub record IsUnnamed (evidence : Evidence) (port : Port) : Type 0 where
   pub stuck : Contains evidence.stuck port → ⊥
 
 -- a port that shows its device, and no change
-pub unlost : (port : Port) (old new : Device) → (old.port port.0).serr_n ≡ false → (old.port port.0).serr_x ≡ false → (old.port port.0).ssts_det ≡ 3 → BeganWithLinkChangeOrNoDeviceAndNoneComes port old new → ⊥
+pub unlost : (port : Port) (old new : Device) → (old.port port.0).serr_n ≡ false → (old.port port.0).serr_x ≡ false → (old.port port.0).ssts_det ≡ 3 → ShowedLinkChangeOrNoDeviceAndNoneCame port old new → ⊥
 unlost port old new n x there loss = ⊎_elim (λ change. ⊎_elim (λ a. absurd (true≢false (sym a ∙ n))) (λ a. absurd (true≢false (sym a ∙ x))) change) (λ missing. missing.0 there) loss
 
 -- and one with no bit of PxIS that tells of trouble
@@ -180,7 +180,7 @@ unfailing p calm fails = ⊎_elim (λ fatal. absurd (true≢false (sym fatal.cau
 
 -- a port that isn't named, wasn't stopped, and showed no trouble if it was ready
 pub unnamed_evidenced : (ask : AbstractCall DeviceStep) (said : AbstractCallResult) (accesses : List Access) (old : JointState Device) (ports : Ports) (new : Device) (evidence : Evidence) (port : Port) → IsUnnamed evidence port
-    → (old.abstract.ports.state port ≡ Ready → (BeganWithLinkChangeOrNoDeviceAndNoneComes port old.device new → ⊥) × (ShowsFailure (old.device.port port.0) → ⊥)) → All (WritesNeitherCmdNorSctl port) accesses
+    → (old.abstract.ports.state port ≡ Ready → (ShowedLinkChangeOrNoDeviceAndNoneCame port old.device new → ⊥) × (ShowsFailure (old.device.port port.0) → ⊥)) → All (WritesNeitherCmdNorSctl port) accesses
     → IsEvidencedOf ask said accesses old ports new evidence port
 unnamed_evidenced ask said accesses old ports new evidence port un calm left = record {
   named_lost_showed_loss_or_changed = λ h. absurd (un.lost h);
@@ -233,7 +233,7 @@ ran_none Is port old new none g = none (record {
 
 -- neither a fault, nor a fatal error, nor a disk of the port that goes or comes
 abbrev pub IsCalm : ℕ → Entry → Type 0
-IsCalm port e = (IsFaultOf port e → ⊥) × (IsFatalErrorOf port e → ⊥) × (IsPlugEvent port e → ⊥)
+IsCalm port e = (IsFaultOf port e → ⊥) × (IsFatalEntryOf port e → ⊥) × (IsPlugEvent port e → ⊥)
 
 pub each : {X : Type 0} {P Q : X → Type 0} (xs : List X) → ((x : X) → P x → Q x) → All P xs → All Q xs
 each xs goes all k d low = goes _ (all k d low)
@@ -241,20 +241,20 @@ each xs goes all k d low = goes _ (all k d low)
 -- where a port showed no trouble, and none came, there is none to be heeded
 pub no_trouble : (evidence : Evidence) (old : JointState Device) (ports : Ports) (new : Device) (port : Port) (gained : List Entry) → new.tape ≡ old.device.tape ++ gained → All (IsCalm port.0) gained
     → (old.abstract.ports.served port ≡ true → old.abstract.ports.state port ≡ Ready)
-    → (old.abstract.ports.state port ≡ Ready → (BeganWithLinkChangeOrNoDeviceAndNoneComes port old.device new → ⊥) × (ShowsFailure (old.device.port port.0) → ⊥)) → LosesNoPortError evidence old ports new port
+    → (old.abstract.ports.state port ≡ Ready → (ShowedLinkChangeOrNoDeviceAndNoneCame port old.device new → ⊥) × (ShowsFailure (old.device.port port.0) → ⊥)) → LosesNoPortError evidence old ports new port
 no_trouble evidence old ports new port gained is none served calm = record {
   ready_errors_are_handled_or_shown = λ ready why. absurd (⊎_elim (calm ready).1 (λ came. ⊎_elim faults fatals came) why);
   changes_are_handled_or_shown_unless_dead = λ tends why. absurd (⊎_elim (λ change. (calm (served tends.0)).0 (inl change)) plugs why);
   ready_shows_fault_since_start = λ ready g. absurd (ran_none (IsFaultOf port.0) port.0 old.device new faults g);
-  ready_shows_fatal_since_start = λ ready g. absurd (ran_none (IsFatalErrorOf port.0) port.0 old.device new fatals g);
+  ready_shows_fatal_since_start = λ ready g. absurd (ran_none (IsFatalEntryOf port.0) port.0 old.device new fatals g);
   ready_shows_plug_event_since_start = λ ready g. absurd (ran_none (IsPlugEvent port.0) port.0 old.device new plugs g);
 }
   where
     faults : TapeGainsEntry (IsFaultOf port.0) old.device new → ⊥
     faults = gained_none (IsFaultOf port.0) old.device new gained is (each gained (λ e (c : IsCalm port.0 e). c.0) none)
 
-    fatals : TapeGainsEntry (IsFatalErrorOf port.0) old.device new → ⊥
-    fatals = gained_none (IsFatalErrorOf port.0) old.device new gained is (each gained (λ e (c : IsCalm port.0 e). c.1) none)
+    fatals : TapeGainsEntry (IsFatalEntryOf port.0) old.device new → ⊥
+    fatals = gained_none (IsFatalEntryOf port.0) old.device new gained is (each gained (λ e (c : IsCalm port.0 e). c.1) none)
 
     plugs : TapeGainsEntry (IsPlugEvent port.0) old.device new → ⊥
     plugs = gained_none (IsPlugEvent port.0) old.device new gained is (each gained (λ e (c : IsCalm port.0 e). c.2) none)

@@ -24,13 +24,13 @@ use Rattle.refinement.specs.PreservedParts.{IsPlugEvent}
 use Rattle.refinement.specs.Slots.{IsMove, RelatesSlot, ServesRequest}
 use Rattle.refinement.specs.ReadWitness.{first_id}
 use Rattle.block_machine.specs.DueRequests.{is_plain}
-use Rattle.block_machine.specs.Events.{StepDevice as Told, Happens, Stepped}
+use Rattle.block_machine.specs.Events.{StepDevice, Happens, Stepped}
 use Rattle.block_machine.specs.Histories.{JointEvent, JointState}
 use Rattle.block_machine.specs.State.{Pending}
 use Rattle.error_recovery.specs.Evidence.{ShowsFatal}
 use Rattle.host_boot.specs.TakeOver.{wanted_of}
 use Rattle.identify.specs.declared.wanted.Wanted.TheVariants.{Any}
-use Rattle.driver_history.specs.Evidence.{TapeGainsEntry, IsEvidencedOf, ShowsFailure, BeganWithLinkChangeOrNoDeviceAndNoneComes}
+use Rattle.driver_history.specs.Evidence.{TapeGainsEntry, IsEvidencedOf, ShowsFailure, ShowedLinkChangeOrNoDeviceAndNoneCame}
 use Rattle.driver_history.specs.Histories.{LosesNoPortError, CallCorresponds, PortCorresponds}
 use Rattle.driver_history.specs.PortInvariants.{PortStateInvariant, DriverInvariantWith, SlotCommandIsQueuedUnlessPlain, IsReadyAt}
 use Rattle.driver_history.specs.AccessTrace.{WritesNeitherCmdNorSctl}
@@ -129,7 +129,7 @@ holds_broken = record {
 
 abbrev pub meeting : JointEvent Device DeviceStep
 meeting = record {
-  event = record { call = Told (Fatal (port_at 0) Interface); result = Stepped true; evidence = nothing; steps = []; ports = both };
+  event = record { call = StepDevice (Fatal (port_at 0) Interface); result = Stepped true; evidence = nothing; steps = []; ports = both };
   device = dev broken;
 }
 
@@ -159,7 +159,7 @@ backed = record {
     plugs (suc zero) = refl
     plugs (suc (suc n)) = refl
 
-quiet : (n : ℕ) → both.state (port_at n) ≡ Ready → (BeganWithLinkChangeOrNoDeviceAndNoneComes (port_at n) submitted (dev broken) → ⊥) × (ShowsFailure (submitted.port n) → ⊥)
+quiet : (n : ℕ) → both.state (port_at n) ≡ Ready → (ShowedLinkChangeOrNoDeviceAndNoneCame (port_at n) submitted (dev broken) → ⊥) × (ShowsFailure (submitted.port n) → ⊥)
 quiet = calm submitted.tape read_memory issued refl refl refl (λ place from. refl) (dev broken)
 
 pub evidenced : (n : ℕ) → IsEvidencedOf meeting.event.call meeting.event.result [] submitted_at both (dev broken) nothing (port_at n)

@@ -18,7 +18,7 @@ use Rattle.refinement.specs.Relation.{port_at}
 use Rattle.refinement.specs.Driver.{TapeBacksSteps, DriverRelation}
 use Rattle.refinement.specs.PreservedParts.{IsPlugEvent}
 use Rattle.refinement.specs.Slots.{IsEmptySlot}
-use Rattle.block_machine.specs.Events.{AnswersService, StepDevice as Told, ShownDiskWasInOrCame, Happens, Replied, Service, Stepped}
+use Rattle.block_machine.specs.Events.{AnswersService, StepDevice, ShownDiskWasInOrCame, Happens, Replied, Service, Stepped}
 use Rattle.block_machine.specs.Histories.{JointEvent, JointState}
 use Rattle.block_machine.specs.Expected.{after}
 use Rattle.block_machine.specs.Ports.{PortsWellFormed, Evidence, IsStoppedOrStuck, IsServiced, Ports, SamePort}
@@ -54,7 +54,7 @@ going = Unplug (port_at 0)
 
 abbrev unplug : JointEvent Device DeviceStep
 unplug = record {
-  event = record { call = Told (asked.Unplug (port_at 0)); result = Stepped true; evidence = nothing; steps = going ∷ []; ports = unfit_ports };
+  event = record { call = StepDevice (asked.Unplug (port_at 0)); result = Stepped true; evidence = nothing; steps = going ∷ []; ports = unfit_ports };
   device = unplugged;
 }
 

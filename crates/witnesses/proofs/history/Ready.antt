@@ -18,8 +18,8 @@ use Rattle.block_machine.specs.Histories.{JointState}
 use Rattle.block_machine.specs.Ports.{Ports, PortsWellFormed}
 use Rattle.block_machine.specs.State.{Machine, Pending}
 use Rattle.block_machine.specs.Steps.{NoneKept}
-use Rattle.driver_history.specs.Evidence.{ShowsFailure, BeganWithLinkChangeOrNoDeviceAndNoneComes}
-use Rattle.driver_history.specs.Histories.{IsFirstInstant}
+use Rattle.driver_history.specs.Evidence.{ShowsFailure, ShowedLinkChangeOrNoDeviceAndNoneCame}
+use Rattle.driver_history.specs.Histories.{HasDriverInvariantAeAndIe}
 use Rattle.driver_history.specs.PortInvariants.{ReadySlotsInvariant, PortStateInvariant, DriverInvariantWith, IsReadyAt, mode_of_disk}
 use Rattle.host_boot.specs.TakeOver.{IsServed, wanted_of}
 use Rattle.identify.specs.declared.wanted.Wanted.TheVariants.{Any, Nothing}
@@ -148,7 +148,7 @@ served_of tape memory ports (suc (suc n)) = (λ f. absurd (true≢false (sym f))
 
 -- no ready port shows trouble before its call
 pub calm : (tape : List Entry) (memory : ℕ → ℕ) (p : DevicePort) → p.serr_n ≡ false → p.serr_x ≡ false → p.ssts_det ≡ 3 → ((place : ℕ) → 27 ≤ place → p.is place ≡ false) → (new : Device) (n : ℕ) → two_states (port_at n) ≡ Ready
-    → (BeganWithLinkChangeOrNoDeviceAndNoneComes (port_at n) (running_device tape memory (p ∷ second ∷ [])) new → ⊥) × (ShowsFailure (port_or_empty (p ∷ second ∷ []) n) → ⊥)
+    → (ShowedLinkChangeOrNoDeviceAndNoneCame (port_at n) (running_device tape memory (p ∷ second ∷ [])) new → ⊥) × (ShowsFailure (port_or_empty (p ∷ second ∷ []) n) → ⊥)
 calm tape memory p n x there quiet new zero is = (unlost (port_at 0) (running_device tape memory (p ∷ second ∷ [])) new n x there, unfailing p quiet)
 calm tape memory p n x there quiet new (suc zero) is = (unlost (port_at 1) (running_device tape memory (p ∷ second ∷ [])) new refl refl refl, unfailing second (λ place from. refl))
 calm tape memory p n x there quiet new (suc (suc k)) is = absurd (let z : Absent ≡ Ready = is in cc)
@@ -179,7 +179,7 @@ pub record Stands (p : DevicePort) : Type 0 where
 
 -- such a port shows none
 pub shows_none : (tape : List Entry) (memory : ℕ → ℕ) (p : DevicePort) → Stands p → (new : Device) (n : ℕ) → two_states (port_at n) ≡ Ready
-    → (BeganWithLinkChangeOrNoDeviceAndNoneComes (port_at n) (running_device tape memory (p ∷ second ∷ [])) new → ⊥) × (ShowsFailure (port_or_empty (p ∷ second ∷ []) n) → ⊥)
+    → (ShowedLinkChangeOrNoDeviceAndNoneCame (port_at n) (running_device tape memory (p ∷ second ∷ [])) new → ⊥) × (ShowsFailure (port_or_empty (p ∷ second ∷ []) n) → ⊥)
 shows_none tape memory p stands =
     calm tape memory p (ap (λ (q : DevicePort). q.serr_n) stands.same) (ap (λ (q : DevicePort). q.serr_x) stands.same) (ap (λ (q : DevicePort). q.ssts_det) stands.same) stands.quiet
 
@@ -317,5 +317,5 @@ holds_first disk = holds disk no_slots start [] zeros (running_port 0)
     (agrees_none disk start [] zeros (running_port 0) (record { same = refl; quiet = λ place from. refl }) (refl, refl, refl, refl) refl refl no_page refl
     (λ k. record { is_not_issued = refl; is_not_taken = refl; unarmed = refl }) (λ f b from small. refl))
 
-pub begins : (disk : Kind) → IsFirstInstant (Any ∷ Any ∷ []) (instant_with disk no_slots start [] zeros (running_port 0))
+pub begins : (disk : Kind) → HasDriverInvariantAeAndIe (Any ∷ Any ∷ []) (instant_with disk no_slots start [] zeros (running_port 0))
 begins disk = ((no_slots, holds_first disk), (record { ae_is_set = refl; no_reset = refl }, refl))

@@ -33,13 +33,13 @@ use Rattle.block_machine.specs.State.{Machine, Pending}
 use Rattle.block_machine.specs.Steps.{Step, Answer}
 use Rattle.host_boot.specs.TakeOver.{wanted_of}
 use Rattle.identify.specs.declared.wanted.Wanted.TheVariants.{Any}
-use Rattle.driver_history.specs.Evidence.{IsEvidencedOf, ShowsFailure, BeganWithLinkChangeOrNoDeviceAndNoneComes}
+use Rattle.driver_history.specs.Evidence.{IsEvidencedOf, ShowsFailure, ShowedLinkChangeOrNoDeviceAndNoneCame}
 use Rattle.error_recovery.specs.Evidence.{ShowsFatal}
 use Rattle.driver_history.specs.Histories.{FindsDone, IsAnsweredOk, LosesNoPortError, RunsWellAnew}
 use Rattle.driver_history.specs.PortInvariants.{PortStateInvariant, DriverInvariantWith, IsReadyAt, IsStoppedAt}
 use Rattle.driver_history.specs.AccessTrace.{DoesNotWriteCmd, ResetsLink}
 use Rattle.port_control.specs.Engines.{Stops}
-use Rattle.witnesses.specs.Restart.{mask_accesses, placing_accesses, comreset_accesses, restart_evidence, restart_accesses, stop_accesses}
+use Rattle.witnesses.specs.Restart.{mask_accesses, placing_accesses, comreset_accesses, lost_and_stopped_evidence, stop_and_comreset_accesses, stop_accesses}
 use Rattle.witnesses.specs.RunningAdapter.{port_or_empty, page_entry, plain_disk_mode, ports_with_disks}
 use Rattle.witnesses.proofs.history.Accepting.{asked, both, issuing, waiting}
 use Rattle.witnesses.proofs.history.Command.{read_memory}
@@ -84,7 +84,7 @@ pub not_ready_then : one.state (port_at 0) ≡ Ready → ⊥
 not_ready_then is = let x : Unfit 8 ≡ Ready = is in cc
 
 -- what a restart may make of them
-pub may_become : (failed : List Port) (n : ℕ) → MayBecome both (restart_evidence failed) one (port_at n)
+pub may_become : (failed : List Port) (n : ℕ) → MayBecome both (lost_and_stopped_evidence failed) one (port_at n)
 may_become failed n = record {
   served_is_unchanged = refl;
   dead_exactly_if_stuck = (λ is. absurd (not_dead_then n is), λ h. absurd (nowhere (port_at n) h));
@@ -178,7 +178,7 @@ rest =
 
 -- the accesses before them are these
 module _ (looked : List Access) where
-  pub stops : Stops (port_at 0) (looked ++ restart_accesses)
+  pub stops : Stops (port_at 0) (looked ++ stop_and_comreset_accesses)
   stops = record {
     before = looked ++ (mask_accesses ++ Reading (Px (port_at 0) Cmd) 0xc011 ∷ []);
     written_cmd = 0xc010;
@@ -191,7 +191,7 @@ module _ (looked : List Access) where
     stop_is_shown = refl;
   }
 
-  pub resets : ResetsLink (port_at 0) (looked ++ restart_accesses)
+  pub resets : ResetsLink (port_at 0) (looked ++ stop_and_comreset_accesses)
   resets = record {
     before = looked ++ (mask_accesses ++ (stop_accesses ++ placing_accesses));
     between = [];
@@ -209,11 +209,11 @@ module _ (looked : List Access) where
 abbrev pub IsWritten : Reg → Type 0
 IsWritten r = IsOf (port_at 0) r ⊎ (r ≡ registers.Is)
 
-pub of_first : WritesOf IsWritten restart_accesses
+pub of_first : WritesOf IsWritten stop_and_comreset_accesses
 of_first = (inl refl, (inl refl, (inl refl, (inl refl, (inl refl, (inl refl, (inl refl, (inl refl, (inl refl, (inl refl, (inl refl, tt)))))))))))
 
 -- a call that may use that port may make them
-pub of_served : (Such : Port → Type 0) → Such (port_at 0) → AreServing Such restart_accesses
+pub of_served : (Such : Port → Type 0) → Such (port_at 0) → AreServing Such stop_and_comreset_accesses
 of_served Such tended = (tended, (tended, (tended, ((λ is. cc, tended), (tended, (tended, ((λ is. cc, tended), (tended, ((λ is. cc, tended), ((λ is. cc, tended), ((λ is. cc, tended), ((λ is. cc, tended), (tended, ((λ is. cc, tended), ((λ is. cc, tended), ((λ is. cc, tended), (tended, ((λ is. cc, tended), ((λ is. cc, tended), (tended, (tended, tt)))))))))))))))))))))
 
 -- ---- the call
@@ -238,10 +238,10 @@ module _ (c : Restart) where
   old = record { device = old_device; abstract = record { machine = c.machine; ports = both } }
 
   abbrev pub accesses : List Access
-  accesses = c.looked ++ restart_accesses
+  accesses = c.looked ++ stop_and_comreset_accesses
 
   abbrev pub evidence : Evidence
-  evidence = restart_evidence c.failed
+  evidence = lost_and_stopped_evidence c.failed
 
   abbrev after_it : Device
   after_it = booted c.outset
@@ -260,7 +260,7 @@ module _ (c : Restart) where
     pub plugged : issued.plug_history ≡ c.port.plug_history ++ []
 
   module _ (is : IsRestart) where
-    pub there : (n : ℕ) → both.state (port_at n) ≡ Ready → BeganWithLinkChangeOrNoDeviceAndNoneComes (port_at n) old_device after_it → ⊥
+    pub there : (n : ℕ) → both.state (port_at n) ≡ Ready → ShowedLinkChangeOrNoDeviceAndNoneCame (port_at n) old_device after_it → ⊥
     there zero ready = unlost (port_at 0) old_device after_it is.no_change.0 is.no_change.1 is.device
     there (suc zero) ready = unlost (port_at 1) old_device after_it refl refl refl
     there (suc (suc n)) ready = absurd (let x : Absent ≡ Ready = ready in cc)

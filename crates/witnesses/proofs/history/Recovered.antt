@@ -22,7 +22,7 @@ use Rattle.adapter.specs.declared.tape.Entry.TheVariants as entry
 use Rattle.refinement.specs.Relation.{port_at}
 use Rattle.refinement.specs.Acts.{driver_state_of_slots}
 use Rattle.refinement.specs.Driver.{TapeBacksSteps, DriverRelation}
-use Rattle.refinement.specs.Errors.{IsFatalErrorOf}
+use Rattle.refinement.specs.Errors.{IsFatalEntryOf}
 use Rattle.refinement.specs.PortFacts.{IsFaultOf, RunsWell}
 use Rattle.refinement.specs.PreservedParts.{IsPlugEvent}
 use Rattle.refinement.specs.Slots.{IsEmptySlot, IsMove}
@@ -36,7 +36,7 @@ use Rattle.host_boot.specs.TakeOver.{wanted_of}
 use Rattle.identify.specs.declared.wanted.Wanted.TheVariants.{Any}
 use Rattle.error_recovery.specs.Evidence.{GainsSinceStart}
 use Rattle.driver_history.specs.EvidenceHandling.{ServicesReadyPort}
-use Rattle.driver_history.specs.Evidence.{TapeGainsEntry, IsEvidencedOf, BeganWithLinkChangeOrNoDeviceAndNoneComes, ShowsFailure}
+use Rattle.driver_history.specs.Evidence.{TapeGainsEntry, IsEvidencedOf, ShowedLinkChangeOrNoDeviceAndNoneCame, ShowsFailure}
 use Rattle.driver_history.specs.Histories.{CallCorresponds, PortCorresponds, FindsDone, IsAnsweredOk, IsIssuedOn, LosesNoPortError, RunsWellAnew, IsServedAndNotDead}
 use Rattle.driver_history.specs.PortInvariants.{PortStateInvariant, DriverInvariantWith, IsReadyAt}
 use Rattle.driver_history.specs.AccessTrace.{DoesNotWriteCmd}
@@ -162,7 +162,7 @@ of_served = (tended, (tended, (tended, (tended, ((λ is. cc, tended), (tended, (
     tended : IsServedAndNotDead both (port_at 0)
     tended = (refl, not_dead 0)
 
-quiet : (n : ℕ) → both.state (port_at n) ≡ Ready → (BeganWithLinkChangeOrNoDeviceAndNoneComes (port_at n) submitted recovered → ⊥) × (ShowsFailure (submitted.port n) → ⊥)
+quiet : (n : ℕ) → both.state (port_at n) ≡ Ready → (ShowedLinkChangeOrNoDeviceAndNoneCame (port_at n) submitted recovered → ⊥) × (ShowsFailure (submitted.port n) → ⊥)
 quiet = calm submitted.tape read_memory issued refl refl refl (λ place from. refl) recovered
 
 evidenced_of : (n : ℕ) → IsEvidencedOf Service (Replied replies) recovery_accesses submitted_at both recovered fault_evidence (port_at n)
@@ -233,7 +233,7 @@ port_error zero = record {
   ready_errors_are_handled_or_shown = λ ready why. inl (inl (named 0));
   changes_are_handled_or_shown_unless_dead = λ tends why. inl (inl (named 0));
   ready_shows_fault_since_start = λ ready g. absurd (too_early g);
-  ready_shows_fatal_since_start = λ ready g. absurd (ran_none (IsFatalErrorOf 0) 0 submitted recovered (gained_none (IsFatalErrorOf 0) submitted recovered (entry.Fault fault ∷ []) refl (All-cons (λ e. IsFatalErrorOf 0 e → ⊥) (entry.Fault fault) [] (λ x. x) (All-nil (λ e. IsFatalErrorOf 0 e → ⊥)))) g);
+  ready_shows_fatal_since_start = λ ready g. absurd (ran_none (IsFatalEntryOf 0) 0 submitted recovered (gained_none (IsFatalEntryOf 0) submitted recovered (entry.Fault fault ∷ []) refl (All-cons (λ e. IsFatalEntryOf 0 e → ⊥) (entry.Fault fault) [] (λ x. x) (All-nil (λ e. IsFatalEntryOf 0 e → ⊥)))) g);
   ready_shows_plug_event_since_start = λ ready g. absurd (ran_none (IsPlugEvent 0) 0 submitted recovered (gained_none (IsPlugEvent 0) submitted recovered (entry.Fault fault ∷ []) refl (All-cons (λ e. IsPlugEvent 0 e → ⊥) (entry.Fault fault) [] (λ x. x) (All-nil (λ e. IsPlugEvent 0 e → ⊥)))) g);
 }
 port_error (suc n) = no_trouble fault_evidence submitted_at both recovered (port_at (suc n)) (entry.Fault fault ∷ []) refl (fault_alone (suc n) (omega arith)) (served_ready (suc n)) (quiet (suc n))

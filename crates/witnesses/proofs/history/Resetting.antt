@@ -31,6 +31,7 @@ use Rattle.block_machine.specs.Expected.{after}
 use Rattle.block_machine.specs.Ports.{PortsWellFormed, Evidence, IsStoppedOrStuck, MayBecome, Ports}
 use Rattle.block_machine.specs.State.{Machine, Pending}
 use Rattle.block_machine.specs.Steps.{Answer, Release, Step}
+use Rattle.host_boot.specs.Resets.{ReadsHrSet}
 use Rattle.host_boot.specs.TakeOver.{wanted_of}
 use Rattle.identify.specs.declared.wanted.Wanted.TheVariants.{Any}
 use Rattle.driver_history.specs.Evidence.{IsEvidencedOf}
@@ -346,7 +347,7 @@ holds_of (suc (suc n)) = unserved_at no_slots rebooted_at (suc (suc n)) refl ref
 pub ties : CallCorresponds (Any ∷ Any ∷ []) submitted_at reset
 ties = record {
   accesses = reset_and_boot_accesses;
-  accesses_are_explained = (does, own, of_ports, record { rest = Reading Ghc 0 ∷ Writing Ghc 0x80000002 ∷ (boot_accesses 0 ++ boot_accesses 1); accesses_are = refl }, (record { ae_is_set = refl; no_reset = refl }, refl));
+  accesses_are_explained = (does, own, of_ports, record { reset_accesses = Writing Ghc 0x80000001 ∷ Reading Ghc 0 ∷ []; rest = Writing Ghc 0x80000002 ∷ (boot_accesses 0 ++ boot_accesses 1); accesses_are = refl; hr_is_awaited = record { polls = []; last_ghc = 0; accesses_are = refl; polls_show_hr = All-nil ReadsHrSet; hr_is = refl } }, (record { ae_is_set = refl; no_reset = refl }, refl));
   is_backed = backed;
   is_evidenced = record { faults_are_told = λ f here. absurd (nowhere f here); each_port_is_evidenced = λ port. evidenced port.0 };
   only_failed_requeue_if_service = tt;

@@ -13,7 +13,7 @@ use Rattle.adapter.specs.Steps.DeviceTransition.{FrFall, LinkUp}
 use Rattle.adapter.specs.declared.tape.Entry.{Entry}
 use Rattle.refinement.specs.Relation.{port_at}
 use Rattle.witnesses.specs.AllowedAccesses.{AreAllowed}
-use Rattle.witnesses.specs.Restart.{placing_accesses, comreset_accesses, restart_accesses, stop_accesses}
+use Rattle.witnesses.specs.Restart.{placing_accesses, comreset_accesses, stop_and_comreset_accesses, stop_accesses}
 use Rattle.witnesses.specs.RunningAdapter.{running_device, port_or_empty}
 use Rattle.witnesses.proofs.history.Command.{read_memory}
 use Rattle.witnesses.proofs.history.Devices.{but_first, fall, falls_reads, may_stop, no_bit, put_device, reads, same_beside, writes}
@@ -149,7 +149,7 @@ module _ (c : Outset) where
   stops : DoesAll (stop_accesses ++ (placing_accesses ++ comreset_accesses)) (dev tape seen_masks) (dev tape unfit)
   stops = (dev tape commanded, reads_here tape Cmd 0xc011 seen_masks (refl, refl, refl, refl), (dev tape stopping_port, writes_here tape Cmd 0xc010 commanded, (dev tape stopped, falls, places)))
 
-  pub restarts : DoesAll restart_accesses (dev tape outset) (dev tape unfit)
+  pub restarts : DoesAll stop_and_comreset_accesses (dev tape outset) (dev tape unfit)
   restarts = (dev tape seen_ci, reads_here tape Ci 1 outset (λ k low. refl), (dev tape seen_masks, reads_here tape Sact 0 seen_ci (λ k low. no_bit k), stops))
 
   -- ---- by the rules
@@ -170,6 +170,6 @@ module _ (c : Outset) where
     other_bits_are_kept = λ place low start receive. same_beside 0x10 0 refl refl refl refl place start receive;
   }
 
-  pub restart_allowed : AreAllowed restart_accesses (dev tape outset) (dev tape unfit) restarts
+  pub restart_allowed : AreAllowed stop_and_comreset_accesses (dev tape outset) (dev tape unfit) restarts
   unfolding restarts stops places resets falls reads_after closes comes_up reads_here writes_here reads writes falls_reads
   restart_allowed = ((record { ae_is_set = refl; no_reset = refl }, (omega arith, refl)), ((record { ae_is_set = refl; no_reset = refl }, (omega arith, refl)), ((record { ae_is_set = refl; no_reset = refl }, (omega arith, refl)), ((record { ae_is_set = refl; no_reset = refl }, (omega arith, refl), may_stop commanded 0xc010 0xc011 refl refl refl refl refl), ((record { ae_is_set = refl; no_reset = refl }, (omega arith, refl)), ((record { ae_is_set = refl; no_reset = refl }, (omega arith, refl)), ((record { ae_is_set = refl; no_reset = refl }, (omega arith, refl), may_close), ((record { ae_is_set = refl; no_reset = refl }, (omega arith, refl)), ((record { ae_is_set = refl; no_reset = refl }, (omega arith, refl), (refl, refl, refl, omega arith)), ((record { ae_is_set = refl; no_reset = refl }, (omega arith, refl), (refl, refl, refl)), ((record { ae_is_set = refl; no_reset = refl }, (omega arith, refl), (refl, refl, refl, omega arith)), ((record { ae_is_set = refl; no_reset = refl }, (omega arith, refl), (refl, refl, refl)), ((record { ae_is_set = refl; no_reset = refl }, (omega arith, refl)), ((record { ae_is_set = refl; no_reset = refl }, (omega arith, refl), may_hear), ((record { ae_is_set = refl; no_reset = refl }, (omega arith, refl), (refl, inr refl)), ((record { ae_is_set = refl; no_reset = refl }, (omega arith, refl), (refl, inl refl)), ((record { ae_is_set = refl; no_reset = refl }, (omega arith, refl)), ((record { ae_is_set = refl; no_reset = refl }, (omega arith, refl), tt), ((record { ae_is_set = refl; no_reset = refl }, (omega arith, refl), tt), ((record { ae_is_set = refl; no_reset = refl }, (omega arith, refl)), ((record { ae_is_set = refl; no_reset = refl }, (omega arith, refl)), tt)))))))))))))))))))))

@@ -28,7 +28,7 @@ give_back-requires-clause-lent c =
     let ports = c.loop-number.ports in
     let number = c.loop-number.number in
     subst (All (IsLentOut c.loop-number.table)) (kept_there ports number _ (let long = four ports so_far.four in let low = c.loop-number-test.true in omega (arith, long, low)))
-    (next_out c.law_loans_end_in_turn.ensures (by_port (λ p. p.kept) c.args.ports.now) (by_port (λ p. p.kept) ports) c.args.table.now c.loop-number.table number c.requires so_far.back (so_far.left number (omega arith)))
+    (next_out c.law_giving_back_loans_composes.ensures (by_port (λ p. p.kept) c.args.ports.now) (by_port (λ p. p.kept) ports) c.args.table.now c.loop-number.table number c.requires so_far.back (so_far.left number (omega arith)))
 
 pub give_back-requires-clause-loans_differ_in_request : goal.give_back-requires-clause-loans_differ_in_request
 give_back-requires-clause-loans_differ_in_request c =
@@ -36,7 +36,7 @@ give_back-requires-clause-loans_differ_in_request c =
     let ports = c.loop-number.ports in
     let number = c.loop-number.number in
     subst (AllPairs DifferInRequest) (kept_there ports number _ (let long = four ports so_far.four in let low = c.loop-number-test.true in omega (arith, long, low)))
-    (next_two c.law_loans_end_in_turn.ensures (by_port (λ p. p.kept) c.args.ports.now) (by_port (λ p. p.kept) ports) c.args.table.now c.loop-number.table number c.requires so_far.back (so_far.left number (omega arith)))
+    (next_two c.law_giving_back_loans_composes.ensures (by_port (λ p. p.kept) c.args.ports.now) (by_port (λ p. p.kept) ports) c.args.table.now c.loop-number.table number c.requires so_far.back (so_far.left number (omega arith)))
 
 -- one more has none
 next : (old now : List ServedPort) (number : ℕ) (default : ServedPort) (kept : List Lending) → number < length old → number < length now → kept ≡ [] → now ≡ map without_kept_loans (take number old) ++ drop number old
@@ -60,7 +60,7 @@ loop-number-preserved c =
     record {
       back = subst B (sym (map-set (λ (p : ServedPort). p.kept) ports number (record (get_or ports number c.index-ports-number.result) { kept = c.give_back.new.self })
           ∙ ap (set (by_port (λ p. p.kept) ports) number) c.give_back.ensures.empty))
-          (next_so_far c.law_loans_end_in_turn.ensures first (by_port (λ p. p.kept) ports) c.args.table.now c.loop-number.table c.give_back.new.table number c.requires so_far low
+          (next_so_far c.law_giving_back_loans_composes.ensures first (by_port (λ p. p.kept) ports) c.args.table.now c.loop-number.table c.give_back.new.table number c.requires so_far low
           (subst (λ (loans : List Lending). GivesBackLoans c.loop-number.table c.give_back.new.table (Contains loans)) here c.give_back.ensures.takes_loans_back));
       ports = next c.args.ports.now ports number c.index-ports-number.result c.give_back.new.self (omega (arith, told, low)) small c.give_back.ensures.empty c.loop-number.invariant.ports;
     }

@@ -69,7 +69,7 @@ loop-number-preserved c =
       found = map-set_same (λ (p : ServedPort). p.probe_result) ports number c.resolve_after_reset.new.self c.index-ports-number.result (ap (λ (p : ServedPort). p.probe_result) c.resolve_after_reset.ensures.only_quarantine_changes) ∙ so_far.found;
       settle = λ s may.
           let one = settled at s (so_far.settle s may) low in
-          c.law_may_resolve_persists.ensures (now at s (so_far.settle s may) low) (after at s (so_far.settle s may) low) (port_at number) one.0 small (so_far.settle s may) one.2;
+          c.law_resolving_one_port_lets_others_resolve.ensures (now at s (so_far.settle s may) low) (after at s (so_far.settle s may) low) (port_at number) one.0 small (so_far.settle s may) one.2;
       rest = λ s may later new settles.
           let one = settled at s (so_far.settle s may) low in
           let all = so_far.rest s may (one.0 ++ later) new

@@ -35,12 +35,12 @@ arm-requires-clause-started g c =
 pub write-requires : goal.write-requires
 write-requires g c =
     let t : PlacedTask = record { slot = c.args.slot.0; task = c.args.transfer.now; frames = c.args.frames.now } in
-    (c.law_writing_issues.ensures c.args.port t.task.queued (t ∷ []) c.bit_of-own.result _ _
+    (c.law_ci_write_issues_armed_batch.ensures c.args.port t.task.queued (t ∷ []) c.bit_of-own.result _ _
     (armed_transfer c.args.port t c.bit_of-own.result _ _ _ (record { may_issue_task = c.requires.may; slot_in_range = c.requires.slot_in_range; slot_is_usable = c.requires.adapter_has_slot; transfer_fits = c.requires.fits }) c.store_transfer.ensures.stores c.bit_of-own.ensures c.arm.ensures.arms)).0
 
 pub returns-clause-issued : goal.returns-clause-issued
 returns-clause-issued g c =
     let t : PlacedTask = record { slot = c.args.slot.0; task = c.args.transfer.now; frames = c.args.frames.now } in
-    (c.law_writing_issues.ensures c.args.port t.task.queued (t ∷ []) c.bit_of-own.result _ _
+    (c.law_ci_write_issues_armed_batch.ensures c.args.port t.task.queued (t ∷ []) c.bit_of-own.result _ _
     (armed_transfer c.args.port t c.bit_of-own.result _ _ _ (record { may_issue_task = c.requires.may; slot_in_range = c.requires.slot_in_range; slot_is_usable = c.requires.adapter_has_slot; transfer_fits = c.requires.fits }) c.store_transfer.ensures.stores c.bit_of-own.ensures c.arm.ensures.arms)).1
     _ c.write.ensures.does

@@ -26,8 +26,8 @@ write-requires g c =
 pub write-requires-2 : goal.write-requires-2
 write-requires-2 g c =
     let q = c.requires.stored in
-    (c.law_writing_issues.ensures c.args.port true q.1 c.args.mask q.0 _ (armed_batch c.args.port q.1 c.args.mask q.0 _ _ q.2 q.3 c.write.ensures.does)).0
+    (c.law_ci_write_issues_armed_batch.ensures c.args.port true q.1 c.args.mask q.0 _ (armed_batch c.args.port q.1 c.args.mask q.0 _ _ q.2 q.3 c.write.ensures.does)).0
 
 pub returns-clause-issued : goal.returns-clause-issued
 returns-clause-issued g c = λ start tasks stored bits.
-    (c.law_writing_issues.ensures c.args.port true tasks c.args.mask start _ (armed_batch c.args.port tasks c.args.mask start _ _ stored bits c.write.ensures.does)).1 _ c.write-2.ensures.does
+    (c.law_ci_write_issues_armed_batch.ensures c.args.port true tasks c.args.mask start _ (armed_batch c.args.port tasks c.args.mask start _ _ stored bits c.write.ensures.does)).1 _ c.write-2.ensures.does

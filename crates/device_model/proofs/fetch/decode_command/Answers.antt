@@ -1,6 +1,6 @@
 use Rattle.std.proofs.Common.{◌≡◌, ◌+◌, ◌∙◌, ℕ, sym, ap, subst, length, arith, Some}
 use Rattle.byteorder.specs.Endian.{little_from}
-use Rattle.adapter.specs.Commands.{piece_count}
+use Rattle.adapter.specs.Commands.{transfer_sector_count}
 use Rattle.adapter.specs.Memory.{bytes_at}
 use Rattle.adapter.specs.Decoding.{pieces, HasPrds}
 use Rattle.device_model.proofs.Absurd.{some-none, some_one}
@@ -25,8 +25,8 @@ returns-in_default-decode_sectors-clause-only c = λ _ list header m places is s
     (said_meaning c.args.operation memory list c.args.slot m places is s) (rw (← fis) at (said_command c.args.operation memory list c.args.slot m places is s)) in
     some-none said c.in_default-decode_sectors.is
 
-pub returns-then-count_pieces-pieces-clause-only : goal.returns-then-count_pieces-pieces-clause-only
-returns-then-count_pieces-pieces-clause-only c = λ _ list header m places is s.
+pub returns-then-count_pieces-transfer_sector_count-clause-only : goal.returns-then-count_pieces-transfer_sector_count-clause-only
+returns-then-count_pieces-transfer_sector_count-clause-only c = λ _ list header m places is s.
     let memory : ℕ → ℕ = bytes_of c.args.memory.now in
     let k = c.args.operation in
     let there = c.decode_header.ensures.only (record { entries = length s.prds; table = s.table })
@@ -45,5 +45,5 @@ returns-then-count_pieces-pieces-clause-only c = λ _ list header m places is s.
     let stand : HasPrds memory (c.in-Some.header.table + 128) s.prds = subst (λ t. HasPrds memory (t + 128) s.prds) table s.prds_are_encoded in
     let same : are.stored_prds ≡ s.prds = has_once memory _ are.stored_prds s.prds (omega (arith, are.prd_count_is, c.from-entries.ensures, entries)) are.prds_are_encoded stand in
     let many : length (pieces c.read_prds.new.prds) ≡ length (pieces s.prds) = ap length (are.pieces_are ∙ ap pieces same) in
-    let asked : c.pieces.result ≡ piece_count k m.count = c.pieces.ensures ∙ ap (λ n. piece_count k n) count in
-    c.if-count_pieces-pieces.true (rw c.as_slice.ensures.same at c.count_pieces.ensures ∙ (many ∙ (said_count k memory list c.args.slot m places is s ∙ sym asked)))
+    let asked : c.transfer_sector_count.result ≡ transfer_sector_count k m.count = c.transfer_sector_count.ensures ∙ ap (λ n. transfer_sector_count k n) count in
+    c.if-count_pieces-transfer_sector_count.true (rw c.as_slice.ensures.same at c.count_pieces.ensures ∙ (many ∙ (said_count k memory list c.args.slot m places is s ∙ sym asked)))

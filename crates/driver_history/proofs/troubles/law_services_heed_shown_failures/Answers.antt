@@ -7,7 +7,7 @@ use Rattle.ata_types.specs.declared.PortState.TheVariants.{Ready}
 use Rattle.block_machine.specs.Events.{AbstractCall, Service, abstract_after}
 use Rattle.block_machine.specs.Histories.{JointEvent, JointState, joint_state_after}
 use Rattle.identify.specs.declared.wanted.Wanted.{Wanted}
-use Rattle.driver_history.specs.EvidenceHandling.{HandlesIfServiceElseOnlyTickOrResetStops, ServicesReadyPort}
+use Rattle.driver_history.specs.EvidenceHandling.{ServicesOrOnlyTickOrResetStops, ServicesReadyPort}
 use Rattle.driver_history.specs.Claims.{HandlesShownFailure}
 use Rattle.driver_history.specs.Evidence.{ShowsFailure}
 use Rattle.driver_history.specs.Histories.{IsDriverHistory, TellsLonePlainFaultsUnlessDead}
@@ -22,7 +22,7 @@ heeds_fault wanted first past h port history asks asked failure =
     let evidenced = history.2.is_evidenced.each_port_is_evidenced port in
     let failed = evidenced.shown_failure_of_ready_is_named asked failure in
     let serves : ServicesReadyPort old.abstract h.event.evidence h.event.steps (abstract_after old.abstract h.event) port =
-    subst (λ (ask : AbstractCall DeviceStep). HandlesIfServiceElseOnlyTickOrResetStops port ask old.abstract h.event.evidence h.event.steps (abstract_after old.abstract h.event)) asks (history.2.ports_correspond port).handles_evidence asked in
+    subst (λ (ask : AbstractCall DeviceStep). ServicesOrOnlyTickOrResetStops port ask old.abstract h.event.evidence h.event.steps (abstract_after old.abstract h.event)) asks (history.2.ports_correspond port).handles_evidence asked in
     record {
       answers_ok_what_had_ended = serves.answers_ok_what_had_ended;
       is_stopped_or_stuck = serves.trouble_stops_or_sticks (inl failed);

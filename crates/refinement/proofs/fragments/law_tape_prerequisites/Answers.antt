@@ -17,8 +17,8 @@ returns c = record {
   no_faults_transitive = c.law_tape_absence_composes.ensures.fails.transitive;
   no_faults_in_parts = c.law_tape_absence_composes.ensures.fails.whole_gives_parts;
   undisturbed_in_parts = c.law_tape_absence_composes.ensures.undisturbed.whole_gives_parts;
-  link_errors_reflexive = c.law_link_errors_rise_by_disks.ensures.reflexive;
-  link_errors_transitive = c.law_link_errors_rise_by_disks.ensures.transitive;
-  access_raises_link_errors_by_disks = c.law_link_errors_rise_by_disks.ensures.access;
-  access_but_sctl_write_makes_no_link_due = c.law_link_errors_rise_by_disks.ensures.no_link_becomes_due_over_access;
+  link_errors_reflexive = c.law_serr_nx_rise_only_by_plugs_if_no_link_due.ensures.reflexive;
+  link_errors_transitive = c.law_serr_nx_rise_only_by_plugs_if_no_link_due.ensures.transitive;
+  access_raises_link_errors_by_disks = c.law_serr_nx_rise_only_by_plugs_if_no_link_due.ensures.access;
+  access_but_sctl_write_makes_no_link_due = c.law_serr_nx_rise_only_by_plugs_if_no_link_due.ensures.no_link_becomes_due_over_access;
 }

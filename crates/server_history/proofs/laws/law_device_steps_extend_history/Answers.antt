@@ -4,7 +4,7 @@ use Rattle.server_history.proofs.plain_calls.RefusalsAndBytes.{device_adds_event
 use Rattle.server_history.proofs.laws.law_device_steps_extend_history.Goals as goal
 
 pub returns-clause-did : goal.returns-clause-did
-returns-clause-did c false s new step settled asked steps = let x = device_adds_event c.law_history_prerequisites.ensures s new step settled asked steps in (x.settled_invariant, x.extends_history)
+returns-clause-did c false s new step settled asked steps = let x = device_adds_event c.law_history_prerequisites.ensures s new step settled asked steps in (x.invariant_with_none_due, x.extends_history)
 returns-clause-did c true s new step stalled asked steps = let x = stalled_device c.law_history_prerequisites.ensures s stalled new step asked steps in (x.stuck_invariant, x.extends_history)
 
 pub returns-clause-did_not : goal.returns-clause-did_not

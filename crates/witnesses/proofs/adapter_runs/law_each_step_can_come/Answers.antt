@@ -64,7 +64,7 @@ by_kind stay alone Scribble other =
 
 pub returns-clause-safely : goal.returns-clause-safely
 returns-clause-safely c =
-    by_kind c.law_kept_bytes_stay.ensures (λ m places says. (c.law_decoding_is_unique.ensures memory 0 2 m a_trim places (0x9000 ∷ []) says trim_says).0)
+    by_kind c.law_kept_bytes_stay_over_device_steps.ensures (λ m places says. (c.law_slot_decodes_to_at_most_one_command.ensures memory 0 2 m a_trim places (0x9000 ∷ []) says trim_says).0)
 
 pub returns-clause-senseless : goal.returns-clause-senseless
 returns-clause-senseless c = record {

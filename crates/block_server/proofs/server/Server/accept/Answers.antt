@@ -111,7 +111,7 @@ sent g c =
 
 pub invariant_of-self : goal.invariant_of-self
 invariant_of-self g c = of_on c.self.view_is c.requires.on (
-    (c.law_acceptances_extend_history.ensures (server_of g.A.Adapter.device (server_view_of c.self.inside)) (server_of g.A.Adapter.device (after g c)) c.args.port c.args.r.now (record { 0 = c.self.inside.last + 1 }) (is_on g.A.Adapter.device (server_view_of c.self.inside) c.args.self.now c.self.view_is c.requires.on c.self.invariant) (subst (λ (v : ServerView g.row.A.Denot). IsAcceptable (admission_context (server_of g.A.Adapter.device v)) c.args.r.now) (sym c.self.view_is) c.requires.acceptable) (sent g c)).settled_invariant)
+    (c.law_acceptances_extend_history.ensures (server_of g.A.Adapter.device (server_view_of c.self.inside)) (server_of g.A.Adapter.device (after g c)) c.args.port c.args.r.now (record { 0 = c.self.inside.last + 1 }) (is_on g.A.Adapter.device (server_view_of c.self.inside) c.args.self.now c.self.view_is c.requires.on c.self.invariant) (subst (λ (v : ServerView g.row.A.Denot). IsAcceptable (admission_context (server_of g.A.Adapter.device v)) c.args.r.now) (sym c.self.view_is) c.requires.acceptable) (sent g c)).invariant_with_none_due)
 
 pub returns-clause-accepts : goal.returns-clause-accepts
 returns-clause-accepts g c =
@@ -147,7 +147,7 @@ returns-clause-cost g c =
     let book = unanswered_of s.book in
     let its = as_unanswered (accepted_as c.args.port c.args.r.now id).request in
     let none : due_of m c.args.port book ≡ [] =
-    newest.none_of_them m c.args.port book (λ x has. (exact.due_are_of_port m c.args.port book x has, (exact.exact m c.args.port book x (exact.due_are_of_port m c.args.port book x has)).0 has)) (settled.nothing_is_due c.args.port) in
+    newest.none_of_them m c.args.port book (λ x has. (exact.due_are_of_port m c.args.port book x has, (exact.exact m c.args.port book x (exact.due_are_of_port m c.args.port book x has)).0 has)) (settled.none_is_due c.args.port) in
     let alone = newest.due_alone m book its refl c.args.port (newest.all_earlier s.book s.last_id its refl settled.in_call_invariant.ids_were_handed_out) none in
     let there : unanswered_of c.accept.new.self ≡ book ++ its ∷ [] = ap unanswered_of c.accept.ensures.request_is_appended ∙ newest.asks_more s.book (record { request = (accepted_as c.args.port c.args.r.now id).request; frames = c.as_slice.result.now }) in
     let few : length (due_of m c.args.port (unanswered_of c.accept.new.self)) ≤ 1 = subst (λ (xs : List Unanswered). length (due_of m c.args.port xs) ≤ 1) (sym there) alone in

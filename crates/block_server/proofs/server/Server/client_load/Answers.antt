@@ -31,7 +31,7 @@ went g c =
     let Q : ServerView g.row.A.Denot → Type 0 = λ v. MayAccessFrame (owner_of v.table) (lent_to v.table) c.args.client c.args.frame c.args.offset (length c.args.out.now) in
     let opened = subst Q (sym c.self.view_is) c.in_ok-address.ensures.ok.0 in
     let loads = subst (λ (at : ℕ). Loads at c.load.new.out (device s.adapter) (device c.load.new.self)) c.in_ok-address.ensures.ok.1 c.load.ensures.does in
-    c.law_client_bytes_extend_history.ensures.load s.stuck (server_of device s) (device c.load.new.self) c.args.client c.args.frame c.args.offset (length c.args.out.now) c.load.new.out c.self.invariant c.load.auto.out opened loads
+    c.law_client_loads_and_stores_extend_history.ensures.load s.stuck (server_of device s) (device c.load.new.self) c.args.client c.args.frame c.args.offset (length c.args.out.now) c.load.new.out c.self.invariant c.load.auto.out opened loads
 
 pub invariant_of-self : goal.invariant_of-self
 invariant_of-self g c = (went g c).0

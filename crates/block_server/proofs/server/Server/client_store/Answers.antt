@@ -31,7 +31,7 @@ went g c =
     let Q : ServerView g.row.A.Denot → Type 0 = λ v. MayAccessFrame (owner_of v.table) (lent_to v.table) c.args.client c.args.frame c.args.offset (length c.args.bytes.now) in
     let opened = subst Q (sym c.self.view_is) c.in_ok-address.ensures.ok.0 in
     let stores = subst (λ (at : ℕ). Stores at c.args.bytes.now (device s.adapter) (device c.store.new.self)) c.in_ok-address.ensures.ok.1 c.store.ensures.does in
-    c.law_client_bytes_extend_history.ensures.store s.stuck (server_of device s) (device c.store.new.self) c.args.client c.args.frame c.args.offset c.args.bytes.now c.self.invariant opened stores
+    c.law_client_loads_and_stores_extend_history.ensures.store s.stuck (server_of device s) (device c.store.new.self) c.args.client c.args.frame c.args.offset c.args.bytes.now c.self.invariant opened stores
 
 pub invariant_of-self : goal.invariant_of-self
 invariant_of-self g c = (went g c).0

@@ -8,7 +8,7 @@ use Rattle.host_boot.specs.TakeOver.{TakesOver, probe_result_of}
 use Rattle.host_boot.specs.declared.ProbeResult.{ProbeResult}
 use Rattle.identify.specs.declared.wanted.Wanted.{Wanted}
 use Rattle.server_history.specs.Histories.{StartsHistory}
-use Rattle.server_history.specs.ServerState.{ServerState, SettledInvariant, probed_mode}
+use Rattle.server_history.specs.ServerState.{ServerState, InvariantWithNoneDue, probed_mode}
 use Rattle.block_server.specs.ServerFieldsView.{server_view_of}
 use Rattle.block_server.specs.ServerView.{server_of}
 use Rattle.block_server.proofs.Making.{NewPorts, new_fits, new_ports}
@@ -49,7 +49,7 @@ its_taken g c =
     let same = c.wanted-2.ensures.wanted ∙ sym c.wanted.ensures.wanted ∙ sym (has_ports g c).wanted in
     subst (λ (wanted : List Wanted). TakesOver wanted c.take_over-host.result (g.A.Adapter.device c.args.adapter) (new_server g c).device) same c.take_over-host.ensures.takes_over
 
-begun : (g : Over) (c : After-law_new_server_starts_history g) → SettledInvariant (new_server g c) × StartsHistory (new_server g c)
+begun : (g : Over) (c : After-law_new_server_starts_history g) → InvariantWithNoneDue (new_server g c) × StartsHistory (new_server g c)
 begun g c =
     let device = g.A.Adapter.device in
     let plan = c.in-Ok.plan in
@@ -87,7 +87,7 @@ returns-clause-made g c =
       last_id_is_0 = refl;
       is_not_stuck = refl;
       no_slot_is_used = has.unused;
-      settled_invariant = (begun g a).0;
+      invariant_with_none_due = (begun g a).0;
       starts_history = (begun g a).1;
     }
 

@@ -6,7 +6,7 @@ use Rattle.dma_frames.specs.FrameTables.{OwnersAndLoans}
 use Rattle.host_boot.specs.TakeOver.{TakesOver}
 use Rattle.host_boot.specs.declared.ProbeResult.{ProbeResult}
 use Rattle.identify.specs.declared.wanted.Wanted.{Wanted}
-use Rattle.server_history.specs.Histories.{ExtendsToSettled, ExtendsHistory, ExtendsToStuck}
+use Rattle.server_history.specs.Histories.{ExtendsToNoneDue, ExtendsHistory, ExtendsToStuck}
 use Rattle.server_history.specs.KeptLoans.{IsKeptIn, MayGiveBack, GivesBackLoans}
 use Rattle.server_history.specs.Resets.{IsReinitialized, IssuesOnEachReadyPort, ResetsServer, ResolvesEachPort}
 use Rattle.server_history.specs.ServerState.{InCallInvariant, ServerState}
@@ -95,7 +95,7 @@ takes g c =
     (subst (λ (wanted : List Wanted). TakesOver wanted host idle new) (c.wanted_disks.ensures ∙ ap (by_port (λ p. p.wanted)) back.ports) c.take_over-host.ensures.takes_over) refl
 
 pub resolve_ports-requires-clause-may_resolve : goal.resolve_ports-requires-clause-may_resolve
-resolve_ports-requires-clause-may_resolve g c = (taken g c, c.law_reset_leads_to_settled.ensures.may_resolve (server_of g.A.Adapter.device (server_view_of c.self.inside)) (taken g c) (its_books g c) (takes g c))
+resolve_ports-requires-clause-may_resolve g c = (taken g c, c.law_reset_leads_to_none_due.ensures.may_resolve (server_of g.A.Adapter.device (server_view_of c.self.inside)) (taken g c) (its_books g c) (takes g c))
 
 -- its requests were resolved
 abbrev at_settling : (g : Over) (c : After-issue_due_on_ports-arg-3-1 g) → After-resolve_ports-arg-3-1 g
@@ -108,13 +108,13 @@ settles : (g : Over) (c : After-issue_due_on_ports-arg-3-1 g) → ResolvesEachPo
 settles g c =
     let a = at_settling g c in
     let from = taken g a in
-    let all = c.resolve_ports.ensures.resolves_ports from (c.law_reset_leads_to_settled.ensures.may_resolve (server_of g.A.Adapter.device (server_view_of c.self.inside)) from (its_books g a) (takes g a)) in
+    let all = c.resolve_ports.ensures.resolves_ports from (c.law_reset_leads_to_none_due.ensures.may_resolve (server_of g.A.Adapter.device (server_view_of c.self.inside)) from (its_books g a) (takes g a)) in
     subst (λ (replies : List Reply). ResolvesEachPort 0 from.probe_results replies from (settled g c)) (sym (all.1 ∙ ap (λ (told : List Reply). told ++ all.0) c.clear.ensures)) all.2
 
 keeps : (g : Over) (c : After-issue_due_on_ports-arg-3-1 g) → InCallInvariant (settled g c)
 keeps g c =
     let a = at_settling g c in
-    c.law_reset_leads_to_settled.ensures.resolved_has_invariant (server_of g.A.Adapter.device (server_view_of c.self.inside)) (taken g a) (settled g c) c.resolve_ports.new.replies.items (its_books g a) (takes g a) (settles g c)
+    c.law_reset_leads_to_none_due.ensures.resolved_has_invariant (server_of g.A.Adapter.device (server_view_of c.self.inside)) (taken g a) (settled g c) c.resolve_ports.new.replies.items (its_books g a) (takes g a) (settles g c)
 
 pub issue_due_on_ports-requires : goal.issue_due_on_ports-requires
 issue_due_on_ports-requires g c = record { in_call_invariant = (settled g c, keeps g c) }
@@ -125,7 +125,7 @@ after g c = with_ports (server_of g.A.Adapter.device (server_view_of c.self.insi
 
 -- the server was reset, and that adds an event
 was_reset : (g : Over) (c : After-issue_due_on_ports g) → ResetsServer c.resolve_ports.new.replies.items (server_of g.A.Adapter.device (server_view_of c.self.inside)) (after g c)
-    × ExtendsToSettled (server_of g.A.Adapter.device (server_view_of c.self.inside)) (after g c) Reset (WasReset (Some c.resolve_ports.new.replies.items))
+    × ExtendsToNoneDue (server_of g.A.Adapter.device (server_view_of c.self.inside)) (after g c) Reset (WasReset (Some c.resolve_ports.new.replies.items))
 was_reset g c =
     let i = (goal.at.returns-clause-resets g c).After-issue_due_on_ports-arg-3-1 in
     let a = at_settling g i in
@@ -136,7 +136,7 @@ was_reset g c =
     (resets, c.law_ended_resets_extend_history.ensures s (after g c) c.resolve_ports.new.replies.items (its_books g a) resets)
 
 pub invariant_of-self-2 : goal.invariant_of-self-2
-invariant_of-self-2 g c = (was_reset g c).1.settled_invariant
+invariant_of-self-2 g c = (was_reset g c).1.invariant_with_none_due
 
 pub returns-clause-resets : goal.returns-clause-resets
 returns-clause-resets g c =

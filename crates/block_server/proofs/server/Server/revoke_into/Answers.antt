@@ -4,10 +4,10 @@ use Rattle.block_machine.specs.Events.{RevokeOf, WasRevoked}
 use Rattle.block_machine.specs.DueRequests.{due_of}
 use Rattle.block_machine.specs.declared.due.QueueMode.{QueueMode}
 use Rattle.request_queue.specs.BookEntries.{with_requests_under_grant_revoked, unanswered_of}
-use Rattle.server_history.specs.Histories.{ExtendsToSettled, ExtendsHistory, ExtendsToStuck, InvariantBetweenCalls}
+use Rattle.server_history.specs.Histories.{ExtendsToNoneDue, ExtendsHistory, ExtendsToStuck, InvariantBetweenCalls}
 use Rattle.server_history.specs.Revoking.{RevokesGrant}
 use Rattle.server_history.specs.IssuingAndAnswering.{IssuesDueOfPort}
-use Rattle.server_history.specs.ServerState.{InCallInvariant, SettledInvariant, ServerState}
+use Rattle.server_history.specs.ServerState.{InCallInvariant, InvariantWithNoneDue, ServerState}
 use Rattle.port_driver.specs.LentSlots.{HasPortToIssue}
 use Rattle.port_driver.specs.declared.served_port.ServedPort.{ServedPort}
 use Rattle.port_driver.specs.declared.served_port.Shared.{Shared}
@@ -38,7 +38,7 @@ cancel_waiting_under_grant-requires g c =
     let b : ServerInvariant s = holds_either c.self.inside.stuck c.self.invariant (λ _ settled. c.law_in_call_gives_server_invariant.ensures.server_invariant s settled.in_call_invariant) (λ _ stalled. stalled.server_invariant) in
     let marked : BookIsSound s.table (with_requests_under_grant_revoked c.args.client c.args.number s.book) = record {
       book_is_well_formed = c.law_book_stays_well_formed.ensures.revoked s.book c.args.client c.args.number b.book_is_well_formed;
-      entries_are_well_formed = c.law_well_formed_entries_stay.ensures.revoked s.table s.book c.args.client c.args.number b.entries_are_well_formed;
+      entries_are_well_formed = c.law_entries_stay_well_formed.ensures.revoked s.table s.book c.args.client c.args.number b.entries_are_well_formed;
     } in
     let sound : BookIsSound s.table c.mark_revoked.new.self = subst (BookIsSound s.table) (sym c.mark_revoked.ensures) marked in
     let all = c.law_book_stays_well_formed.ensures.has_128_at_most c.mark_revoked.new.self sound.book_is_well_formed in
@@ -92,7 +92,7 @@ returns-then-self-clause-extends_history g c =
 abbrev mid_on : (g : Over) (c : After-index-self-from g) → ServerState
 mid_on g c = record (server_of g.A.Adapter.device (server_view_of c.self.inside)) { grants = c.revoke.new.self; table = c.cancel_waiting_under_grant.new.self.table.value; book = c.cancel_waiting_under_grant.new.self.book }
 
-is_on : (g : Over) (c : After-index-self-from g) → SettledInvariant (server_of g.A.Adapter.device (server_view_of c.self.inside))
+is_on : (g : Over) (c : After-index-self-from g) → InvariantWithNoneDue (server_of g.A.Adapter.device (server_view_of c.self.inside))
 is_on g c = holds_either c.self.inside.stuck c.self.invariant (λ _ settled. settled) (λ off _. absurd (let z : true ≡ false = sym off ∙ c.if-self.false in cc))
 
 abbrev revoked_on : (g : Over) (c : After-index-self-from g) → RevokesGrant c.args.client c.args.number c.cancel_waiting_under_grant.new.replies.items (server_of g.A.Adapter.device (server_view_of c.self.inside)) (mid_on g c)
@@ -153,11 +153,11 @@ issued_on g c =
     (c.issue_where_ready.ensures.issues_all_due (mid_on g (before g c)) (lends_on g (before g c))))
 
 -- it adds an event
-added_on : (g : Over) (c : After-issue_where_ready g) → ExtendsToSettled (server_of g.A.Adapter.device (server_view_of c.self.inside)) (server_of g.A.Adapter.device (after_on g c)) (RevokeOf c.args.client c.args.number) (WasRevoked (Some c.cancel_waiting_under_grant.new.replies.items))
+added_on : (g : Over) (c : After-issue_where_ready g) → ExtendsToNoneDue (server_of g.A.Adapter.device (server_view_of c.self.inside)) (server_of g.A.Adapter.device (after_on g c)) (RevokeOf c.args.client c.args.number) (WasRevoked (Some c.cancel_waiting_under_grant.new.replies.items))
 added_on g c = c.law_revocations_extend_history.ensures (server_of g.A.Adapter.device (server_view_of c.self.inside)) (mid_on g (before g c)) (server_of g.A.Adapter.device (after_on g c)) c.args.client c.args.number c.cancel_waiting_under_grant.new.replies.items (is_on g (before g c)) (revoked_on g (before g c)) (issued_on g c)
 
 pub invariant_of-self-2 : goal.invariant_of-self-2
-invariant_of-self-2 g c = subst (λ (b : Bool). InvariantBetweenCalls b (server_of g.A.Adapter.device (after_on g c))) (sym c.if-self.false) (added_on g c).settled_invariant
+invariant_of-self-2 g c = subst (λ (b : Bool). InvariantBetweenCalls b (server_of g.A.Adapter.device (after_on g c))) (sym c.if-self.false) (added_on g c).invariant_with_none_due
 
 -- and no access was made where nothing was due
 revokes_on : (g : Over) (c : After-issue_where_ready g) → RevokesAndIssuesDueOfItsPort g.A.Adapter.device c.args.client c.args.number c.cancel_waiting_under_grant.new.replies.items (server_view_of c.self.inside) (after_on g c)

@@ -14,7 +14,7 @@ use Rattle.block_server.proofs.server.Server.run.Goals as goal
 
 pub loop-at-init : goal.loop-at-init
 loop-at-init g c = record {
-  ran = record { results = []; results_are = sym (append-nil (results_in c.args.out.now)); one_result_a_call = refl; simulates_calls = c.law_runs_keep_their_promise.ensures.no_calls c.args.self.now };
+  ran = record { results = []; results_are = sym (append-nil (results_in c.args.out.now)); one_result_a_call = refl; simulates_calls = c.law_calls_that_extend_history_keep_promise.ensures.no_calls c.args.self.now };
   length = omega arith;
   last = λ some. absurd (omega (arith, some));
   room = omega arith;
@@ -36,7 +36,7 @@ loop-at-preserved g c =
         results = so_far.results ++ one ∷ [];
         results_are = ap (λ (l : List (CallResult (ArrayVec Reply))). l ++ one ∷ []) before ∙ append_assoc (results_in c.args.out.now) so_far.results (one ∷ []);
         one_result_a_call = subst Q calls (length-append so_far.results (one ∷ []) ∙ ap (λ n. n + 1) so_far.one_result_a_call ∙ sym (length-append (take c.loop-at.at c.args.calls.now) (call ∷ [])));
-        simulates_calls = subst P calls (c.law_runs_keep_their_promise.ensures.calls_join _ _ _ _ _ _ _ so_far.simulates_calls (c.law_runs_keep_their_promise.ensures.one_call _ _ call one c.make_call-said.ensures.extends_history c.make_call-said.ensures.wanted_is_unchanged));
+        simulates_calls = subst P calls (c.law_calls_that_extend_history_keep_promise.ensures.calls_join _ _ _ _ _ _ _ so_far.simulates_calls (c.law_calls_that_extend_history_keep_promise.ensures.one_call _ _ call one c.make_call-said.ensures.extends_history c.make_call-said.ensures.wanted_is_unchanged));
       };
       length = omega (arith, c.begin_next_result.ensures.len, c.reserve.ensures.earlier_count_is_same, c.loop-at.invariant.length);
       last = λ some. refl;

@@ -14,8 +14,8 @@ use Rattle.block_server.proofs.server.Server.service_into.Given.{Over}
 use Rattle.block_server.proofs.server.Server.service_into.Goals as goal
 use Rattle.block_server.proofs.server.Server.service_into.Goals.{After-loop-number}
 
-pub take_service_turn-requires-clause-settled : goal.take_service_turn-requires-clause-settled
-take_service_turn-requires-clause-settled g c =
+pub take_service_turn-requires-clause-none_due : goal.take_service_turn-requires-clause-none_due
+take_service_turn-requires-clause-none_due g c =
     let device = g.A.Adapter.device in
     let v = c.loop-number.self-inside in
     let s = server_of device (server_view_of v) in (
@@ -56,7 +56,7 @@ served g c =
     (omega (arith, first, past))
 
 pub invariant_of-self : goal.invariant_of-self
-invariant_of-self g c = subst (λ (b : Bool). InvariantBetweenCalls b (server_of g.A.Adapter.device (server_view_of c.loop-number.self-inside))) (sym c.loop-number.invariant.on) c.loop-number.invariant.turns.settled_invariant
+invariant_of-self g c = subst (λ (b : Bool). InvariantBetweenCalls b (server_of g.A.Adapter.device (server_view_of c.loop-number.self-inside))) (sym c.loop-number.invariant.on) c.loop-number.invariant.turns.invariant_with_none_due
 
 pub returns-clause-services : goal.returns-clause-services
 returns-clause-services g c =

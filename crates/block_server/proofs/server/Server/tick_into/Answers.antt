@@ -9,7 +9,7 @@ use Rattle.request_queue.specs.BookEntries.{BookEntry, HasOverdueOn, aged_entrie
 use Rattle.block_machine.specs.Events.{Replied, Tick}
 use Rattle.block_server.specs.Calls.{TicksUnlessStuck}
 use Rattle.server_history.specs.Histories.{ExtendsHistory, InvariantBetweenCalls}
-use Rattle.server_history.specs.ServerState.{SettledInvariant, ServerState}
+use Rattle.server_history.specs.ServerState.{InvariantWithNoneDue, ServerState}
 use Rattle.server_history.specs.Turns.{Ticks, TakesTickTurn, a_tick_older, is_ready}
 use Rattle.port_driver.specs.PortAndShared.{ChangesNothing, no_port}
 use Rattle.block_server.specs.FourPorts.{by_port}
@@ -34,8 +34,8 @@ older_now g c =
     ap (λ (book : List BookEntry). record (server_of g.A.Adapter.device (server_view_of c.self.inside)) { book = book }) (older g c)
     ∙ ap (λ (v : ServerView g.row.A.Denot). a_tick_older (server_of g.A.Adapter.device v)) c.self.view_is
 
-pub tick-requires-clause-settled : goal.tick-requires-clause-settled
-tick-requires-clause-settled g c =
+pub tick-requires-clause-none_due : goal.tick-requires-clause-none_due
+tick-requires-clause-none_due g c =
     let device = g.A.Adapter.device in
     let v = c.loop-number.self-inside in
     let s = server_of device (server_view_of v) in
@@ -79,7 +79,7 @@ ticked g c =
     (omega (arith, first, past))
 
 pub invariant_of-self : goal.invariant_of-self
-invariant_of-self g c = subst (λ (b : Bool). InvariantBetweenCalls b (server_of g.A.Adapter.device (server_view_of c.loop-number.self-inside))) (sym c.loop-number.invariant.on) c.loop-number.invariant.turns.settled_invariant
+invariant_of-self g c = subst (λ (b : Bool). InvariantBetweenCalls b (server_of g.A.Adapter.device (server_view_of c.loop-number.self-inside))) (sym c.loop-number.invariant.on) c.loop-number.invariant.turns.invariant_with_none_due
 
 pub returns-clause-ticks : goal.returns-clause-ticks
 returns-clause-ticks g c =
@@ -122,8 +122,8 @@ loop-number-init g c =
     let at = (goal.at.loop-number-init g c).After-overdue_ports-overdue in
     let ports = ap (λ (x : ServerView g.row.A.Denot). x.probe_results) c.self.view_is in
     let settled = now_on device refl c.if-self.false c.self.invariant in
-    let now : SettledInvariant (record (server_of device (server_view_of v)) { book = c.tick-any_overdue.new.self }) =
-    subst (λ (book : List BookEntry). SettledInvariant (record (server_of device (server_view_of v)) { book = book })) (sym (older g at)) (c.law_aging_keeps_invariant.ensures (server_of device (server_view_of v)) settled) in
+    let now : InvariantWithNoneDue (record (server_of device (server_view_of v)) { book = c.tick-any_overdue.new.self }) =
+    subst (λ (book : List BookEntry). InvariantWithNoneDue (record (server_of device (server_view_of v)) { book = book })) (sym (older g at)) (c.law_aging_keeps_invariant.ensures (server_of device (server_view_of v)) settled) in
     let four = placing.four_ports v.ports settled.in_call_invariant.slots_are_of_four_ports in
     record {
       first = ap length (sym ports) ∙ length-map v.ports (λ (p : ServedPort). p.probe_result) ∙ four;

@@ -11,7 +11,7 @@ returns-then-is_queued-clause-only c = λ no m alone.
     let taken = taken_in c.args.self.now.taken in
     let queued : true ≡ is_queued c.args.operation = sym c.if-is_queued.true ∙ c.is_queued.ensures in
     true-false
-    (c.are_queued.ensures.1
+    (c.are_all_queued.ensures.1
     (λ slot t held. ap (λ (b : Bool). b && is_queued t.operation) queued ∙ alone slot (taken_of t) (slot_taken taken t slot held)))
     no
 

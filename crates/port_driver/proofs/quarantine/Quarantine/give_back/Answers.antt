@@ -9,7 +9,7 @@ use Rattle.port_driver.proofs.quarantine.Quarantine.give_back.Goals as goal
 
 pub loop-loan-init : goal.loop-loan-init
 loop-loan-init c = record {
-  room = c.self.invariant;
+  room = c.self.invariant.0;
   lent = subst (All (IsLentOut c.args.table.now)) (sym c.self.view_is) c.requires.lent;
   two = subst (AllPairs DifferInRequest) (sym c.self.view_is) c.requires.loans_differ_in_request;
   goes = λ new given. subst (λ (loans : List Lending). GivesBackLoans c.args.table.now new (Contains loans)) c.self.view_is given;
@@ -28,11 +28,11 @@ loop-loan-preserved c =
     let two = subst (AllPairs DifferInRequest) c.in-Some.ensures.items c.loop-loan.invariant.two in
     record {
       room = let same = c.in-Some.ensures.capacity in let room = c.loop-loan.invariant.room in omega (arith, same, room);
-      lent = lent_left rest loan c.law_loans_end_in_turn.ensures c.loop-loan.table c.give_back.new.self lent two c.give_back.ensures;
+      lent = lent_left rest loan c.law_giving_back_loans_composes.ensures c.loop-loan.table c.give_back.new.self lent two c.give_back.ensures;
       two = two_left rest loan two;
       goes = λ new given. c.loop-loan.invariant.goes new
           (subst (λ (loans : List Lending). GivesBackLoans c.loop-loan.table new (Contains loans)) (sym c.in-Some.ensures.items)
-          (all_back rest loan c.law_loans_end_in_turn.ensures c.loop-loan.table c.give_back.new.self lent two c.give_back.ensures new given));
+          (all_back rest loan c.law_giving_back_loans_composes.ensures c.loop-loan.table c.give_back.new.self lent two c.give_back.ensures new given));
     }
 
 pub returns-clause-takes_loans_back : goal.returns-clause-takes_loans_back

@@ -6,7 +6,7 @@ use Rattle.port_driver.specs.Recovery.{IsInError}
 use Rattle.port_driver.proofs.Lent.{Answered, FoundDone, Troubled, Waiting, agreed, alike, alone, lends_done, may, mid_kept, mends_rest, mid_there, named, places, seen_kept, seen_there}
 use Rattle.port_driver.proofs.served_port.ServedPort.complete_and_recover.Given.{Over}
 use Rattle.port_driver.proofs.served_port.ServedPort.complete_and_recover.Goals as goal
-use Rattle.port_driver.proofs.served_port.ServedPort.complete_and_recover.Goals.{After-answer_done-arg-3-1, After-done-arg-1, After-recover_or_stop-arg-1, After-are_queued-arg-1}
+use Rattle.port_driver.proofs.served_port.ServedPort.complete_and_recover.Goals.{After-answer_done-arg-3-1, After-done-arg-1, After-recover_or_stop-arg-1, After-is_any_queued-arg-1}
 
 -- a server of which so much is lent
 abbrev Has : (g : Over) (c : After-done-arg-1 g) → Type 0
@@ -18,10 +18,10 @@ troubled g c l = record {
     looking = c.law_looks_preserve_invariant.ensures.looking;
     finding = c.law_looks_preserve_invariant.ensures.finding;
     over = c.law_looks_preserve_invariant.ensures.done_slots_are_over;
-    may = c.law_port_errors_may_be_handled.ensures.may_recover;
-    agreed = c.law_port_errors_may_be_handled.ensures.plain_uses_slot_0;
-    alike = c.law_port_errors_may_be_handled.ensures.are_queued_alike;
-    alone = c.law_port_errors_may_be_handled.ensures.plain_is_alone;
+    may = c.law_recover_preconditions_hold_after_look.ensures.may_recover;
+    agreed = c.law_recover_preconditions_hold_after_look.ensures.plain_uses_slot_0;
+    alike = c.law_recover_preconditions_hold_after_look.ensures.are_queued_alike;
+    alone = c.law_recover_preconditions_hold_after_look.ensures.plain_is_alone;
   };
   s = l.0;
   device = g.A.Adapter.device c.args.adapter.now;
@@ -44,17 +44,17 @@ found_done g c l = record {
   reads = c.done-finished.ensures.finds;
 }
 
-abbrev at_done : (g : Over) (c : After-are_queued-arg-1 g) → After-answer_done-arg-3-1 g
-at_done g c = (goal.at.are_queued-queued-requires g c).After-answer_done-arg-3-1
+abbrev at_done : (g : Over) (c : After-is_any_queued-arg-1 g) → After-answer_done-arg-3-1 g
+at_done g c = (goal.at.is_any_queued-queued-requires g c).After-answer_done-arg-3-1
 
 -- both, once what is done was answered
-abbrev its_trouble : (g : Over) (c : After-are_queued-arg-1 g) → Has g (at_taking g (at_done g c)) → Troubled
+abbrev its_trouble : (g : Over) (c : After-is_any_queued-arg-1 g) → Has g (at_taking g (at_done g c)) → Troubled
 its_trouble g c l = troubled g (at_taking g (at_done g c)) l
 
-abbrev its_done : (g : Over) (c : After-are_queued-arg-1 g) (l : Has g (at_taking g (at_done g c))) → FoundDone (its_trouble g c l)
+abbrev its_done : (g : Over) (c : After-is_any_queued-arg-1 g) (l : Has g (at_taking g (at_done g c))) → FoundDone (its_trouble g c l)
 its_done g c l = found_done g (at_done g c) l
 
-abbrev answered : (g : Over) (c : After-are_queued-arg-1 g) (l : Has g (at_taking g (at_done g c))) → Answered (its_trouble g c l) (its_done g c l)
+abbrev answered : (g : Over) (c : After-is_any_queued-arg-1 g) (l : Has g (at_taking g (at_done g c))) → Answered (its_trouble g c l) (its_done g c l)
 answered g c l =
     let f = its_done g c l in
     let from = record l.0 { device = f.found } in
@@ -69,15 +69,15 @@ answered g c l =
       lent = (rw c.deref_mut.ensures.value at c.answer_done.ensures.lends) from c.args.port done;
     }
 
-abbrev at_answer : (g : Over) (c : After-recover_or_stop-arg-1 g) → After-are_queued-arg-1 g
-at_answer g c = (goal.at.recover_or_stop-recovered-requires-clause-ready g c).After-are_queued-arg-1
+abbrev at_answer : (g : Over) (c : After-recover_or_stop-arg-1 g) → After-is_any_queued-arg-1 g
+at_answer g c = (goal.at.recover_or_stop-recovered-requires-clause-ready g c).After-is_any_queued-arg-1
 
 abbrev waiting : (g : Over) (c : After-recover_or_stop-arg-1 g) (l : Has g (at_taking g (at_done g (at_answer g c)))) → Waiting (its_trouble g (at_answer g c) l) (its_done g (at_answer g c) l) (answered g (at_answer g c) l)
 waiting g c l = record {
   outstanding = c.taken-outstanding.result;
   left = c.taken-outstanding.ensures;
-  queued = c.are_queued-queued.result;
-  kinds = c.are_queued-queued.ensures;
+  queued = c.is_any_queued-queued.result;
+  kinds = c.is_any_queued-queued.ensures;
 }
 
 pub done-finished-requires-clause-adapter_is_on : goal.done-finished-requires-clause-adapter_is_on
@@ -93,8 +93,8 @@ answer_done-requires-clause-server_has_port g c =
     let D : OwnersAndLoans → Type 0 = λ table. HasPortToAnswer s table c.args.shared.now.book c.args.self.now.slots c.args.port f.done in
     (s, c.args.port, subst D (sym c.deref_mut.ensures.value) (lends_done (troubled g (at_taking g c) c.requires.server_is_in_error) f))
 
-pub are_queued-queued-requires : goal.are_queued-queued-requires
-are_queued-queued-requires g c =
+pub is_any_queued-queued-requires : goal.is_any_queued-queued-requires
+is_any_queued-queued-requires g c =
     let l = c.requires.server_is_in_error in
     record { all_queued_or_none = alike (its_trouble g c l) (its_done g c l) (answered g c l); places = places (its_trouble g c l) (its_done g c l) (answered g c l) }
 

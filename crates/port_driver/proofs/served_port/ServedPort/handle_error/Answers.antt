@@ -35,12 +35,12 @@ recovered g c s h =
     let then = c.complete_and_recover-failed.new in
     record {
       laws = record {
-        bootable = c.law_a_port_goes_on_after_its_errors.ensures.bootable;
-        mode = c.law_a_port_goes_on_after_its_errors.ensures.mode_is_kept;
-        places = c.law_a_port_goes_on_after_its_errors.ensures.issued_loans_have_room;
-        settled = c.law_a_port_goes_on_after_its_errors.ensures.resolved_has_invariant;
-        error_handled = c.law_a_port_is_served.ensures.error_handled;
-        restarted = c.law_a_timed_out_port_is_restarted.ensures;
+        bootable = c.law_handled_port_errors_keep_invariant.ensures.bootable;
+        mode = c.law_handled_port_errors_keep_invariant.ensures.mode_is_kept;
+        places = c.law_handled_port_errors_keep_invariant.ensures.issued_loans_have_room;
+        settled = c.law_handled_port_errors_keep_invariant.ensures.resolved_has_invariant;
+        error_handled = c.law_handling_look_result_is_a_service_turn.ensures.error_handled;
+        restarted = c.law_handling_timeout_is_a_restart_turn.ensures;
       };
       s = s;
       port = c.args.port;
@@ -48,7 +48,7 @@ recovered g c s h =
       first = g.A.Adapter.device c.args.adapter.now;
       sees = h.sees_port_error;
       was = c.in-Ready.was;
-      is_ready = h.was_settled_with.has_port_and_shared.port_is.probe_result_is ∙ c.in-Ready.is;
+      is_ready = h.had_none_due_and_parts.has_port_and_shared.port_is.probe_result_is ∙ c.in-Ready.is;
       before = c.args.replies.now.items;
       told = then.replies.items;
       failed = c.complete_and_recover-failed.result.0;
@@ -78,13 +78,13 @@ is_anew g c =
 
 -- what the server kept of the port is kept still
 same_kept : (g : Over) (c : After-complete_and_recover-failed g) (s : ServerState) → Has g c s → c.complete_and_recover-failed.new.self.kept ≡ quarantined_at s.kept_loans c.args.port.0
-same_kept g c s h = ap (λ (p : ServedPort). p.kept) c.complete_and_recover-failed.ensures.only_slots_change ∙ sym h.was_settled_with.has_port_and_shared.port_is.quarantine_is
+same_kept g c s h = ap (λ (p : ServedPort). p.kept) c.complete_and_recover-failed.ensures.only_slots_change ∙ sym h.had_none_due_and_parts.has_port_and_shared.port_is.quarantine_is
 
 pub resume_or_reboot-found-requires-clause-mode : goal.resume_or_reboot-found-requires-clause-mode
 resume_or_reboot-found-requires-clause-mode g c =
     let a = (goal.at.resume_or_reboot-found-requires-clause-mode g c).After-complete_and_recover-failed in
     let h = c.requires.sees in
-    restoring.mode_then (recovered g a h.0 h.1) c.complete_and_recover-failed.new.self.mode (ap (λ (p : ServedPort). p.mode) c.complete_and_recover-failed.ensures.only_slots_change ∙ sym h.1.was_settled_with.has_port_and_shared.port_is.mode_is)
+    restoring.mode_then (recovered g a h.0 h.1) c.complete_and_recover-failed.new.self.mode (ap (λ (p : ServedPort). p.mode) c.complete_and_recover-failed.ensures.only_slots_change ∙ sym h.1.had_none_due_and_parts.has_port_and_shared.port_is.mode_is)
 
 pub resume_or_reboot-found-requires-clause-bootable : goal.resume_or_reboot-found-requires-clause-bootable
 resume_or_reboot-found-requires-clause-bootable g c =
@@ -127,7 +127,7 @@ restored g c s h =
     let now = book_and_loans c.resolve.new.self.book c.resolve.new.self.table.value c.resolve.new.kept in
     let K : List Lending → Type 0 = λ loans. AreResolved (disposition_of c.complete_and_recover-failed.result.0 c.revalidation_of.result) (requests_of c.args.port x.b) met.0 (book_and_loans x.b x.t loans) now in
     let W : Wanted → Type 0 = λ wanted. IsFoundAfterError wanted c.args.port c.args.port_error c.in-Ready.was x.next x.one (device c.resume_or_reboot-found.new.adapter) c.resume_or_reboot-found.result.0 in
-    let wanted_is = (ap (λ (p : ServedPort). p.wanted) c.complete_and_recover-failed.ensures.only_slots_change ∙ sym h.was_settled_with.has_port_and_shared.port_is.wanted_is) in
+    let wanted_is = (ap (λ (p : ServedPort). p.wanted) c.complete_and_recover-failed.ensures.only_slots_change ∙ sym h.had_none_due_and_parts.has_port_and_shared.port_is.wanted_is) in
     record {
       two = device c.resume_or_reboot-found.new.adapter;
       found = c.resume_or_reboot-found.result.0;
@@ -179,7 +179,7 @@ module _ (g : Over) (c : After-issue_where_ready g) (s : ServerState) (h : IsInE
       let X : ℕ → Type 0 = λ n. (c.sort_replies_from.new.replies.items ≡ take n c.resolve.new.replies.items ++ sorted.0) × IsPermutation sorted.0 (drop n c.resolve.new.replies.items) in
       let moved = subst X c.len-first.ensures.value (sorted.1, sorted.2) in
       record {
-        settled = h.was_settled_with.settled_invariant;
+        settled = h.had_none_due_and_parts.invariant_with_none_due;
         three = g.A.Adapter.device c.issue_where_ready.new.adapter;
         book = c.issue_where_ready.new.book;
         slots = c.issue_where_ready.new.self.slots;
@@ -212,7 +212,7 @@ module _ (g : Over) (c : After-issue_where_ready g) (s : ServerState) (h : IsInE
         kept_loans = set s.kept_loans c.args.port.0 kept;
         book = c.issue_where_ready.new.book;
       } in
-      placing.with_other s c.args.port c.args.self.now h.was_settled_with.has_port_and_shared.port_is three shared c.issue_where_ready.new.self wanted_is
+      placing.with_other s c.args.port c.args.self.now h.had_none_due_and_parts.has_port_and_shared.port_is three shared c.issue_where_ready.new.self wanted_is
       ∙ ap (λ (p : ServedPort). P p.kept p.slots p) c.issue_where_ready.ensures.only_slots_change
       ∙ ap (P c.resolve.new.kept c.issue_where_ready.new.self.slots) (is_anew g (at_order g c))
       ∙ ap (λ (list : List PortSlots). record (restoring.then x y) { device = three; slots = list; book = c.issue_where_ready.new.book })
@@ -224,7 +224,7 @@ module _ (g : Over) (c : After-issue_where_ready g) (s : ServerState) (h : IsInE
   handled =
       let done = restoring.error_handled x y o in
       subst (TakesTurn (HandlesPortErrorOf c.args.port c.args.port_error) c.args.replies.now.items c.sort_replies_from.new.replies.items s) (sym placed)
-      (record { new_replies = c.sort_replies_from.ensures.0; replies_are = restoring.replies_are x y o; turn_is_taken = done.0; settled_invariant = done.1 })
+      (record { new_replies = c.sort_replies_from.ensures.0; replies_are = restoring.replies_are x y o; turn_is_taken = done.0; invariant_with_none_due = done.1 })
 
   as_many : length c.sort_replies_from.new.replies.items ≡ length c.resolve.new.replies.items
   unfolding o

@@ -38,12 +38,12 @@ loop-place-init g c =
     let l = may.some_server_has_port.1 in
     let there = sending.ready_there s port l.in_call_invariant (ap (λ f. Rattle.server_history.specs.ServerState.state_of f) l.probe_result_is ∙ may.ready) in
     let runs = (l.in_call_invariant.port_invariant port.0 there.0).ready_engine_runs (ap (λ f. Rattle.server_history.specs.ServerState.state_of f) l.probe_result_is ∙ may.ready) in
-    let none : IsBatchStored port [] s.device s.device = c.law_batches_grow.ensures.empty_batch port s.device l.in_call_invariant.adapter_is_on there l.in_call_invariant.driver_memory_fits (record { st_is_set = runs.st_is_set; list_is_in_place = ap (λ b. b.clb) runs.bases_are_programmed })
+    let none : IsBatchStored port [] s.device s.device = c.law_stored_task_extends_batch.ensures.empty_batch port s.device l.in_call_invariant.adapter_is_on there l.in_call_invariant.driver_memory_fits (record { st_is_set = runs.st_is_set; list_is_in_place = ap (λ b. b.clb) runs.bases_are_programmed })
     (l.in_call_invariant.machine_relation.uses, All-nil (λ t. l.in_call_invariant.machine_relation.uses port.0 t.slot ≡ Free), record { machine = l.in_call_invariant.machine; parked = l.in_call_invariant.machine_relation.awaiting_disposition; reached = l.in_call_invariant.reached; driver_relation = l.in_call_invariant.machine_relation.driver_relation }) in
     let order : BookIsWellFormed book = subst BookIsWellFormed l.book_is l.in_call_invariant.book_is_well_formed in
     record {
-      batch = ([], subst (λ (d : Device). IsBatchStored port [] d d) l.device_is none, c.law_batch_masks_grow.ensures.empty_mask, λ s l. sending.lent_same s device book self.slots port self.mode self.probe_result may.ready l);
-      turns = subst (λ (ids : List RequestId). AreAllDueInOrder self.mode port ids (unanswered_of book)) (sym c.requires.due) (c.law_due_in_turn.ensures self.mode port (unanswered_of book) (c.law_book_stays_well_formed.ensures.unanswered_are_in_order book order));
+      batch = ([], subst (λ (d : Device). IsBatchStored port [] d d) l.device_is none, c.law_batch_mask_gains_task_slot_bit.ensures.empty_mask, λ s l. sending.lent_same s device book self.slots port self.mode self.probe_result may.ready l);
+      turns = subst (λ (ids : List RequestId). AreAllDueInOrder self.mode port ids (unanswered_of book)) (sym c.requires.due) (c.law_issuing_due_in_turn_leaves_none_due.ensures self.mode port (unanswered_of book) (c.law_book_stays_well_formed.ensures.unanswered_are_in_order book order));
       many = refl;
       port = refl;
       fits = omega arith;
@@ -115,7 +115,7 @@ module _ (g : Over) (c : After-deref g) where
             (λ none. some (batching.puts_place preparing.port items c.loop-place.place preparing.tasks s mid in_list (preparing.puts s l) none))).0
 
         first : c.loop-place.place ≡ 0 → is_plain mode preparing.turn.0.request.op ≡ false
-        first zero_is = batching.first_queued preparing s l slot (may_take slot lowest).slot_is_below_32 lowest c.law_operations_change_the_unanswered.ensures.issue c.law_due_requests_get_slots.ensures.one_more_gets_a_slot c.law_due_requests_get_slots.ensures.several_are_queued
+        first zero_is = batching.first_queued preparing s l slot (may_take slot lowest).slot_is_below_32 lowest c.law_unanswered_follow_book_operations.ensures.issue c.law_due_requests_get_slots.ensures.one_more_gets_a_slot c.law_due_requests_get_slots.ensures.several_are_queued
             items c.loop-place.place no_id (let some = c.requires.several in omega (arith, some, zero_is)) id_is c.loop-place.invariant.turns
 
 pub entry-requires : goal.entry-requires
@@ -163,7 +163,7 @@ module _ (g : Over) (c : After-frames g) where
   made_is = batching.task_made x s0 l0 (goes_on g d s0 l0) c.law_an_id_is_one_request.ensures.one_request_an_id c.entry.result.0.now c.entry.result.1.now.frames c.entry.ensures.is_in_book c.entry.ensures.id.0 queued slot c.frames.result.now c.frames.ensures.frames
 
   pub grows : MayIssueTransfer x.port t.slot t.task t.frames now × ((new : Device) → StoresTransfer x.port t now new → IsBatchStored x.port (x.tasks ++ t ∷ []) x.start new)
-  grows = c.law_batches_grow.ensures.one_more_task x.port x.tasks t x.start now c.loop-place.invariant.batch.1
+  grows = c.law_stored_task_extends_batch.ensures.one_more_task x.port x.tasks t x.start now c.loop-place.invariant.batch.1
       (subst (λ (v : Device). Rattle.refinement.specs.Fragments.SomeMachineAgreesWith (BatchSlotsAreUnused x.port.0 (x.tasks ++ t ∷ [])) v) l0.device_is (takes.some_machine_agrees t refl))
       takes.is_none_of_tasks slot_small (subst (λ (v : Device). slot ≤ v.cap / 256 % 32) l0.device_is takes.slot_exists)
       (batching.fits x s0 l0 (goes_on g d s0 l0) queued slot (λ plain. takes.plain_is_in_slot_0 (ap (λ (m : QueueMode). is_plain m x.turn.0.request.op) l0.mode_is ∙ plain)))
@@ -175,7 +175,7 @@ store_transfer-requires g c = record { may = subst (λ (u : PlacedTask). MayIssu
 pub issue-requires : goal.issue-requires
 issue-requires g c =
     let x = preparing g (goal.at.issue-requires g c).After-deref in
-    let w = c.law_operations_change_the_unanswered.ensures.waits x.mode x.book _ x.turn.4 in
+    let w = c.law_unanswered_follow_book_operations.ensures.waits x.mode x.book _ x.turn.4 in
     (w.0, w.1, w.2 ∙ x.turn.2, w.3)
 
 pub with_bit-mask-requires : goal.with_bit-mask-requires
@@ -202,14 +202,14 @@ loop-place-preserved g c =
       batch = (
         x.tasks ++ task ∷ [],
         (grows g f).1 then (subst (λ (u : PlacedTask). StoresTransfer x.port u (g.A.Adapter.device c.loop-place.adapter) then) (made_is g f) c.store_transfer.ensures.stores),
-        c.law_batch_masks_grow.ensures.one_more_bit x.tasks task c.loop-place.mask c.with_bit-mask.result c.loop-place.invariant.fits c.with_bit-mask.type_inv c.loop-place.invariant.batch.2
+        c.law_batch_mask_gains_task_slot_bit.ensures.one_more_bit x.tasks task c.loop-place.mask c.with_bit-mask.result c.loop-place.invariant.fits c.with_bit-mask.type_inv c.loop-place.invariant.batch.2
             (subst (λ (n : ℕ). bit c.with_bit-mask.result n ≡ true) c.from.ensures c.with_bit-mask.ensures.set) (λ k small other. c.with_bit-mask.ensures.others_are_kept k small (λ same. other (same ∙ c.from.ensures))),
         λ s l. subst (λ (ids : List RequestId). PutsInSlots x.port ids (x.tasks ++ task ∷ []) s (with_port_slots s x.start later used x.port)) ids_are
             (c.law_due_requests_get_slots.ensures.one_more_gets_a_slot s (batching.mid x s l) (with_port_slots s x.start later used x.port) x.port x.ids x.tasks x.id task (x.puts s l)
             (batching.puts_it x s l c.in-Some.slot.0 (slot_small g f) c.in-Some.ensures.lowest later c.issue.ensures used used_is)),
       );
       turns = subst (λ (us : List Unanswered). AreAllDueInOrder x.mode x.port (drop (place + 1) items) us)
-          (sym (ap unanswered_of c.issue.ensures ∙ c.law_operations_change_the_unanswered.ensures.issue x.book x.id)) turn.1;
+          (sym (ap unanswered_of c.issue.ensures ∙ c.law_unanswered_follow_book_operations.ensures.issue x.book x.id)) turn.1;
       many = ap length c.issue.ensures ∙ length-map x.book (update_if_id x.id issued_request) ∙ c.loop-place.invariant.many;
       port = ap (λ (p : ServedPort). record p { slots = used }) c.loop-place.invariant.port;
       fits = c.with_bit-mask.type_inv;

@@ -15,7 +15,7 @@ issue_one-requires-clause-due g c =
     let id = c.in-Some.id in
     let order : BookIsWellFormed book = subst BookIsWellFormed l.book_is l.in_call_invariant.book_is_well_formed in
     let turns : AreAllDueInOrder mode port (id ∷ []) (unanswered_of book) =
-    subst (λ (ids : List RequestId). AreAllDueInOrder mode port ids (unanswered_of book)) c.in-Some.ensures.is_the_only_due (c.law_due_in_turn.ensures mode port (unanswered_of book) (c.law_book_stays_well_formed.ensures.unanswered_are_in_order book order)) in
+    subst (λ (ids : List RequestId). AreAllDueInOrder mode port ids (unanswered_of book)) c.in-Some.ensures.is_the_only_due (c.law_issuing_due_in_turn_leaves_none_due.ensures mode port (unanswered_of book) (c.law_book_stays_well_formed.ensures.unanswered_are_in_order book order)) in
     sending.next_due book port mode (id ∷ []) 0 id (omega arith) turns
 
 -- no request is left, so none is due

@@ -40,7 +40,7 @@ returns-clause-may c =
     let r = c.requires.may.replies_have_room in
     let f = shorter c.args.id c.args.self.now.book it.new.self e.0 e.1 named it.ensures.request_left_book in
     record {
-      book_is_sound = sound_back c.args.id c.args.self.now.book it.new.self e.0 c.args.self.now.table.value it.new.table c.law_well_formed_entries_stay.ensures.answered
+      book_is_sound = sound_back c.args.id c.args.self.now.book it.new.self e.0 c.args.self.now.table.value it.new.table c.law_entries_stay_well_formed.ensures.answered
           (c.law_book_stays_well_formed.ensures.answered c.args.self.now.book c.args.id c.requires.may.book_is_sound.book_is_well_formed) c.requires.may.book_is_sound.entries_are_well_formed e.1 named (subst (λ (old : OwnersAndLoans). SetsLoanOnly old it.new.table e.0.frames None) c.deref_mut-table.ensures.value e.4) it.ensures.request_left_book;
       replies_have_room = omega (arith, n, r, f);
     }

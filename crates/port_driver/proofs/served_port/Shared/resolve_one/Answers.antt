@@ -90,7 +90,7 @@ returns-in-Requeue-clause-may c =
     subst (λ (book : List BookEntry). MayAnswerAll c.args.self.now.table.value book c.args.replies.now.items) (sym c.requeue.ensures) (record {
       book_is_sound = record {
         book_is_well_formed = c.law_book_stays_well_formed.ensures.requeued c.args.self.now.book c.args.id may.book_is_sound.book_is_well_formed (r.0, r.1, ap (λ (e : PendingRequest). e.id) r.2 ∙ r.3, its.0, its.1);
-        entries_are_well_formed = c.law_well_formed_entries_stay.ensures.requeued c.args.self.now.table.value c.args.self.now.book c.args.id may.book_is_sound.entries_are_well_formed;
+        entries_are_well_formed = c.law_entries_stay_well_formed.ensures.requeued c.args.self.now.table.value c.args.self.now.book c.args.id may.book_is_sound.entries_are_well_formed;
       };
       replies_have_room = let as_many = length-map c.args.self.now.book (update_if_id c.args.id waiting_again_request) in omega (arith, as_many, may.replies_have_room);
     })
@@ -140,7 +140,7 @@ returns-after-keeps_loan-clause-may c =
           let f = shorter c.args.id book c.if-keeps_loan.self.book q.0 q.1 q.2 rest in
           record {
             book_is_sound = subst (λ (table : OwnersAndLoans). BookIsSound table c.if-keeps_loan.self.book) (sym (ap (λ (x : Shared). x.table.value) w.self-is))
-                (sound_back c.args.id book c.if-keeps_loan.self.book e.0 c.args.self.now.table.value w.remove_and_give_back.new.table c.law_well_formed_entries_stay.ensures.answered ordered may.book_is_sound.entries_are_well_formed e.1 (ap (λ (x : PendingRequest). x.id) e.2 ∙ e.3)
+                (sound_back c.args.id book c.if-keeps_loan.self.book e.0 c.args.self.now.table.value w.remove_and_give_back.new.table c.law_entries_stay_well_formed.ensures.answered ordered may.book_is_sound.entries_are_well_formed e.1 (ap (λ (x : PendingRequest). x.id) e.2 ∙ e.3)
                 (subst (λ (old : OwnersAndLoans). SetsLoanOnly old w.remove_and_give_back.new.table e.0.frames None) w.deref_mut.ensures.value e.4) rest);
             replies_have_room = omega (arith, n, may.replies_have_room, f);
           }

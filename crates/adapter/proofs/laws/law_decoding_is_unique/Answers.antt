@@ -1,5 +1,0 @@
-use Rattle.adapter.proofs.SaysLemmas.{says_meaning, says_places}
-use Rattle.adapter.proofs.laws.law_decoding_is_unique.Goals as goal
-
-pub returns : goal.returns
-returns c = λ memory list slot m n xs ys a b. (says_meaning memory list slot m n xs ys a b, says_places memory list slot m n xs ys a b)

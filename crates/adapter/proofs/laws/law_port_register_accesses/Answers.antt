@@ -1,8 +1,0 @@
-use Rattle.adapter.proofs.Calls.{seen, put}
-use Rattle.adapter.proofs.laws.law_port_register_accesses.Goals as goal
-
-pub returns-clause-register_read : goal.returns-clause-register_read
-returns-clause-register_read c = seen
-
-pub returns-clause-register_written : goal.returns-clause-register_written
-returns-clause-register_written c = put

@@ -1,5 +1,0 @@
-use Rattle.block_machine.proofs.Runs.{law_touched_read_holds_expected}
-use Rattle.block_machine.proofs.laws.law_touched_read_holds_expected.Goals as goal
-
-pub returns : goal.returns
-returns c = law_touched_read_holds_expected

@@ -1,5 +1,0 @@
-use Rattle.configuration.proofs.One.{told-kind-is-one}
-use Rattle.configuration.proofs.laws.law_fault_kind_is_unique.Goals as goal
-
-pub returns : goal.returns
-returns c = told-kind-is-one

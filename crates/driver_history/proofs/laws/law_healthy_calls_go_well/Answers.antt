@@ -1,5 +1,0 @@
-use Rattle.driver_history.proofs.Healthy.{goes_well}
-use Rattle.driver_history.proofs.laws.law_healthy_calls_go_well.Goals as goal
-
-pub returns : goal.returns
-returns c wanted first past h port = goes_well c.law_plug_events_match_disk_changes.ensures.entry (record { asked = c.law_asked_steps_are_transitions.ensures; steps = c.law_running_well_stays_if_undisturbed.ensures.steps; runs = c.law_a_port_runs_on.ensures.more_accesses; well = c.law_a_port_runs_on.ensures.healthy_port_stays_well }) wanted first port past h

@@ -1,5 +1,0 @@
-use Rattle.machine_runs.proofs.ResetRun.{ends_with_a_reset}
-use Rattle.machine_runs.proofs.laws.law_a_reset_run_exists.Goals as goal
-
-pub returns : goal.returns
-returns c = ends_with_a_reset

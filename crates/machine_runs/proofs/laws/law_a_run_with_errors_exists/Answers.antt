@@ -1,5 +1,0 @@
-use Rattle.machine_runs.proofs.TroubledRun.{meets_trouble}
-use Rattle.machine_runs.proofs.laws.law_a_run_with_errors_exists.Goals as goal
-
-pub returns : goal.returns
-returns c = meets_trouble

@@ -1,5 +1,0 @@
-use Rattle.machine_runs.proofs.UnpluggedRun.{is_taken_out_before_a_tick}
-use Rattle.machine_runs.proofs.laws.law_an_unplugged_run_exists.Goals as goal
-
-pub returns : goal.returns
-returns c = is_taken_out_before_a_tick

@@ -1,5 +1,0 @@
-use Rattle.port_control.proofs.looks.Apart.{looking_of}
-use Rattle.port_control.proofs.events.laws.law_looks_are_of_one_port.Goals as goal
-
-pub returns : goal.returns
-returns c = looking_of

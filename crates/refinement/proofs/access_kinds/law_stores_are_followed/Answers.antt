@@ -1,5 +1,0 @@
-use Rattle.refinement.proofs.driver.Stretches.{followed_store}
-use Rattle.refinement.proofs.access_kinds.law_stores_are_followed.Goals as goal
-
-pub returns : goal.returns
-returns g c = λ kind. followed_store (g.K.AccessKindsWithSlotUses.may kind) (g.K.AccessKindsWithSlotUses.fits kind)

@@ -1,5 +1,0 @@
-use Rattle.refinement.proofs.witnesses.EndedRead.{ended_is_known}
-use Rattle.refinement.proofs.laws.law_an_ended_read_agrees.Goals as goal
-
-pub returns : goal.returns
-returns c = ended_is_known c.law_prerequisites.ensures

@@ -1,5 +1,0 @@
-use Rattle.refinement.proofs.driver.ClientBytes.{client_stores}
-use Rattle.refinement.proofs.laws.law_client_store_is_followed.Goals as goal
-
-pub returns : goal.returns
-returns c = client_stores c.law_prerequisites.ensures

@@ -1,5 +1,0 @@
-use Rattle.refinement.proofs.steps.FollowedSteps.{steps_follow}
-use Rattle.refinement.proofs.laws.law_device_is_followed.Goals as goal
-
-pub returns : goal.returns
-returns c = steps_follow

@@ -1,5 +1,0 @@
-use Rattle.refinement.proofs.driver.AddedSteps.{read_adds}
-use Rattle.refinement.proofs.laws.law_reading_is_followed.Goals as goal
-
-pub returns : goal.returns
-returns c = read_adds

@@ -1,8 +1,0 @@
-use Rattle.refinement.proofs.device.ErrorWrites.{errors_cleared, causes_cleared}
-use Rattle.refinement.proofs.port_facts.law_errors_are_cleared.Goals as goal
-
-pub returns-clause-errors : goal.returns-clause-errors
-returns-clause-errors c = errors_cleared
-
-pub returns-clause-causes : goal.returns-clause-causes
-returns-clause-causes c = causes_cleared

@@ -1,5 +1,0 @@
-use Rattle.refinement.proofs.driver.StoredCommand.{done_stored}
-use Rattle.refinement.proofs.readying.law_stored_stays_over_acts.Goals as goal
-
-pub returns : goal.returns
-returns c = done_stored c.law_prerequisites.ensures

@@ -1,5 +1,0 @@
-use Rattle.server_history.proofs.failed_reset.ServerBook.{settles_on}
-use Rattle.server_history.proofs.stuck_server.law_may_resolve_persists.Goals as goal
-
-pub returns : goal.returns
-returns c = settles_on c.law_history_prerequisites.ensures

@@ -1,5 +1,0 @@
-use Rattle.witnesses.proofs.history.Broken.{fatal_error_is_a_history}
-use Rattle.witnesses.proofs.history_witnesses.law_a_fatal_error_is_a_history.Goals as goal
-
-pub returns : goal.returns
-returns c = fatal_error_is_a_history

@@ -1,5 +1,0 @@
-use Rattle.witnesses.proofs.history.Accepting.{ready_has_begun}
-use Rattle.witnesses.proofs.history_witnesses.law_a_history_begins_ready.Goals as goal
-
-pub returns : goal.returns
-returns c = ready_has_begun

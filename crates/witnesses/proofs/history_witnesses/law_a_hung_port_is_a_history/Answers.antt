@@ -1,5 +1,0 @@
-use Rattle.witnesses.proofs.history.Hung.{hung_port_is_a_history}
-use Rattle.witnesses.proofs.history_witnesses.law_a_hung_port_is_a_history.Goals as goal
-
-pub returns : goal.returns
-returns c = hung_port_is_a_history

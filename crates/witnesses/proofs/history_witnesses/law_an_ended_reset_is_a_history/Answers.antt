@@ -1,5 +1,0 @@
-use Rattle.witnesses.proofs.history.Resetting.{reset_is_a_history}
-use Rattle.witnesses.proofs.history_witnesses.law_an_ended_reset_is_a_history.Goals as goal
-
-pub returns : goal.returns
-returns c = reset_is_a_history
