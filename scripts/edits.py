@@ -6,12 +6,16 @@ It stands on libraries that were proved (crates/*/out/rlib), as scripts/test.sh 
 at a time, each in a function of its own, on a copy of their crate. An edit is refused where a function that it changes
 is told as not proved for a reason of its own: a goal that stays open, or an answer that is wrong, and not merely that
 it calls another function that isn't proved. A function's goals rest on the contracts of what it calls, and not on their
-bodies, so edits of callers and callees can share a try. What isn't refused so is tried alone. An edit fails, too, where
-all that is told is that a proof names what it took away: a right body of another form would be told the same way. Each
-try has a function that no edit reaches, which must be proved; so a crate that can't be read, or libraries that don't
-fit, refuse nothing. What the edited functions call isn't proved again, and no lemma is: in the copy the proofs of all
-other functions and of the lemmas are holes, which the prover takes for proofs. What isn't proved even so isn't proved
-at all.
+bodies, so edits of callers and callees can share a try; none shares one with an edit of a constant that its function
+reads. What isn't refused so is tried alone. An edit fails, too, where all that is told is that a proof names what it
+took away: a right body of another form would be told the same way. Each try has a function that no edit reaches, which
+must be proved; so a crate that can't be read, or libraries that don't fit, refuse nothing. What the edited functions
+call isn't proved again, and no lemma is: in the copy the proofs of all other functions and of the lemmas are holes,
+which the prover takes for proofs. What isn't proved even so isn't proved at all.
+
+A second edit of one function is made in a twin of it: the function again under another name, with its contract and its
+proof. Beside such twins stands one without an edit. Where that one isn't proved, for a reason of its own, they tell
+nothing, and their edits are tried alone.
 
 With --kept, an edit that was refused is not tried again on this machine while nothing changes that its try read: the
 crate's files, the libraries below it as they were built, the toolchain, the edit, and this script. The whole check
@@ -50,7 +54,7 @@ UNFOLDS = re.compile(r"^.*\bunfold(?:ing)?\b.*$", re.M)
 # The files of a function's own proof.
 OWN = ("Answers.antt", "Invariants.antt", "Proof.antt")
 # As many edits stand in one try at the most: a text that can't be read spoils it for all.
-MOST = 80
+MOST = 130
 # Whether each try is told, with the time that it took: for finding what is dear.
 SHOWS_TRIES = "--tries" in sys.argv
 # Whether what an earlier run found is taken over.
@@ -84,6 +88,7 @@ class Function:
     last: int
     words: set
     simple: str
+    is_of_trait: bool
     reaches: set = field(default_factory=set)
 
 
@@ -169,17 +174,22 @@ def functions_in(path, text, types):
             name, of = block_name(block[2], block[3])
             last = end_of(lines, at + 1, block[1])
             # (what a trait declares has no body, and tests aren't read)
-            inside.append((name, last, types.get(of), block[2] == "trait" or name == "tests"))
+            is_left_out = block[2] == "trait" or name == "tests"
+            inside.append((name, last, types.get(of), is_left_out, block[2] == "impl" and of is None))
         head = HEAD.match(line)
         if head and not line.rstrip().endswith(";") and not any(it[3] for it in inside):
             last = end_of(lines, at, head[1])
             module = next((it[2] for it in inside if it[2] is not None), module_of(path))
             name = "::".join([*module, *[it[0] for it in inside], head[2]])
-            found.append(Function(name, path, at, last, body_of(lines, at, last, head[1]), head[2]))
+            words, is_of_trait = body_of(lines, at, last, head[1]), any(it[4] for it in inside)
+            found.append(Function(name, path, at, last, words, head[2], is_of_trait))
     return found
 
 
 TYPE = re.compile(r"^(?:pub(?:\([a-z ]+\))? )?(?:struct|enum) (\w+)", re.M)
+
+
+CONSTANT = re.compile(r"\bconst (\w+)")
 
 
 # A module that is there for tests alone.
@@ -266,12 +276,36 @@ def leave_out_bodies(folder):
 # ---- edits ----
 
 
+@dataclass
+class Twin:
+    """A function again, under a name of its own: with an edit's pairs of texts, or with none."""
+
+    of: Function
+    number: int
+    pairs: list
+
+    @property
+    def suffix(self):
+        return f"_twin_{self.number}"
+
+    @property
+    def name(self):
+        return f"{self.of.name}{self.suffix}"
+
+    def lines(self, text):
+        """Its lines, given the text of the function's file as no edit has changed it."""
+        own = "\n".join(text.split("\n")[self.of.first : self.of.last + 1])
+        for _, old, new in self.pairs:
+            own = own.replace(old, new)
+        return own.replace(f"fn {self.of.simple}", f"fn {self.of.simple}{self.suffix}", 1).split("\n")
+
+
 class Edit:
     """An edit: what it makes of which files, and the functions that it turns."""
 
     def __init__(self, path, folder, functions):
         self.name = os.path.basename(path)
-        self.pairs, self.functions = [], {}
+        self.pairs, self.functions, self.is_named, self.touched = [], {}, False, set()
         self.read(read(path), folder, functions)
 
     def read(self, text, folder, functions):
@@ -296,6 +330,7 @@ class Edit:
 
     def place(self, folder, functions, named, texts):
         """Finds the functions that the edit stands in."""
+        self.is_named = named is not None
         for path, old, new in self.pairs:
             text = texts.setdefault(path, read(f"{folder}/{path}"))
             if old == new:
@@ -312,6 +347,8 @@ class Edit:
         for it in functions:
             if named is not None and (it.name == named or it.name.endswith("::" + named)):
                 self.functions[it.name] = it
+        constants = {name for _, old, new in self.pairs for name in CONSTANT.findall(old + new)}
+        self.touched = {it.name for it in functions if it.words & constants} if self.is_named else set()
         if not self.functions:
             raise BadEdit(f"there is no function {named}")
         if len(self.functions) > 1 and named is not None:
@@ -332,6 +369,16 @@ class Edit:
 
 
 # ---- trying them ----
+
+
+@dataclass
+class Tried:
+    """An edit in a try, with the names of what it turns there, and that of the twin without an edit, if it is in one.
+    """
+
+    edit: Edit
+    names: list
+    plain: str | None = None
 
 
 VERDICT = re.compile(r"^fn (\S+): (.*)$", re.M)
@@ -386,19 +433,50 @@ class Crate:
 
     def control(self, batch):
         """The name of a function that no edit of these reaches: the shortest one."""
-        changed = {it for edit in batch for it in edit.functions}
+        changed = {it for edit in batch for it in (*edit.functions, *edit.touched)}
         left = [it for it in self.functions if it.name not in changed and not it.reaches & changed]
         return min(left, key=lambda it: (len(it.reaches), len(it.words), it.name)).name if left else None
 
     def batch(self, edits):
-        """Edits of these that can be tried at once: each in functions of its own, and one function is left to be
-        proved."""
-        found, changed = [], set()
+        """Edits of these that can be tried at once: each in functions of its own, or in a twin, of which none reads a
+        constant that another edit changes; and one function is left to be proved."""
+        found, changed, touched = [], set(), set()
         for it in edits:
-            if len(found) < MOST and not changed & it.functions.keys() and self.control([*found, it]):
+            has_place = not changed & it.functions.keys() or self.can_be_in_twin(it)
+            is_apart = not touched & it.functions.keys() and not changed & it.touched
+            if len(found) < MOST and has_place and is_apart and self.control([*found, it]):
                 found.append(it)
                 changed |= it.functions.keys()
+                touched |= it.touched
         return found
+
+    def can_be_in_twin(self, edit):
+        """Whether the edit is of one function's body, and a twin of that function can stand beside it."""
+        if edit.is_named or len(edit.functions) != 1:
+            return False
+        [it] = edit.functions.values()
+        has_whole_proof = os.path.isfile(f"{self.folder}/proofs/{it.name.replace('::', '/')}/Proof.antt")
+        return not it.is_of_trait and not has_whole_proof and not self.calls_itself(self.folder, it)
+
+    def apply(self, batch, at):
+        """Makes these edits in a copy of the crate, but for those that are to stand in twins. Answers which are made,
+        each with the names of what it turns, and the twins: beside those with an edit one without, for each function.
+        """
+        tried, twins, changed, plain = [], [], set(), {}
+        for it in batch:
+            if not changed & it.functions.keys() and it.apply(at):
+                tried.append(Tried(it, [*it.functions]))
+                changed |= it.functions.keys()
+                continue
+            if not self.can_be_in_twin(it):
+                continue
+            [of] = it.functions.values()
+            if of.name not in plain:
+                plain[of.name] = Twin(of, len(twins), [])
+                twins.append(plain[of.name])
+            twins.append(Twin(of, len(twins), it.pairs))
+            tried.append(Tried(it, [twins[-1].name], plain[of.name].name))
+        return tried, twins
 
     def run(self, batch, control):
         """Proves the functions of a copy of the crate with these edits. Answers what was printed, and which edits are
@@ -407,12 +485,13 @@ class Crate:
         for part in PARTS:
             if os.path.isdir(f"{self.folder}/{part}"):
                 shutil.copytree(f"{self.folder}/{part}", f"{at}/{part}")
-        tried = [it for it in batch if it.apply(at)]
-        names = {name for it in tried for name in it.functions}
-        self.leave_out_code(at, {control, *names})
+        tried, twins = self.apply(batch, at)
+        names = {name for it in tried for name in it.names}
+        self.leave_out_code(at, {control, *names}, twins)
         leave_out_bodies(f"{at}/proofs")
         self.leave_holes(at, {control, *names})
-        only = [word for it in [control, *sorted(names)] for word in ("--only", it)]
+        self.prove_twins(at, twins)
+        only = [word for it in [control, *sorted({*names, *(it.name for it in twins)})] for word in ("--only", it)]
         words = [toolchain.rtlib.RATTLE, "check", "--allow-holes", *toolchain.words_of(self.crate)]
         words += ["--incremental", f"{self.room}/kept", *only]
         with tempfile.TemporaryFile("w+", encoding="utf-8", errors="replace") as out:
@@ -424,21 +503,33 @@ class Crate:
         seconds = usage.ru_utime + usage.ru_stime
         self.seconds, self.tries = self.seconds + seconds, self.tries + 1
         if SHOWS_TRIES:
-            say(f"{self.name}: {seconds:.0f} s for {', '.join(it.name for it in tried)}")
+            say(f"{self.name}: {seconds:.0f} s for {', '.join(it.edit.name for it in tried)}")
         return said, tried
 
-    def leave_out_code(self, at, names):
-        """In a copy of the crate, takes away the bodies of all functions but these, so that what they call isn't read.
-        """
+    def leave_out_code(self, at, names, twins):
+        """In a copy of the crate, takes away the bodies of all functions but these, so that what they call isn't read,
+        and puts in the twins, each behind its function."""
         for path in {it.file for it in self.functions}:
             lines = read(f"{at}/{path}").split("\n")
-            others = [it for it in self.functions if it.file == path and it.name not in names]
-            for it in sorted(others, key=lambda it: -it.first):
-                begin = body_at(lines, it.first, it.last)
+            here = [it for it in self.functions if it.file == path]
+            for it in sorted(here, key=lambda it: -it.first):
+                for twin in (twin for twin in twins if twin.of is it):
+                    lines[it.last + 1 : it.last + 1] = ["", *twin.lines(read(f"{self.folder}/{path}"))]
+                begin = body_at(lines, it.first, it.last) if it.name not in names else None
                 if begin is not None and not re.search(r"\bconst\b", lines[it.first]) and not self.calls_itself(at, it):
                     lines[begin + 1 : it.last] = ["unreachable!()"]
             with open(f"{at}/{path}", "w", encoding="utf-8") as out:
                 out.write("\n".join(lines))
+
+    def prove_twins(self, at, twins):
+        """Gives each twin the proof of its function, under its own name."""
+        for twin in twins:
+            place, module = f"proofs/{twin.of.name.replace('::', '/')}", f"proofs.{twin.of.name.replace('::', '.')}"
+            for file in filter(lambda it: os.path.isfile(f"{self.folder}/{place}/{it}"), OWN):
+                proof = read(f"{self.folder}/{place}/{file}").replace(f"{module}.", f"{module}{twin.suffix}.")
+                os.makedirs(f"{at}/{place}{twin.suffix}", exist_ok=True)
+                with open(f"{at}/{place}{twin.suffix}/{file}", "w", encoding="utf-8") as out:
+                    out.write(proof)
 
     def calls_itself(self, at, it):
         """Whether a function calls itself: its proof stands in a folder of another name then."""
@@ -471,13 +562,20 @@ class Crate:
         found = re.findall(rf"^(?:\./)?proofs/{place}/\S+ error: (.*(?:\n  .*)*)$", said, re.M)
         return [" ".join(it.split()) for it in found]
 
-    def is_refused(self, edit, said):
-        """Whether one of the edit's own functions isn't proved, for a reason of its own, and not only since its proof
-        names what is gone."""
+    def is_refused(self, names, said):
+        """Whether one of the functions that an edit turns isn't proved, for a reason of its own, and not only since its
+        proof names what is gone."""
         told = self.verdicts(said)
-        if self.is_weak(edit, said):
+        if self.is_weak(names, said):
             return False
-        return any(self.is_own(name, told.get(name, ""), said) for name in edit.functions)
+        return any(self.is_own(name, told.get(name, ""), said) for name in names)
+
+    def is_told(self, it, said):
+        """Whether what is printed tells of the edit: where it stands in a twin, the twin without an edit is proved, or
+        isn't only since it calls what other edits turn."""
+        verdict = self.verdicts(said).get(it.plain, "")
+        is_calling = "it calls" in verdict and not self.is_own(it.plain, verdict, said)
+        return it.plain is None or self.is_good(it.plain, said) or is_calling
 
     def is_own(self, name, verdict, said):
         """Whether the verdict on a function says that it isn't proved, for a reason of its own."""
@@ -486,10 +584,10 @@ class Crate:
         own = (it for it in self.errors(name, said) if not NAMES.search(it))
         return "it calls" not in verdict or bool(OPEN.search(verdict)) or any(own)
 
-    def is_weak(self, edit, said):
-        """Whether all that is told of the edit's functions is that their proofs name what it took away."""
+    def is_weak(self, names, said):
+        """Whether all that is told of the functions that an edit turns is that their proofs name what it took away."""
         told = []
-        for name in edit.functions:
+        for name in names:
             if self.verdicts(said).get(name, "").startswith("no proof"):
                 return False
             told += self.errors(name, said)
@@ -511,8 +609,11 @@ class Crate:
                 self.try_batch(part)
             return
         for it in tried:
-            if self.is_refused(it, said):
-                self.refuse(it)
+            if self.is_told(it, said) and self.is_refused(it.names, said):
+                self.refuse(it.edit)
+            elif SHOWS_TRIES:
+                verdicts = [self.verdicts(said).get(name, "nothing") for name in [*it.names, it.plain]]
+                say(f"{self.name}: to be tried alone: {it.edit.name}: {'; '.join(verdicts)}")
 
     def try_alone(self, edit):
         control = self.control([edit])
@@ -525,9 +626,9 @@ class Crate:
             self.fail(edit.name, f"BAD EDIT: the prover can't read it: {why}")
         elif not self.is_good(control, said):
             self.fail(edit.name, f"BAD EDIT: {control}, which it doesn't change, isn't proved beside it")
-        elif self.is_refused(edit, said):
+        elif self.is_refused(edit.functions, said):
             self.refuse(edit)
-        elif self.is_weak(edit, said):
+        elif self.is_weak(edit.functions, said):
             why = "all that is told is that its proof names what it took away: change a value, and keep the form"
             self.fail(edit.name, f"NOT REFUSED: {why}")
         elif any("it calls" in self.verdicts(said).get(it, "") for it in edit.functions):
