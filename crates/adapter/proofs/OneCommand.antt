@@ -6,7 +6,7 @@ use Rattle.adapter.specs.Device.{DevicePort, Device}
 use Rattle.adapter.specs.Idle.{IsIdle, IsIdlePort}
 use Rattle.adapter.specs.Rules.{InUse, InDataBlocks, IsInMemoryNotOwnedByDevice, IsStable}
 use Rattle.adapter.specs.Guarded.{PassesTest, MissesRange, MissesPieces, IsGuardedSlot, IsGuardedPort, IsGuarded}
-use Rattle.adapter.specs.OneCommand.{CommandLayout, is_in_span, is_in_pieces, is_read_only, is_device_writable, is_not_device_writable, SlotHasNoCommand, layout_of, HasOneCommand, NoneHasCommand, IsOutsideCommand}
+use Rattle.adapter.specs.OneCommand.{CommandLayout, is_in_span, is_in_pieces, is_read_only, is_device_writable, is_not_device_writable, SlotHasNoCommand, layout_of, HasOneCommand, NoSlotHasCommand, IsOutsideCommand}
 use Rattle.adapter.proofs.Absurd.{true-false, some-none}
 use Rattle.adapter.proofs.Free.{apart_free_stays}
 
@@ -80,7 +80,7 @@ port_idle : (Tables Kept : ℕ → Type 0) (memory : ℕ → ℕ) (p : DevicePor
 port_idle Tables Kept memory p i =
     port_unused Tables Kept memory p (λ slot. record { is_not_issued = i.ci_is_clear slot; is_not_taken = i.none_is_taken slot }) (λ fre. true-false fre i.fre_is_clear)
 
-pub unused_guarded : (kept : ℕ → Bool) (d : Device) → NoneHasCommand d →
+pub unused_guarded : (kept : ℕ → Bool) (d : Device) → NoSlotHasCommand d →
     ((port : ℕ) → (d.port port).fre ≡ true → MissesRange (PassesTest kept) (d.port port).bases.fb ((d.port port).bases.fb + 256)) →
     IsGuarded (PassesTest (λ _. false)) (PassesTest kept) d
 unused_guarded kept d none area = record {

@@ -78,5 +78,5 @@ pub record IsOutsideCommand (s : CommandLayout) (at n : ℕ) (d : Device) : Type
   pub elsewhere : (a : ℕ) → at ≤ a → a < at + n → is_read_only s a || is_device_writable s a ≡ false
 
 -- no slot of any port has a command
-abbrev pub NoneHasCommand : Device → Type 0
-NoneHasCommand d = (port slot : ℕ) → SlotHasNoCommand (d.port port) slot
+abbrev pub NoSlotHasCommand : Device → Type 0
+NoSlotHasCommand d = (port slot : ℕ) → SlotHasNoCommand (d.port port) slot

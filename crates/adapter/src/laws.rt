@@ -3,7 +3,7 @@ ghost use Rattle.std.specs.Prelude.{◌<◌, ◌≡◌, ◌+◌, ◌*◌, ◌≤
 ghost use Rattle.ata_types.specs.{declared.Port.{Port}, declared.memory.TheConstants.{FRAME_BYTES, HEADER_BYTES, RECEIVED_FIS_BYTES}};
 ghost use Rattle.hba_regs.specs.{declared.reg.PortReg.{PortReg}, declared.reg.Reg.{Reg}, declared.reg.Reg.TheVariants.{Px}, Bits.{bit}};
 ghost use Rattle.adapter.specs.{declared.access.DeviceStep.{DeviceStep}, Access.{Access, ShowsPendingAndPerhapsUnnamedCause, Does, DoesAll, IsDriven, Reads, Writes, is_named_cause, is_ips_set, named_causes_mask, raises_interrupt, shown_interrupt, device_after_write}, AskedSteps.{DoesOrFailsStep, IsScribbled, memory_filled_if_all_inside}, Commands.{Meaning}, Device.{Device, DevicePort}, FirstRead.{first_read_device, first_disk_sector}};
-ghost use Rattle.adapter.specs.{Guarded.{PassesTest, MissesRange, IsGuarded, IsKeptOutsideTables}, Idle.{IsIdle, HoldsBytesAndTellsDisks}, KeptBySteps.{KeepsOverSteps, KeepsControlsFlagsRise}, Memory.{bytes_at, patched}, OneCommand.{NoneHasCommand, HasOneCommand, IsOutsideCommand, is_read_only, is_not_device_writable, layout_of}, ReadDone.{IsReadDone, IsReadThatCanComplete, read_of}};
+ghost use Rattle.adapter.specs.{Guarded.{PassesTest, MissesRange, IsGuarded, IsKeptOutsideTables}, Idle.{IsIdle, HoldsBytesAndTellsDisks}, KeptBySteps.{KeepsOverSteps, KeepsControlsFlagsRise}, Memory.{bytes_at, patched}, OneCommand.{NoSlotHasCommand, HasOneCommand, IsOutsideCommand, is_read_only, is_not_device_writable, layout_of}, ReadDone.{IsReadDone, IsReadThatCanComplete, read_of}};
 ghost use Rattle.adapter.specs.{PendingInterrupts.{LeavesIe, KeepsIsBit, SetsCause, EnablesNamedCauses, interrupting_port, flush_cause_cleared, flushed, flushing, flush_taken}, Rules.{HasPort, IsOn, IsInMemoryNotOwnedByDevice, IsStable}, Decoding.{DecodesTo, piece_addresses}, RegisterEffects.{PortRegisterWritten, PortRegisterRead}, Steps.{Can, DeviceTransition, Steps, device_after}, declared.tape.Entry.{Entry}};
 ghost use Rattle.hba_regs.specs.declared.reg.Reg.TheVariants as adapter;
 
@@ -76,7 +76,7 @@ pub fn law_device_owns_no_kept_bytes_outside_tables()
 {}
 
 /// A reading of any register leaves kept bytes and guards as the device's steps do.
-pub fn law_kept_bytes_stay_over_readings()
+pub fn law_kept_bytes_stay_over_register_reads()
     ensures { (tables kept : ℕ → Bool) (old new : Device) (r : Reg) (v : ℕ) → Reads r v old new
         → IsGuarded (PassesTest tables) (PassesTest kept) old
         → IsGuarded (PassesTest tables) (PassesTest kept) new × ((at : ℕ) → PassesTest kept at
@@ -104,8 +104,9 @@ pub fn law_port_access_is_steps_then_port_effect()
         → PortRegisterWritten port.0 r v old new }
 {}
 
-/// What each of two fragments keeps of a port's controls, both keep; and so does nothing.
-pub fn law_kept_controls_compose()
+/// What each of two fragments keeps of a port's controls, and of the flags that were set, both keep; and so does
+/// nothing.
+pub fn law_kept_controls_and_rising_flags_compose()
     ensures reflexive { (p : DevicePort) → KeepsControlsFlagsRise p p }
     ensures transitive { (old mid new : DevicePort) → KeepsControlsFlagsRise old mid → KeepsControlsFlagsRise mid new
         → KeepsControlsFlagsRise old new }
@@ -145,7 +146,7 @@ pub fn law_ips_stays_set_until_written_or_hba_reset()
 /// Where PxIE enables each named cause, what the tape tells of leaves the port's interrupt pending: a command that
 /// ended or failed, a fatal error, a disk that went or came. So it is at the end of any accesses that write neither
 /// PxIE nor the port's bit of IS, and reset nothing (AHCI 1.3.1, 5.5.3).
-pub fn law_interrupting_tape_events_leave_ips_set()
+pub fn law_interrupting_entries_set_ips_until_written()
     ensures { (port : ℕ) (e : Entry) (accesses : List Access) (gained : List Entry)
         (old new : Device) → interrupting_port e ≡ Some port → DoesAll accesses old new → All (KeepsIsBit port) accesses
         → All (LeavesIe port) accesses → old.hr ≡ false → EnablesNamedCauses (old.port port)
@@ -169,7 +170,7 @@ pub fn law_flush_ips_example_clears_pxis_then_is()
 /// Where no slot has a command, any bytes that are not of a received FIS area in use are guarded, and no table is
 /// needed.
 pub fn law_an_adapter_without_commands_is_guarded()
-    ensures { (kept : ℕ → Bool) (d : Device) → NoneHasCommand d
+    ensures { (kept : ℕ → Bool) (d : Device) → NoSlotHasCommand d
         → ((port : ℕ) → (d.port port).fre ≡ true
         → MissesRange (PassesTest kept) (d.port port).bases.fb ((d.port port).bases.fb + RECEIVED_FIS_BYTES))
         → IsGuarded (PassesTest (λ _. false)) (PassesTest kept) d }
@@ -177,7 +178,7 @@ pub fn law_an_adapter_without_commands_is_guarded()
 
 /// An idle adapter is guarded, whatever bytes are kept; so its driver may load and store any bytes of the memory,
 /// whatever the device does first.
-pub fn law_an_idle_adapter_is_guarded()
+pub fn law_idle_adapter_is_guarded_with_no_tables()
     ensures guarded { (kept : ℕ → Bool) (d : Device) → IsIdle d
         → IsGuarded (PassesTest (λ _. false)) (PassesTest kept) d }
     ensures device_owns_no_bytes { (at n : ℕ) (d : Device) → IsIdle d → at + n ≤ d.memory_size

@@ -3,8 +3,8 @@ use Rattle.std.proofs.Common.{◌≡◌, ℕ, ◌+◌, ◌-◌, ◌<◌, ◌≤�
 use Rattle.std.proofs.lemmas.Bool.{cases_eq, cases_lt, or_left, and_parts, and_from, cond-true, cond-false, both_ways}
 use Rattle.ata_types.specs.declared.Port.{Port}
 use Rattle.block_machine.specs.State.{Block, DiskBytes, Accepted, Pending, Machine, newly_unanswered, sector_of, block_written}
-use Rattle.block_machine.specs.DueRequests.{conflict_by_flush_or_overlap, changes_sectors}
-use Rattle.block_machine.specs.Steps.{Step, Accept, Issue, Touch, End, Age, WaitAgain, Answer, Revoke, Release, Unplug, PlugDisk, Store, Load, IsEnabled, after_step, MayStillMove, put_sector, disks_after_touch}
+use Rattle.block_machine.specs.DueRequests.{conflict_on_port_by_flush_or_overlap, changes_sectors}
+use Rattle.block_machine.specs.Steps.{Step, Accept, Issue, Touch, End, Age, WaitAgain, Answer, Revoke, Release, Unplug, PlugDisk, Store, Load, IsEnabled, after_step, IsIssuedOrKept, put_sector, disks_after_touch}
 use Rattle.block_machine.specs.Expected.{plug_count, bytes_when_plugged, IsTouch, HasTouched, ChangedSector, IsLastWrittenOrPluggedIn}
 use Rattle.block_machine.proofs.Sound.{Sound}
 use Rattle.block_machine.proofs.Keeps.{same_port}
@@ -63,7 +63,7 @@ content_replace start h m at id size disk port k seen last = ⊎_elim same other
         subst (λ (d : DiskBytes). IsLastWrittenOrPluggedIn start port k (plug_count port (PlugDisk at id size disk ∷ h)) m.next_id (PlugDisk at id size disk ∷ h) (d k)) (sym now)
         (content_quiet start h m (PlugDisk at id size disk) port k m.next_id seen (λ w t. t) number (le_refl _) last)
 
-content_touch : (start : Machine) (h : List Step) (m : Machine) (e : Pending) (i : ℕ) (block : Block) (port : Port) (k : ℕ) → Sound m → AllSeen m h → MayStillMove m e → i < e.request.asked.count
+content_touch : (start : Machine) (h : List Step) (m : Machine) (e : Pending) (i : ℕ) (block : Block) (port : Port) (k : ℕ) → Sound m → AllSeen m h → IsIssuedOrKept m e → i < e.request.asked.count
     → IsLastWrittenOrPluggedIn start port k (plug_count port h) m.next_id h (m.disk_bytes port k)
     → IsLastWrittenOrPluggedIn start port k (plug_count port h) m.next_id (Touch e i block ∷ h) (disks_after_touch e.request i m.disk_bytes port k)
 content_touch start h m e i block port k s seen r lt last = by_op (changes_sectors e.request.asked.op) refl
@@ -84,7 +84,7 @@ content_touch start h m e i block port k s seen r lt last = by_op (changes_secto
         (λ (t : HasTouched w k (plug_count port h) h). ⊎_elim
         (λ (less : e.request.id.0 < w.id.0).
         let q = seen w k (plug_count port h) t in
-        let con : conflict_by_flush_or_overlap (newly_unanswered e.request) (newly_unanswered w) ≡ true = conflict_at e.request w k (here ∙ sym o.port_is) (or_left _ _ writes) (omega (arith, at)) (omega (arith, at, lt)) q.from q.to in
+        let con : conflict_on_port_by_flush_or_overlap (newly_unanswered e.request) (newly_unanswered w) ≡ true = conflict_at e.request w k (here ∙ sym o.port_is) (or_left _ _ writes) (omega (arith, at)) (omega (arith, at, lt)) q.from q.to in
         absurd (q.order e (runs_lives m e r) less con))
         (λ (le : w.id.0 ≤ e.request.id.0). le)
         (cases_lt e.request.id.0 w.id.0))

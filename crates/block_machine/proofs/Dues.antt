@@ -6,7 +6,7 @@ use Rattle.ata_types.specs.declared.Port.{Port}
 use Rattle.ata_types.specs.declared.request.RequestId.{RequestId}
 use Rattle.block_machine.specs.declared.due.QueueMode.{QueueMode}
 use Rattle.block_machine.specs.declared.due.Unanswered.{Unanswered}
-use Rattle.block_machine.specs.DueRequests.{IsDue, IsInOrder, conflict_by_flush_or_overlap, waits_for, is_plain, is_earlier_on_port, is_waiting_and_unblocked, unblocked_ahead_count, issued_count, free_slots, mark_issued, with_issued}
+use Rattle.block_machine.specs.DueRequests.{IsDue, IsInOrder, conflict_on_port_by_flush_or_overlap, waits_for, is_plain, is_earlier_on_port, is_waiting_and_unblocked, unblocked_ahead_count, issued_count, free_slots, mark_issued, with_issued}
 use Rattle.block_machine.proofs.Members.{into_map, some_in}
 use Rattle.block_machine.proofs.Order.{In, Ordered, in_from, from_in, ordered_from}
 use Rattle.block_machine.proofs.Counting.{count_cons, count_map, count_least, unheld}
@@ -72,7 +72,7 @@ holds_issued : (mode : QueueMode) (x o : Unanswered) → (o.port.0 == x.port.0) 
 holds_issued mode x o port now plain = and_from _ _ port (go (is_plain mode x.op) refl plain)
   where
     go : (b : Bool) → is_plain mode x.op ≡ b → (is_plain mode x.op ≡ true) ⊎ (is_plain mode o.op ≡ true)
-        → cond b (o.issued || ltb o.id.0 x.id.0) ((is_plain mode o.op && o.issued) || (ltb o.id.0 x.id.0 && (is_plain mode o.op || conflict_by_flush_or_overlap o x))) ≡ true
+        → cond b (o.issued || ltb o.id.0 x.id.0) ((is_plain mode o.op && o.issued) || (ltb o.id.0 x.id.0 && (is_plain mode o.op || conflict_on_port_by_flush_or_overlap o x))) ≡ true
     go true p h = or_left _ _ now
     go false p (inl q) = absurd (both_ways _ p q)
     go false p (inr q) = or_left _ _ (and_from _ _ q now)
@@ -82,7 +82,7 @@ holds_queued : (mode : QueueMode) (x o : Unanswered) → is_plain mode x.op ≡ 
 holds_queued mode x o px po =
     ap (λ (b : Bool). (o.port.0 == x.port.0) && b)
     (cond-false (is_plain mode x.op) _ _ px
-    ∙ ap (λ (b : Bool). b || (ltb o.id.0 x.id.0 && (is_plain mode o.op || conflict_by_flush_or_overlap o x))) (and_left _ true po ∙ sym (and_left _ o.issued po))
+    ∙ ap (λ (b : Bool). b || (ltb o.id.0 x.id.0 && (is_plain mode o.op || conflict_on_port_by_flush_or_overlap o x))) (and_left _ true po ∙ sym (and_left _ o.issued po))
     ∙ sym (cond-false (is_plain mode x.op) _ _ px))
 
 holds_elsewhere : (mode : QueueMode) (x o : Unanswered) → (o.port.0 == x.port.0) ≡ false → waits_for mode x (record o { issued = true }) ≡ waits_for mode x o

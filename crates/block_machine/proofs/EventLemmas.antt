@@ -11,7 +11,7 @@ use Rattle.block_machine.specs.State.{Block, Memory, Pending, Machine, nth_frame
 use Rattle.block_machine.specs.Steps.{Step, Accept, Touch, WaitAgain, Answer, Release, Store, IsEnabled, after_step, is_kept_at_answer, unlend, is_lent_to, put_bytes, memory_after_touch, AllTouched}
 use Rattle.block_machine.specs.Expected.{after, IsInitial, AllStepsFaithful, HoldsExpected}
 use Rattle.block_machine.specs.Ports.{Ports, Evidence}
-use Rattle.block_machine.specs.Events.{AbstractState, AbstractCall, Submit, StoreAt, LoadAt, Service, Tick, Reset, RevokeOf, State, StepDevice, CallRecord, AllEnabled, IsByDevice, IsByServer, AreStepsOfCall, AnswersAndWaitsLawful, abstract_after_all, IsRun, steps_of, EveryReadHoldsExpected}
+use Rattle.block_machine.specs.Events.{AbstractState, AbstractCall, Submit, StoreAt, LoadAt, Service, Tick, Reset, RevokeOf, State, StepDevice, CallRecord, AllEnabled, IsByDevice, IsByServer, AreStepsOfCall, AnswersLawfulAndWaitsOnStoppedPorts, abstract_after_all, IsRun, steps_of, EveryReadHoldsExpected}
 use Rattle.block_machine.proofs.Order.{In}
 use Rattle.block_machine.proofs.Sound.{Sound}
 use Rattle.block_machine.proofs.Trace.{runs_lives}
@@ -54,7 +54,7 @@ abbrev pub AllWhole : List Step → Type 0
 AllWhole [] = Unit {0}
 AllWhole (step ∷ past) = AllWhole past × IsWhole step
 
-answer_whole : (old : AbstractState) (evidence : Evidence) (ports : Ports) (step : Step) (before : List Step) → AnswersAndWaitsLawful old evidence ports (step ∷ before) → AnswersAndWaitsLawful old evidence ports before × IsWhole step
+answer_whole : (old : AbstractState) (evidence : Evidence) (ports : Ports) (step : Step) (before : List Step) → AnswersLawfulAndWaitsOnStoppedPorts old evidence ports (step ∷ before) → AnswersLawfulAndWaitsOnStoppedPorts old evidence ports before × IsWhole step
 answer_whole old evidence ports (Answer e Ok) before l = (l.0, (l.1.2, l.1.3))
 answer_whole old evidence ports (Answer e (DeviceError status error)) before l = (l.0, tt)
 answer_whole old evidence ports (Answer e Aborted) before l = (l.0, tt)
@@ -64,7 +64,7 @@ answer_whole old evidence ports (Answer e Revoked) before l = (l.0, tt)
 answer_whole old evidence ports (WaitAgain e) before l = (l.0, tt)
 answer_whole old evidence ports _ before l = (l, tt)
 
-call_whole : (old : AbstractState) (evidence : Evidence) (ports : Ports) (steps past : List Step) → AnswersAndWaitsLawful old evidence ports steps → AllWhole past → AllWhole (steps ++ past)
+call_whole : (old : AbstractState) (evidence : Evidence) (ports : Ports) (steps past : List Step) → AnswersLawfulAndWaitsOnStoppedPorts old evidence ports steps → AllWhole past → AllWhole (steps ++ past)
 call_whole old evidence ports [] past l w = w
 call_whole old evidence ports (step ∷ before) past l w =
     let q = answer_whole old evidence ports step before l in (call_whole old evidence ports before past q.0 w, q.1)

@@ -16,8 +16,8 @@ use Rattle.block_machine.specs.declared.due.QueueMode.{QueueMode}
 use Rattle.block_machine.specs.declared.due.Unanswered.{Unanswered}
 use Rattle.block_machine.specs.State.{Accepted, Pending, Machine, nth_frame, is_reader, unanswered, newly_unanswered}
 use Rattle.block_machine.specs.Rules.{frame_count_for}
-use Rattle.block_machine.specs.DueRequests.{IsDue, conflict_by_flush_or_overlap, waits_for, is_plain}
-use Rattle.block_machine.specs.Steps.{Step, Accept, Issue, Touch, End, Age, WaitAgain, Answer, Revoke, Release, Unplug, PlugDisk, Store, Load, IsEnabled, MayAccept, NoneKept, after_step, update_pending, without_pending, IsInBookOrKept, MayStillMove, newly_issued, touch, mark_ended, requeued, aged_pending, newly_accepted, lend, unlend, unlend_all, is_lent_to, is_kept_at_answer}
+use Rattle.block_machine.specs.DueRequests.{IsDue, conflict_on_port_by_flush_or_overlap, waits_for, is_plain}
+use Rattle.block_machine.specs.Steps.{Step, Accept, Issue, Touch, End, Age, WaitAgain, Answer, Revoke, Release, Unplug, PlugDisk, Store, Load, IsEnabled, MayAccept, NoneKept, after_step, update_pending, without_pending, IsInBookOrKept, IsIssuedOrKept, newly_issued, touch, mark_ended, requeued, aged_pending, newly_accepted, lend, unlend, unlend_all, is_lent_to, is_kept_at_answer}
 use Rattle.block_machine.proofs.Members.{contains_none, contains_here, contains_there, contains_cases, map_in, into_map, at_cases, without_in, append_in, none_of}
 use Rattle.block_machine.proofs.Sound.{Sound, Carries, IsChanged, KeepsRequest, IsLentAll, IsDistinct, lived, order_carried, carried}
 
@@ -44,7 +44,7 @@ same_all : (es : List Pending) → IsChanged (λ e. e) es es
 same_all es e h = (e, h, refl)
 
 -- no earlier request that conflicts with a due one is unanswered
-pub due_order : (mode : QueueMode) (book : List Unanswered) (r a : Unanswered) → IsDue mode book r → Contains book a → a.id.0 < r.id.0 → conflict_by_flush_or_overlap a r ≡ true → ⊥
+pub due_order : (mode : QueueMode) (book : List Unanswered) (r a : Unanswered) → IsDue mode book r → Contains book a → a.id.0 < r.id.0 → conflict_on_port_by_flush_or_overlap a r ≡ true → ⊥
 due_order mode book r a due h lt con =
     let port : (a.port.0 == r.port.0) ≡ true = (and_parts _ _ con).0 in
     let none : list_any (waits_for mode r) book ≡ false = not-true _ (and_parts _ _ due.waits_and_nothing_blocks).1 in
@@ -54,7 +54,7 @@ due_order mode book r a due h lt con =
     both_ways _ held holds
   where
     go : (b : Bool) → ltb a.id.0 r.id.0 ≡ true
-        → cond b (a.issued || ltb a.id.0 r.id.0) ((is_plain mode a.op && a.issued) || (ltb a.id.0 r.id.0 && (is_plain mode a.op || conflict_by_flush_or_overlap a r))) ≡ true
+        → cond b (a.issued || ltb a.id.0 r.id.0) ((is_plain mode a.op && a.issued) || (ltb a.id.0 r.id.0 && (is_plain mode a.op || conflict_on_port_by_flush_or_overlap a r))) ≡ true
     go true less = or_right _ _ less
     go false less = or_right _ _ (and_from _ _ less (or_right _ _ con))
 
@@ -68,7 +68,7 @@ same_frame f g e = ap (λ n. record { 0 = n }) e
 pub same_id : (i j : RequestId) → i.0 ≡ j.0 → i ≡ j
 same_id i j e = ap (λ n. record { 0 = n }) e
 
-conflict_port : (a b : Accepted) → conflict_by_flush_or_overlap (newly_unanswered a) (newly_unanswered b) ≡ true → a.port ≡ b.port
+conflict_port : (a b : Accepted) → conflict_on_port_by_flush_or_overlap (newly_unanswered a) (newly_unanswered b) ≡ true → a.port ≡ b.port
 conflict_port a b con = same_port a.port b.port (eqb-true a.port.0 b.port.0 (and_parts _ _ con).0)
 
 issue_carries : (m : Machine) (mode : QueueMode) (e : Pending) → Carries (update_pending e.request.id newly_issued) (λ x. x) m (after_step m (Issue mode e))
@@ -84,23 +84,23 @@ issue_carries m mode e = record {
 keeps_issue : (m : Machine) (mode : QueueMode) (e : Pending) → Sound m → Contains m.book e → IsDue mode (map unanswered m.book) (unanswered e) → NoneKept m e.request.port → Sound (after_step m (Issue mode e))
 keeps_issue m mode e s here due none = carried (update_pending e.request.id newly_issued) (λ x. x) m (after_step m (Issue mode e)) (issue_carries m mode e) order s
   where
-    earlier : (a : Pending) → IsInBookOrKept m a → a.request.id.0 < e.request.id.0 → conflict_by_flush_or_overlap (newly_unanswered a.request) (newly_unanswered e.request) ≡ true → ⊥
+    earlier : (a : Pending) → IsInBookOrKept m a → a.request.id.0 < e.request.id.0 → conflict_on_port_by_flush_or_overlap (newly_unanswered a.request) (newly_unanswered e.request) ≡ true → ⊥
     earlier a (inl h) lt con = due_order mode (map unanswered m.book) (unanswered e) (unanswered a) due (into_map unanswered m.book a h) lt con
     earlier a (inr h) lt con = none a h (conflict_port a.request e.request con)
 
-    order : (x a : Pending) → MayStillMove (after_step m (Issue mode e)) x → IsInBookOrKept (after_step m (Issue mode e)) a → a.request.id.0 < x.request.id.0 → conflict_by_flush_or_overlap (newly_unanswered a.request) (newly_unanswered x.request) ≡ true → ⊥
+    order : (x a : Pending) → IsIssuedOrKept (after_step m (Issue mode e)) x → IsInBookOrKept (after_step m (Issue mode e)) a → a.request.id.0 < x.request.id.0 → conflict_on_port_by_flush_or_overlap (newly_unanswered a.request) (newly_unanswered x.request) ≡ true → ⊥
     order x a (inr h) l lt con =
         let q = lived (update_pending e.request.id newly_issued) (λ x. x) m (after_step m (Issue mode e)) (issue_carries m mode e) a l in
-        s.order x q.0 (inr h) q.1 (subst (λ (j : Accepted). j.id.0 < x.request.id.0) q.2 lt) (subst (λ (j : Accepted). conflict_by_flush_or_overlap (newly_unanswered j) (newly_unanswered x.request) ≡ true) q.2 con)
+        s.order x q.0 (inr h) q.1 (subst (λ (j : Accepted). j.id.0 < x.request.id.0) q.2 lt) (subst (λ (j : Accepted). conflict_on_port_by_flush_or_overlap (newly_unanswered j) (newly_unanswered x.request) ≡ true) q.2 con)
     order x a (inl h) l lt con =
         let q = lived (update_pending e.request.id newly_issued) (λ x. x) m (after_step m (Issue mode e)) (issue_carries m mode e) a l in
         let r = map_in (update_pending e.request.id newly_issued) m.book x h.0 in
         let jx : x.request ≡ r.0.request = ap (λ (y : Pending). y.request) r.2 ∙ at_keeps e.request.id newly_issued (λ y. refl) r.0 in
         let lt' : q.0.request.id.0 < r.0.request.id.0 = subst (λ (j : Accepted). q.0.request.id.0 < j.id.0) jx (subst (λ (j : Accepted). j.id.0 < x.request.id.0) q.2 lt) in
-        let con' : conflict_by_flush_or_overlap (newly_unanswered q.0.request) (newly_unanswered r.0.request) ≡ true = subst (λ (j : Accepted). conflict_by_flush_or_overlap (newly_unanswered q.0.request) (newly_unanswered j) ≡ true) jx (subst (λ (j : Accepted). conflict_by_flush_or_overlap (newly_unanswered j) (newly_unanswered x.request) ≡ true) q.2 con) in
+        let con' : conflict_on_port_by_flush_or_overlap (newly_unanswered q.0.request) (newly_unanswered r.0.request) ≡ true = subst (λ (j : Accepted). conflict_on_port_by_flush_or_overlap (newly_unanswered q.0.request) (newly_unanswered j) ≡ true) jx (subst (λ (j : Accepted). conflict_on_port_by_flush_or_overlap (newly_unanswered j) (newly_unanswered x.request) ≡ true) q.2 con) in
         ⊎_elim
         (λ p. let same : r.0 ≡ e = s.one r.0 e r.1 here p.0 in
-        earlier q.0 q.1 (subst (λ (y : Pending). q.0.request.id.0 < y.request.id.0) same lt') (subst (λ (y : Pending). conflict_by_flush_or_overlap (newly_unanswered q.0.request) (newly_unanswered y.request) ≡ true) same con'))
+        earlier q.0 q.1 (subst (λ (y : Pending). q.0.request.id.0 < y.request.id.0) same lt') (subst (λ (y : Pending). conflict_on_port_by_flush_or_overlap (newly_unanswered q.0.request) (newly_unanswered y.request) ≡ true) same con'))
         (λ p. s.order r.0 q.0 (inl (r.1, ap (λ (y : Pending). y.issued) (sym (r.2 ∙ p.1)) ∙ h.1)) q.1 lt' con')
         (at_cases e.request.id newly_issued r.0)
 
@@ -152,7 +152,7 @@ answered_lives m e b h x (inl i) = inl (without_in e.request.id m.book x i).0
 answered_lives m e true h x (inr i) = ⊎_elim (λ p. inl (subst (λ (y : Pending). Contains m.book y) (sym p) h)) (λ j. inr j) (contains_cases e m.kept x i)
 answered_lives m e false h x (inr i) = inr i
 
-answered_runs : (m : Machine) (e : Pending) (b : Bool) → Contains m.book e → (b ≡ true → e.issued ≡ true) → (x : Pending) → MayStillMove (answered m e b) x → MayStillMove m x
+answered_runs : (m : Machine) (e : Pending) (b : Bool) → Contains m.book e → (b ≡ true → e.issued ≡ true) → (x : Pending) → IsIssuedOrKept (answered m e b) x → IsIssuedOrKept m x
 answered_runs m e b h w x (inl i) = inl ((without_in e.request.id m.book x i.0).0, i.1)
 answered_runs m e true h w x (inr i) = ⊎_elim (λ p. inl (subst (λ (y : Pending). Contains m.book y × (y.issued ≡ true)) (sym p) (h, w refl))) (λ j. inr j) (contains_cases e m.kept x i)
 answered_runs m e false h w x (inr i) = inr i
@@ -220,7 +220,7 @@ keeps_release m s = record {
     lives x (inl i) = inl i
     lives x (inr i) = absurd (contains_none x i)
 
-    runs : (x : Pending) → MayStillMove (after_step m Release) x → MayStillMove m x
+    runs : (x : Pending) → IsIssuedOrKept (after_step m Release) x → IsIssuedOrKept m x
     runs x (inl i) = inl i
     runs x (inr i) = absurd (contains_none x i)
 
@@ -314,7 +314,7 @@ keeps_accept m request s new = record {
     room : is_reader request.asked.op ≡ true → request.asked.count ≤ 8 * length request.asked.frames.items
     room r = ⊎_elim (λ e. enough request.asked.op request.asked.count (length request.asked.frames.items) e r) (λ ne. absurd (new.breaks_no_rule FrameCount ne)) (cases_eq (length request.asked.frames.items) (frame_count_for request.asked.op request.asked.count))
 
-    order : (e a : Pending) → MayStillMove (after_step m (Accept request)) e → IsInBookOrKept m a ⊎ (a ≡ newly_accepted request) → a.request.id.0 < e.request.id.0 → conflict_by_flush_or_overlap (newly_unanswered a.request) (newly_unanswered e.request) ≡ true → ⊥
+    order : (e a : Pending) → IsIssuedOrKept (after_step m (Accept request)) e → IsInBookOrKept m a ⊎ (a ≡ newly_accepted request) → a.request.id.0 < e.request.id.0 → conflict_on_port_by_flush_or_overlap (newly_unanswered a.request) (newly_unanswered e.request) ≡ true → ⊥
     order e a (inr i) (inl l) lt con = s.order e a (inr i) l lt con
     order e a (inr i) (inr p) lt con = let b = s.below e (inr i) in let n = is_new a p in omega (arith, b, n, lt)
     order e a (inl h) l lt con = inner (append_in m.book (newly_accepted request) e h.0) l

@@ -5,7 +5,7 @@ use Rattle.std.proofs.lemmas.Bool.{cases_lt, cond-true, cond-false, or_left, or_
 use Rattle.ata_types.specs.declared.Port.{Port}
 use Rattle.block_machine.specs.declared.due.QueueMode.{QueueMode}
 use Rattle.block_machine.specs.declared.due.Unanswered.{Unanswered}
-use Rattle.block_machine.specs.DueRequests.{IsInOrder, conflict_by_flush_or_overlap, waits_for, is_plain, is_earlier_on_port, is_waiting_and_unblocked, unblocked_ahead_count, free_slots, is_due, due_ahead_count}
+use Rattle.block_machine.specs.DueRequests.{IsInOrder, conflict_on_port_by_flush_or_overlap, waits_for, is_plain, is_earlier_on_port, is_waiting_and_unblocked, unblocked_ahead_count, free_slots, is_due, due_ahead_count}
 use Rattle.block_machine.proofs.Keeps.{same_port}
 use Rattle.block_machine.proofs.Order.{In, Ordered, in_from, from_in, ordered_from}
 use Rattle.block_machine.proofs.Counting.{count_cons, count_append, count_eq, count_none, count_least, unheld}
@@ -112,7 +112,7 @@ pub holds_if : (mode : QueueMode) (r o : Unanswered) → (o.port.0 == r.port.0) 
 holds_if mode r o port less plain = and_from _ _ port (go (is_plain mode r.op) refl plain)
   where
     go : (b : Bool) → is_plain mode r.op ≡ b → (is_plain mode r.op ≡ true) ⊎ (is_plain mode o.op ≡ true)
-        → cond b (o.issued || ltb o.id.0 r.id.0) ((is_plain mode o.op && o.issued) || (ltb o.id.0 r.id.0 && (is_plain mode o.op || conflict_by_flush_or_overlap o r))) ≡ true
+        → cond b (o.issued || ltb o.id.0 r.id.0) ((is_plain mode o.op && o.issued) || (ltb o.id.0 r.id.0 && (is_plain mode o.op || conflict_on_port_by_flush_or_overlap o r))) ≡ true
     go true p h = or_right _ _ less
     go false p (inl q) = absurd (both_ways _ p q)
     go false p (inr q) = or_right _ _ (and_from _ _ less (or_left _ _ q))

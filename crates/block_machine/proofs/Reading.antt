@@ -11,7 +11,7 @@ use Rattle.ata_types.specs.declared.refusal.MemFault.TheVariants as fault
 use Rattle.block_machine.specs.Refusals.{MayAccessFrame}
 use Rattle.block_machine.specs.DueRequests.{changes_sectors}
 use Rattle.block_machine.specs.State.{Block, Memory, Accepted, Pending, Machine, block_of, nth_frame, sector_of, is_reader}
-use Rattle.block_machine.specs.Steps.{Step, Accept, Issue, Touch, End, Age, WaitAgain, Answer, Revoke, Release, Unplug, PlugDisk, Store, Load, IsEnabled, after_step, update_pending, IsInBookOrKept, MayStillMove, newly_issued, touch, mark_ended, requeued, aged_pending, newly_accepted, put_bytes, memory_after_touch}
+use Rattle.block_machine.specs.Steps.{Step, Accept, Issue, Touch, End, Age, WaitAgain, Answer, Revoke, Release, Unplug, PlugDisk, Store, Load, IsEnabled, after_step, update_pending, IsInBookOrKept, IsIssuedOrKept, newly_issued, touch, mark_ended, requeued, aged_pending, newly_accepted, put_bytes, memory_after_touch}
 use Rattle.block_machine.specs.Expected.{plug_count, IsTouch, touches_sector, disk_number_read, ChangedSector, IsLastWrittenOrPluggedIn, IsExpectedBlock, StepIsFaithful}
 use Rattle.block_machine.proofs.Members.{map_in, at_cases, without_in, append_in}
 use Rattle.block_machine.proofs.Sound.{Sound, KeepsRequest}
@@ -46,7 +46,7 @@ good_more start h m n step request i same own others good =
     )
 
 -- a sector that is touched now is good
-good_now : (start : Machine) (h : List Step) (m n : Machine) (e : Pending) (i : ℕ) (block : Block) → Sound m → AllSeen m h → Holds start h m → MayStillMove m e → i < e.request.asked.count → is_reader e.request.asked.op ≡ true
+good_now : (start : Machine) (h : List Step) (m n : Machine) (e : Pending) (i : ℕ) (block : Block) → Sound m → AllSeen m h → Holds start h m → IsIssuedOrKept m e → i < e.request.asked.count → is_reader e.request.asked.op ≡ true
     → ((b : ℕ) → b < 512 → block_of n.memory e.request.asked.frames.items i b ≡ m.disk_bytes e.request.port (e.request.asked.first.0 + i) b)
     → IsGood start (Touch e i block ∷ h) n e.request i
 good_now start h m n e i block s seen holds r lt reads now =
@@ -120,7 +120,7 @@ place_apart m s e o le lo i k b li lk lb differ frame low high =
     some_id {a} {b} p = let e : a ≡ b = cc in ap (λ (i : RequestId). i.0) e
 
 -- a touch leaves the places of other sectors alone
-pub memory_touch : (m : Machine) → Sound m → (e o : Pending) → MayStillMove m e → IsInBookOrKept m o → (i : ℕ) (block : Block) (k b : ℕ) → i < e.request.asked.count → k < 8 * length o.request.asked.frames.items → b < 512
+pub memory_touch : (m : Machine) → Sound m → (e o : Pending) → IsIssuedOrKept m e → IsInBookOrKept m o → (i : ℕ) (block : Block) (k b : ℕ) → i < e.request.asked.count → k < 8 * length o.request.asked.frames.items → b < 512
     → (is_reader e.request.asked.op ≡ true → e.request.id.0 ≡ o.request.id.0 → i ≡ k → ⊥)
     → block_of (memory_after_touch e.request i block m.memory) o.request.asked.frames.items k b ≡ block_of m.memory o.request.asked.frames.items k b
 memory_touch m s e o r lo i block k b li lk lb differ = by_op (is_reader e.request.asked.op) refl
@@ -203,7 +203,7 @@ traced_at m n id f b kt kj x hx i touched =
 traced_same : (m n : Machine) → n.book ≡ m.book → IsTraced m n
 traced_same m n b x hx i touched = (x, subst (λ (es : List Pending). Contains es x) b hx, refl, touched, λ h. h)
 
-touch_good : (start : Machine) (h : List Step) (m : Machine) (e : Pending) (i : ℕ) (block : Block) → StepIsFaithful m (Touch e i block) → Sound m → AllSeen m h → Holds start h m → MayStillMove m e → i < e.request.asked.count
+touch_good : (start : Machine) (h : List Step) (m : Machine) (e : Pending) (i : ℕ) (block : Block) → StepIsFaithful m (Touch e i block) → Sound m → AllSeen m h → Holds start h m → IsIssuedOrKept m e → i < e.request.asked.count
     → AllGood start h m → AllGood start (Touch e i block ∷ h) (after_step m (Touch e i block))
 touch_good start h m e i block told s seen holds r li good x hx reads k lt touched =
     let q = map_in (update_pending e.request.id (touch i)) m.book x hx in

@@ -4,8 +4,8 @@ use Rattle.std.specs.List.{Contains}
 use Rattle.ata_types.specs.declared.request.Frame.{Frame}
 use Rattle.ata_types.specs.declared.request.RequestId.{RequestId}
 use Rattle.block_machine.specs.State.{Accepted, Pending, Machine, is_reader, nth_frame, newly_unanswered}
-use Rattle.block_machine.specs.DueRequests.{conflict_by_flush_or_overlap}
-use Rattle.block_machine.specs.Steps.{IsInBookOrKept, MayStillMove}
+use Rattle.block_machine.specs.DueRequests.{conflict_on_port_by_flush_or_overlap}
+use Rattle.block_machine.specs.Steps.{IsInBookOrKept, IsIssuedOrKept}
 
 abbrev pub IsLentAll : (Frame → Option RequestId) → Accepted → Type 0
 IsLentAll lent request = (i : ℕ) → i < length request.asked.frames.items → lent (nth_frame request.asked.frames.items i) ≡ Some request.id
@@ -22,7 +22,7 @@ pub record Sound (m : Machine) : Type 0 where
   pub distinct : (e : Pending) → IsInBookOrKept m e → IsDistinct e.request.asked.frames.items
   pub room : (e : Pending) → IsInBookOrKept m e → is_reader e.request.asked.op ≡ true → e.request.asked.count ≤ 8 * length e.request.asked.frames.items
   -- no earlier request that conflicts with a running one is left
-  pub order : (e a : Pending) → MayStillMove m e → IsInBookOrKept m a → a.request.id.0 < e.request.id.0 → conflict_by_flush_or_overlap (newly_unanswered a.request) (newly_unanswered e.request) ≡ true → ⊥
+  pub order : (e a : Pending) → IsIssuedOrKept m e → IsInBookOrKept m a → a.request.id.0 < e.request.id.0 → conflict_on_port_by_flush_or_overlap (newly_unanswered a.request) (newly_unanswered e.request) ≡ true → ⊥
 
 -- each member of the new list is a member of the old one, changed
 abbrev pub IsChanged : (Pending → Pending) → List Pending → List Pending → Type 0
@@ -45,24 +45,24 @@ lived f g m n c e (inl h) = let r = c.book e h in (r.0, inl r.1, ap (λ (x : Pen
 lived f g m n c e (inr h) = let r = c.kept e h in (r.0, inr r.1, ap (λ (x : Pending). x.request) r.2 ∙ c.g_keeps r.0)
 
 -- the order holds after a step that issues nothing
-pub order_carried : (f g : Pending → Pending) (m n : Machine) → Carries f g m n → ((e : Pending) → (f e).issued ≡ true → e.issued ≡ true) → Sound m → (e a : Pending) → MayStillMove n e → IsInBookOrKept n a → a.request.id.0 < e.request.id.0 → conflict_by_flush_or_overlap (newly_unanswered a.request) (newly_unanswered e.request) ≡ true → ⊥
+pub order_carried : (f g : Pending → Pending) (m n : Machine) → Carries f g m n → ((e : Pending) → (f e).issued ≡ true → e.issued ≡ true) → Sound m → (e a : Pending) → IsIssuedOrKept n e → IsInBookOrKept n a → a.request.id.0 < e.request.id.0 → conflict_on_port_by_flush_or_overlap (newly_unanswered a.request) (newly_unanswered e.request) ≡ true → ⊥
 order_carried f g m n c quiet s e a (inl h) l lt con =
     let r = c.book e h.0 in
     let q = lived f g m n c a l in
     let je : e.request ≡ r.0.request = ap (λ (x : Pending). x.request) r.2 ∙ c.f_keeps r.0 in
     s.order r.0 q.0 (inl (r.1, quiet r.0 (ap (λ (x : Pending). x.issued) (sym r.2) ∙ h.1))) q.1
     (subst (λ (j : Accepted). q.0.request.id.0 < j.id.0) je (subst (λ (j : Accepted). j.id.0 < e.request.id.0) q.2 lt))
-    (subst (λ (j : Accepted). conflict_by_flush_or_overlap (newly_unanswered q.0.request) (newly_unanswered j) ≡ true) je (subst (λ (j : Accepted). conflict_by_flush_or_overlap (newly_unanswered j) (newly_unanswered e.request) ≡ true) q.2 con))
+    (subst (λ (j : Accepted). conflict_on_port_by_flush_or_overlap (newly_unanswered q.0.request) (newly_unanswered j) ≡ true) je (subst (λ (j : Accepted). conflict_on_port_by_flush_or_overlap (newly_unanswered j) (newly_unanswered e.request) ≡ true) q.2 con))
 order_carried f g m n c quiet s e a (inr h) l lt con =
     let r = c.kept e h in
     let q = lived f g m n c a l in
     let je : e.request ≡ r.0.request = ap (λ (x : Pending). x.request) r.2 ∙ c.g_keeps r.0 in
     s.order r.0 q.0 (inr r.1) q.1
     (subst (λ (j : Accepted). q.0.request.id.0 < j.id.0) je (subst (λ (j : Accepted). j.id.0 < e.request.id.0) q.2 lt))
-    (subst (λ (j : Accepted). conflict_by_flush_or_overlap (newly_unanswered q.0.request) (newly_unanswered j) ≡ true) je (subst (λ (j : Accepted). conflict_by_flush_or_overlap (newly_unanswered j) (newly_unanswered e.request) ≡ true) q.2 con))
+    (subst (λ (j : Accepted). conflict_on_port_by_flush_or_overlap (newly_unanswered q.0.request) (newly_unanswered j) ≡ true) je (subst (λ (j : Accepted). conflict_on_port_by_flush_or_overlap (newly_unanswered j) (newly_unanswered e.request) ≡ true) q.2 con))
 
 abbrev pub IsOrdered : Machine → Type 0
-IsOrdered n = (e a : Pending) → MayStillMove n e → IsInBookOrKept n a → a.request.id.0 < e.request.id.0 → conflict_by_flush_or_overlap (newly_unanswered a.request) (newly_unanswered e.request) ≡ true → ⊥
+IsOrdered n = (e a : Pending) → IsIssuedOrKept n e → IsInBookOrKept n a → a.request.id.0 < e.request.id.0 → conflict_on_port_by_flush_or_overlap (newly_unanswered a.request) (newly_unanswered e.request) ≡ true → ⊥
 
 pub carried : (f g : Pending → Pending) (m n : Machine) → Carries f g m n → IsOrdered n → Sound m → Sound n
 carried f g m n c o s = record {

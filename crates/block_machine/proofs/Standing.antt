@@ -3,7 +3,7 @@
 use Rattle.std.proofs.Common.{◌≡◌, ℕ, ◌/◌, ◌<◌, List, length, Some, sym, subst}
 use Rattle.ata_types.specs.declared.request.Op.TheVariants.{Flush}
 use Rattle.block_machine.specs.State.{Pending, Machine, nth_frame}
-use Rattle.block_machine.specs.Steps.{Step, MayStillMove}
+use Rattle.block_machine.specs.Steps.{Step, IsIssuedOrKept}
 use Rattle.block_machine.specs.Events.{AllEnabled}
 use Rattle.block_machine.specs.Expected.{after, IsInitial}
 use Rattle.block_machine.specs.Confinement.{MovesBytes, FramesAreAsAcceptedOutsideReadRange}
@@ -15,10 +15,10 @@ use Rattle.block_machine.proofs.Accepts.{living_accepted, was_new, has_frame, fl
 
 pub record Standing (m : Machine) : Type 0 where
   pub sound : Sound m
-  pub framed : (e : Pending) → MayStillMove m e → MovesBytes e.request.asked.op → (i : ℕ) → i < e.request.asked.count → i / 8 < length e.request.asked.frames.items
-  pub lent : (e : Pending) → MayStillMove m e → (i : ℕ) → i < length e.request.asked.frames.items → m.lent (nth_frame e.request.asked.frames.items i) ≡ Some e.request.id
-  pub held : (e : Pending) → MayStillMove m e → FramesAreAsAcceptedOutsideReadRange m e.request
-  pub flush : (e : Pending) → MayStillMove m e → e.request.asked.op ≡ Flush → e.request.asked.count ≡ 0
+  pub framed : (e : Pending) → IsIssuedOrKept m e → MovesBytes e.request.asked.op → (i : ℕ) → i < e.request.asked.count → i / 8 < length e.request.asked.frames.items
+  pub lent : (e : Pending) → IsIssuedOrKept m e → (i : ℕ) → i < length e.request.asked.frames.items → m.lent (nth_frame e.request.asked.frames.items i) ≡ Some e.request.id
+  pub held : (e : Pending) → IsIssuedOrKept m e → FramesAreAsAcceptedOutsideReadRange m e.request
+  pub flush : (e : Pending) → IsIssuedOrKept m e → e.request.asked.op ≡ Flush → e.request.asked.count ≡ 0
 
 standing_at : (start : Machine) (h : List Step) → IsInitial start → AllEnabled start h → Standing (after start h)
 standing_at start h s enabled =

@@ -3,7 +3,7 @@ use Rattle.std.proofs.Common.{◌≡◌, true, [], ◌∷◌, List, inl, inr, �
 use Rattle.std.proofs.lemmas.Bool.{false≢true}
 use Rattle.std.specs.List.{Contains}
 use Rattle.block_machine.specs.State.{Pending, Machine}
-use Rattle.block_machine.specs.Steps.{Step, Accept, Issue, Touch, End, Age, WaitAgain, Answer, Revoke, Release, Unplug, PlugDisk, Store, Load, IsEnabled, MayStillMove, after_step, newly_issued, touch, mark_ended, requeued, aged_pending, newly_accepted}
+use Rattle.block_machine.specs.Steps.{Step, Accept, Issue, Touch, End, Age, WaitAgain, Answer, Revoke, Release, Unplug, PlugDisk, Store, Load, IsEnabled, IsIssuedOrKept, after_step, newly_issued, touch, mark_ended, requeued, aged_pending, newly_accepted}
 use Rattle.block_machine.specs.Events.{AllEnabled}
 use Rattle.block_machine.specs.Expected.{after, IsInitial}
 use Rattle.block_machine.specs.Histories.{IsReachable}
@@ -19,7 +19,7 @@ started : (e o : Pending) → e ≡ o → IsStarted o → IsStarted e
 started e o same s = subst IsStarted (sym same) s
 
 -- what may move of the book is issued
-moving_issued : (m : Machine) → Sound m → (e p : Pending) → Contains m.book e → MayStillMove m p → e.request.id.0 ≡ p.request.id.0 → e.issued ≡ true
+moving_issued : (m : Machine) → Sound m → (e p : Pending) → Contains m.book e → IsIssuedOrKept m p → e.request.id.0 ≡ p.request.id.0 → e.issued ≡ true
 moving_issued m s e p here (inl may) same = ap (λ (x : Pending). x.issued) (s.one e p here may.0 same) ∙ may.1
 moving_issued m s e p here (inr kept) same = absurd (s.apart e p here kept same)
 

@@ -4,8 +4,8 @@ use Rattle.std.proofs.lemmas.Bool.{or_right, and_from, and_right, cond-false}
 use Rattle.std.specs.List.{Contains}
 use Rattle.ata_types.specs.declared.Port.{Port}
 use Rattle.block_machine.specs.State.{Block, DiskBytes, Accepted, Pending, Machine, newly_unanswered, sector_of}
-use Rattle.block_machine.specs.DueRequests.{conflict_by_flush_or_overlap, changes_sectors}
-use Rattle.block_machine.specs.Steps.{Step, Accept, Issue, Touch, End, Age, WaitAgain, Answer, Revoke, Release, Unplug, PlugDisk, Store, Load, IsEnabled, MayAccept, after_step, update_pending, IsInBookOrKept, MayStillMove, newly_issued, touch, mark_ended, requeued, aged_pending, newly_accepted}
+use Rattle.block_machine.specs.DueRequests.{conflict_on_port_by_flush_or_overlap, changes_sectors}
+use Rattle.block_machine.specs.Steps.{Step, Accept, Issue, Touch, End, Age, WaitAgain, Answer, Revoke, Release, Unplug, PlugDisk, Store, Load, IsEnabled, MayAccept, after_step, update_pending, IsInBookOrKept, IsIssuedOrKept, newly_issued, touch, mark_ended, requeued, aged_pending, newly_accepted}
 use Rattle.block_machine.specs.Expected.{IsAccept, plugs_disk, plugged_disk, plug_count, bytes_when_plugged, IsTouch, touches_sector, HasTouched, disk_number_read, ChangedSector, IsLastWrittenOrPluggedIn}
 use Rattle.block_machine.proofs.Members.{contains_none, contains_cases, map_in, without_in, append_in}
 use Rattle.block_machine.proofs.Sound.{Sound, KeepsRequest}
@@ -74,13 +74,13 @@ living_one m s a b (inr i) (inr j) eq = s.kept_one a b i j eq
 pub lives_one : (m : Machine) → Sound m → (a b : Pending) → IsInBookOrKept m a → IsInBookOrKept m b → a.request.id.0 ≡ b.request.id.0 → a.request ≡ b.request
 lives_one m s a b i j eq = ap (λ (x : Pending). x.request) (living_one m s a b i j eq)
 
-pub runs_lives : (m : Machine) (e : Pending) → MayStillMove m e → IsInBookOrKept m e
+pub runs_lives : (m : Machine) (e : Pending) → IsIssuedOrKept m e → IsInBookOrKept m e
 runs_lives m e (inl h) = inl h.0
 runs_lives m e (inr h) = inr h
 
 -- two requests of a port with a sector in common, one of which writes, conflict
 pub conflict_at : (a b : Accepted) (k : ℕ) → a.port ≡ b.port → (changes_sectors a.asked.op || changes_sectors b.asked.op) ≡ true
-    → a.asked.first.0 ≤ k → k < a.asked.first.0 + a.asked.count → b.asked.first.0 ≤ k → k < b.asked.first.0 + b.asked.count → conflict_by_flush_or_overlap (newly_unanswered a) (newly_unanswered b) ≡ true
+    → a.asked.first.0 ≤ k → k < a.asked.first.0 + a.asked.count → b.asked.first.0 ≤ k → k < b.asked.first.0 + b.asked.count → conflict_on_port_by_flush_or_overlap (newly_unanswered a) (newly_unanswered b) ≡ true
 conflict_at a b k port w al ah bl bh =
     and_from _ _ (eq-eqb a.port.0 b.port.0 (ap (λ (p : Port). p.0) port)) (or_right _ _ (and_from _ _ w
     (and_from _ _ (and_from _ _ (lt-ltb a.asked.first.0 (b.asked.first.0 + b.asked.count) (omega arith)) (lt-ltb b.asked.first.0 (a.asked.first.0 + a.asked.count) (omega arith)))
@@ -92,7 +92,7 @@ pub record Seen (m : Machine) (w : Accepted) (k : ℕ) : Type 0 where
   pub from : w.asked.first.0 ≤ k
   pub to : k < w.asked.first.0 + w.asked.count
   pub one : (a : Pending) → IsInBookOrKept m a → a.request.id.0 ≡ w.id.0 → a.request ≡ w
-  pub order : (a : Pending) → IsInBookOrKept m a → a.request.id.0 < w.id.0 → conflict_by_flush_or_overlap (newly_unanswered a.request) (newly_unanswered w) ≡ true → ⊥
+  pub order : (a : Pending) → IsInBookOrKept m a → a.request.id.0 < w.id.0 → conflict_on_port_by_flush_or_overlap (newly_unanswered a.request) (newly_unanswered w) ≡ true → ⊥
 
 pub seen_step : (m : Machine) (step : Step) → IsEnabled m step → (w : Accepted) (k : ℕ) → Seen m w k → Seen (after_step m step) w k
 seen_step m step may w k s = record {
@@ -104,13 +104,13 @@ seen_step m step may w k s = record {
       (λ (p : Comes m step a.request). let b = s.below in let q = p.1.id_is_next in absurd (omega (arith, b, q, eq)))
       (lives_before m step may a l);
   order = λ a l lt con. ⊎_elim
-      (λ r. s.order r.0 r.1 (subst (λ (j : Accepted). j.id.0 < w.id.0) r.2 lt) (subst (λ (j : Accepted). conflict_by_flush_or_overlap (newly_unanswered j) (newly_unanswered w) ≡ true) r.2 con))
+      (λ r. s.order r.0 r.1 (subst (λ (j : Accepted). j.id.0 < w.id.0) r.2 lt) (subst (λ (j : Accepted). conflict_on_port_by_flush_or_overlap (newly_unanswered j) (newly_unanswered w) ≡ true) r.2 con))
       (λ (p : Comes m step a.request). let b = s.below in let q = p.1.id_is_next in omega (arith, b, q, lt))
       (lives_before m step may a l);
 }
 
 -- a request that touches a sector now
-pub seen_now : (m : Machine) → Sound m → (e : Pending) (i : ℕ) → MayStillMove m e → i < e.request.asked.count → Seen m e.request (sector_of e.request i)
+pub seen_now : (m : Machine) → Sound m → (e : Pending) (i : ℕ) → IsIssuedOrKept m e → i < e.request.asked.count → Seen m e.request (sector_of e.request i)
 seen_now m s e i r lt = record {
   below = s.below e (runs_lives m e r);
   from = omega arith;

@@ -8,7 +8,7 @@ use Rattle.ata_types.specs.declared.Port.{Port}
 use Rattle.ata_types.specs.declared.request.RequestId.{RequestId}
 use Rattle.block_machine.specs.declared.due.QueueMode.{QueueMode}
 use Rattle.block_machine.specs.declared.due.Unanswered.{Unanswered}
-use Rattle.block_machine.specs.DueRequests.{IsDue, IsInOrder, waits_for, is_plain, is_earlier_on_port, is_waiting_and_unblocked, unblocked_ahead_count, issued_count, free_slots, is_due, mark_issued, with_issued, mark_waiting, with_waiting, without_request, requests_of_port, due_of, AreAllDueInOrder}
+use Rattle.block_machine.specs.DueRequests.{IsDue, IsInOrder, waits_for, is_plain, is_earlier_on_port, is_waiting_and_unblocked, unblocked_ahead_count, issued_count, free_slots, is_due, mark_issued, with_issued, mark_waiting, with_waiting, without_request, requests_of_port, due_of, AreDueInTurnAndLeaveNoneDue}
 use Rattle.block_machine.proofs.Members.{into_map}
 use Rattle.block_machine.proofs.Order.{In, Ordered, in_from, from_in, ordered_from}
 use Rattle.block_machine.proofs.Counting.{count_cons}
@@ -160,13 +160,13 @@ none_of_none : (xs : List Unanswered) (r : Unanswered) → [] ≡ map (λ (x : U
 none_of_none [] r is h = h
 none_of_none (x ∷ xs) r is h = let f : 0 ≡ length (map (λ (y : Unanswered). y.id) (x ∷ xs)) = ap length is in absurd (omega (arith, f))
 
-pub in_turn : (mode : QueueMode) (port : Port) (ids : List RequestId) (book : List Unanswered) → IsInOrder book → ids ≡ due_ids mode port book → AreAllDueInOrder mode port ids book
+pub in_turn : (mode : QueueMode) (port : Port) (ids : List RequestId) (book : List Unanswered) → IsInOrder book → ids ≡ due_ids mode port book → AreDueInTurnAndLeaveNoneDue mode port ids book
 in_turn mode port [] book order is = λ r own due.
     none_of_none (due_of mode port book) r is (in_from (due_of mode port book) r ((due_member mode port book r own).1 due))
 in_turn mode port (id ∷ ids) book order is = go (due_of mode port book) refl (λ b o e. in_turn mode port ids b o e)
   where
-    go : (ds : List Unanswered) → due_of mode port book ≡ ds → ((b : List Unanswered) → IsInOrder b → ids ≡ due_ids mode port b → AreAllDueInOrder mode port ids b)
-        → AreAllDueInOrder mode port (id ∷ ids) book
+    go : (ds : List Unanswered) → due_of mode port book ≡ ds → ((b : List Unanswered) → IsInOrder b → ids ≡ due_ids mode port b → AreDueInTurnAndLeaveNoneDue mode port ids b)
+        → AreDueInTurnAndLeaveNoneDue mode port (id ∷ ids) book
     go [] e rest = let none : ◌≡◌ {A = ℕ} (length (id ∷ ids)) 0 = ap length (is ∙ ap (λ (xs : List Unanswered). map (λ (x : Unanswered). x.id) xs) e) in absurd (omega (arith, none))
     go (r ∷ rs) e rest =
         let both : id ∷ ids ≡ r.id ∷ map (λ (x : Unanswered). x.id) rs = is ∙ ap (λ (xs : List Unanswered). map (λ (x : Unanswered). x.id) xs) e in
@@ -182,7 +182,7 @@ in_turn mode port (id ∷ ids) book order is = go (due_of mode port book) refl (
         ∙ (cond-false (not (r.id.0 == r.id.0)) (r ∷ without_request r.id rs) (without_request r.id rs) (ap not (eq-eqb r.id.0 r.id.0 refl))
         ∙ none_dropped r.id rs (λ x h. apart x (later.0 x h) (x.id.0 == r.id.0) refl))) in (
           (r, sym first, own, due),
-          subst (λ (i : RequestId). AreAllDueInOrder mode port ids (with_issued i book)) (sym first)
+          subst (λ (i : RequestId). AreDueInTurnAndLeaveNoneDue mode port ids (with_issued i book)) (sym first)
               (rest (with_issued r.id book) (order_stays r.id book order) (others ∙ sym (ap (λ (xs : List Unanswered). map (λ (x : Unanswered). x.id) xs) left))),
         )
       where

@@ -28,8 +28,8 @@ are_overlapping a b = (nat_lt a.first.0 (range_end b) && nat_lt b.first.0 (range
     (nat_lt 0 a.count && nat_lt 0 b.count)
 
 -- two requests of one port conflict if one is a flush, or if one of them writes or trims and their ranges overlap
-abbrev pub conflict_by_flush_or_overlap : Unanswered → Unanswered → Bool
-conflict_by_flush_or_overlap a b = a.port.0 == b.port.0
+abbrev pub conflict_on_port_by_flush_or_overlap : Unanswered → Unanswered → Bool
+conflict_on_port_by_flush_or_overlap a b = a.port.0 == b.port.0
     && ((is_flush a.op || is_flush b.op) || ((changes_sectors a.op || changes_sectors b.op) && are_overlapping a.range
     b.range))
 
@@ -49,7 +49,7 @@ abbrev pub waits_for : QueueMode → Unanswered → Unanswered → Bool
 waits_for mode r other = other.port.0 == r.port.0 && (if is_plain mode r.op
     then other.issued || nat_lt other.id.0 r.id.0
     else (is_plain mode other.op && other.issued)
-    || (nat_lt other.id.0 r.id.0 && (is_plain mode other.op || conflict_by_flush_or_overlap other r)))
+    || (nat_lt other.id.0 r.id.0 && (is_plain mode other.op || conflict_on_port_by_flush_or_overlap other r)))
 
 -- it waits, and nothing stands in its way
 abbrev pub is_waiting_and_unblocked : QueueMode → List Unanswered → Unanswered → Bool
@@ -122,8 +122,8 @@ abbrev pub due_of : QueueMode → Port → List Unanswered → List Unanswered
 due_of mode port book = filter (λ r. r.port.0 == port.0 && is_due mode book r) book
 
 -- each of these is due on the port once those before it were issued; and once all were, none is
-abbrev pub AreAllDueInOrder : QueueMode → Port → List RequestId → List Unanswered → Type 0
-AreAllDueInOrder mode port [] book = NoneDue mode book port
-AreAllDueInOrder mode port (id ∷ ids) book =
+abbrev pub AreDueInTurnAndLeaveNoneDue : QueueMode → Port → List RequestId → List Unanswered → Type 0
+AreDueInTurnAndLeaveNoneDue mode port [] book = NoneDue mode book port
+AreDueInTurnAndLeaveNoneDue mode port (id ∷ ids) book =
     ((r : Unanswered) × (r.id ≡ id) × (r.port ≡ port) × IsDue mode book r)
-    × AreAllDueInOrder mode port ids (with_issued id book)
+    × AreDueInTurnAndLeaveNoneDue mode port ids (with_issued id book)

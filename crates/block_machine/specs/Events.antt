@@ -18,7 +18,7 @@ use Rattle.ata_types.specs.declared.refusal.MemFault.{MemFault}
 use Rattle.block_machine.specs.Rules.{HasRow, IsSameGrantName, without_row}
 use Rattle.block_machine.specs.Refusals.{AdmissionContext, IsAcceptable, IsFirstRefusal, MayAccessFrame, IsFirstMemFault}
 use Rattle.block_machine.specs.DueRequests.{NoneDue}
-use Rattle.block_machine.specs.Ports.{Ports, PortsWellFormed, SamePort, SamePorts, SameSerialAndSize, Evidence, IsStoppedOrStuck, MayBecome, IsServiced, IsAfterStuckReset}
+use Rattle.block_machine.specs.Ports.{Ports, PortsWellFormed, SamePort, SamePorts, SameSerialAndSize, Evidence, IsStoppedOrStuck, MayBecome, ChangesOnlyIfStoppedOrStuck, IsAfterStuckReset}
 use Rattle.block_machine.specs.State.{Accepted, Pending, Machine, unanswered}
 use Rattle.block_machine.specs.Steps.{Step, Accept, Issue, Touch, End, Age, WaitAgain, Answer, Revoke, Release, Unplug, PlugDisk, Store, Load, IsEnabled, AllTouched, unanswered_count}
 use Rattle.block_machine.specs.Expected.{after, IsInitial, HoldsExpected}
@@ -77,13 +77,13 @@ IsByDevice (Unplug port) = Unit {0}
 IsByDevice (PlugDisk port id size disk) = Unit {0}
 IsByDevice _ = ⊥
 
--- an outcome in which the device told neither an end nor a fault: what a restart, or a reset, tells of a request
-abbrev pub IsOutcomeWithoutDeviceVerdict : Outcome → Type 0
-IsOutcomeWithoutDeviceVerdict outcome.Aborted = Unit {0}
-IsOutcomeWithoutDeviceVerdict outcome.Unplugged = Unit {0}
-IsOutcomeWithoutDeviceVerdict outcome.PortDead = Unit {0}
-IsOutcomeWithoutDeviceVerdict outcome.Revoked = Unit {0}
-IsOutcomeWithoutDeviceVerdict _ = ⊥
+-- an outcome that is neither Ok nor the device's error: in a reset each is such a one, and in a tick each but Ok
+abbrev pub IsNeitherOkNorDeviceError : Outcome → Type 0
+IsNeitherOkNorDeviceError outcome.Aborted = Unit {0}
+IsNeitherOkNorDeviceError outcome.Unplugged = Unit {0}
+IsNeitherOkNorDeviceError outcome.PortDead = Unit {0}
+IsNeitherOkNorDeviceError outcome.Revoked = Unit {0}
+IsNeitherOkNorDeviceError _ = ⊥
 
 -- The step is one that the server makes in a call that asks this. Requests are issued, or wait again, on ports that are
 -- ready at its end, and are issued in the mode that the port has then. A tick tells no fault, a reset tells neither
@@ -99,11 +99,11 @@ IsByServer Service ports (Answer e o) = Unit {0}
 IsByServer Tick ports (Age ready) = Unit {0}
 IsByServer Tick ports (Issue mode e) = (ports.state e.request.port ≡ Ready) × (ports.mode e.request.port ≡ mode)
 IsByServer Tick ports (WaitAgain e) = ports.state e.request.port ≡ Ready
-IsByServer Tick ports (Answer e o) = IsOutcomeWithoutDeviceVerdict o ⊎ (o ≡ outcome.Ok)
+IsByServer Tick ports (Answer e o) = IsNeitherOkNorDeviceError o ⊎ (o ≡ outcome.Ok)
 IsByServer Reset ports Release = Unit {0}
 IsByServer Reset ports (Issue mode e) = (ports.state e.request.port ≡ Ready) × (ports.mode e.request.port ≡ mode)
 IsByServer Reset ports (WaitAgain e) = ports.state e.request.port ≡ Ready
-IsByServer Reset ports (Answer e o) = IsOutcomeWithoutDeviceVerdict o
+IsByServer Reset ports (Answer e o) = IsNeitherOkNorDeviceError o
 IsByServer (RevokeOf client number) ports (Revoke c n) = (c ≡ client) × (n ≡ number)
 IsByServer (RevokeOf client number) ports (Answer e o) = o ≡ outcome.Revoked
 IsByServer (RevokeOf client number) ports (Issue mode e) = (ports.state e.request.port ≡ Ready)
@@ -223,13 +223,14 @@ IsLawfulAnswer old evidence ports e outcome.Revoked = (e.issued ≡ false)
 
 -- Each answer of the call is lawful, with these ports at its end. And a request waits again only where its port
 -- stopped: else its command may still move.
-abbrev pub AnswersAndWaitsLawful : AbstractState → Evidence → Ports → List Step → Type 0
-AnswersAndWaitsLawful old evidence ports [] = Unit {0}
-AnswersAndWaitsLawful old evidence ports (Answer e o ∷ rest) = AnswersAndWaitsLawful old evidence ports rest
-    × IsLawfulAnswer old evidence ports e o
-AnswersAndWaitsLawful old evidence ports (WaitAgain e ∷ rest) = AnswersAndWaitsLawful old evidence ports rest
-    × Contains evidence.stopped e.request.port
-AnswersAndWaitsLawful old evidence ports (step ∷ rest) = AnswersAndWaitsLawful old evidence ports rest
+abbrev pub AnswersLawfulAndWaitsOnStoppedPorts : AbstractState → Evidence → Ports → List Step → Type 0
+AnswersLawfulAndWaitsOnStoppedPorts old evidence ports [] = Unit {0}
+AnswersLawfulAndWaitsOnStoppedPorts old evidence ports (Answer e o ∷ rest) =
+    AnswersLawfulAndWaitsOnStoppedPorts old evidence ports rest × IsLawfulAnswer old evidence ports e o
+AnswersLawfulAndWaitsOnStoppedPorts old evidence ports (WaitAgain e ∷ rest) =
+    AnswersLawfulAndWaitsOnStoppedPorts old evidence ports rest × Contains evidence.stopped e.request.port
+AnswersLawfulAndWaitsOnStoppedPorts old evidence ports (step ∷ rest) =
+    AnswersLawfulAndWaitsOnStoppedPorts old evidence ports rest
 
 -- of two answers the first has the lower port, or the same port and the lower id: in this order a call tells them
 abbrev pub IsLowerByPortThenId : Pending × Outcome → Pending × Outcome → Type 0
@@ -381,7 +382,7 @@ pub record AnswersService (old : AbstractState) (evidence : Evidence) (steps : L
   pub empty_unless_ready : (port : Port) → EmptyUnlessReady new port
   pub answers_ok_what_had_ended : (port : Port) → old.ports.state port ≡ Ready
       → AnswersOkWhatHadEnded old.machine steps port
-  pub port_is_serviced : (port : Port) → IsServiced old.ports evidence new.ports port
+  pub port_is_serviced : (port : Port) → ChangesOnlyIfStoppedOrStuck old.ports evidence new.ports port
   pub shown_disk_was_in_or_came : (port : Port) → SamePort old.ports new.ports port
       ⊎ ShownDiskWasInOrCame old steps new port
 
@@ -475,7 +476,7 @@ pub record Happens {D : Type 0} (old : AbstractState) (event : CallRecord D) : T
   pub steps_are_enabled : AllEnabled old.machine event.steps
   pub steps_are_of_call : AreStepsOfCall event.call event.ports event.steps
   pub issue_is_last_of_request : IssueIsLastOfRequest event.steps
-  pub answers_are_lawful : AnswersAndWaitsLawful old event.evidence event.ports event.steps
+  pub answers_are_lawful : AnswersLawfulAndWaitsOnStoppedPorts old event.evidence event.ports event.steps
   pub ports_are_well_formed : PortsWellFormed event.ports
   pub unanswered_keep_serial_and_size : UnansweredKeepSerialAndSize old (abstract_after old event)
   pub result_matches_steps : ResultMatchesSteps event.call event.result old event.evidence event.steps

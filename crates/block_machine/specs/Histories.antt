@@ -31,13 +31,13 @@ abbrev pub events_of : {D E : Type 0} → List (JointEvent D E) → List (CallRe
 events_of past = map (λ h. h.event) past
 
 -- calls that happened one after the other, from what a new server left on
-abbrev pub IsHistory : {D E : Type 0} → (JointState D → Type 0) → (JointState D → JointEvent D E → Type 0)
+abbrev pub IsJointRun : {D E : Type 0} → (JointState D → Type 0) → (JointState D → JointEvent D E → Type 0)
     → JointState D
     → List (JointEvent D E) → Type 0
-IsHistory Begins Relation first [] = (IsInitial first.abstract.machine × PortsWellFormed first.abstract.ports)
+IsJointRun Begins Relation first [] = (IsInitial first.abstract.machine × PortsWellFormed first.abstract.ports)
     × Begins first
-IsHistory Begins Relation first (h ∷ past) =
-    IsHistory Begins Relation first past × Happens (joint_state_after first past).abstract h.event
+IsJointRun Begins Relation first (h ∷ past) =
+    IsJointRun Begins Relation first past × Happens (joint_state_after first past).abstract h.event
     × Relation (joint_state_after first past) h
 
 -- The history leads to a server's state: `Stands` says when a state is at an instant. What a call adds is said of every
@@ -45,7 +45,7 @@ IsHistory Begins Relation first (h ∷ past) =
 pub record LeadsTo {D E S : Type 0} (Begins : JointState D → Type 0) (Relation : JointState D → JointEvent D E → Type 0)
     (IsStateAt : JointState D → S → Type 0) (first : JointState D) (past : List (JointEvent D E)) (state : S) : Type 0
   where
-    pub history : IsHistory Begins Relation first past
+    pub history : IsJointRun Begins Relation first past
     pub state_is_at_history_end : IsStateAt (joint_state_after first past) state
 
 -- a history of steps leads to the machine

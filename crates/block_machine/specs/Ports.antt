@@ -87,8 +87,8 @@ pub record MayBecome (old : Ports) (evidence : Evidence) (new : Ports) (port : P
 
 -- What a service may make of it: a dead port stays what it is, since a reset alone ends that;
 -- another becomes what a call that looks at it may make of it, and is what it was unless it was stopped, or got stuck.
-abbrev pub IsServiced : Ports → Evidence → Ports → Port → Type 0
-IsServiced old evidence new port = (old.state port ≡ Dead → SamePort old new port)
+abbrev pub ChangesOnlyIfStoppedOrStuck : Ports → Evidence → Ports → Port → Type 0
+ChangesOnlyIfStoppedOrStuck old evidence new port = (old.state port ≡ Dead → SamePort old new port)
     × (old.state port ≢ Dead → MayBecome old evidence new port
     × (SamePort old new port ⊎ IsStoppedOrStuck evidence port))
 

@@ -172,8 +172,8 @@ after_step m (Store client frame offset bytes) =
 after_step m (Load client frame offset bytes) = m
 
 -- issued, or kept: the device may move its sectors
-abbrev pub MayStillMove : Machine → Pending → Type 0
-MayStillMove m e = (Contains m.book e × (e.issued ≡ true)) ⊎ Contains m.kept e
+abbrev pub IsIssuedOrKept : Machine → Pending → Type 0
+IsIssuedOrKept m e = (Contains m.book e × (e.issued ≡ true)) ⊎ Contains m.kept e
 
 -- unanswered, or kept (such a one has its frames lent)
 abbrev pub IsInBookOrKept : Machine → Pending → Type 0
@@ -234,9 +234,9 @@ IsEnabled m (Accept r) = MayAccept m r
 IsEnabled m (Issue mode e) = Contains m.book e × IsDue mode (map unanswered m.book) (unanswered e)
     × NoneKept m e.request.port
     × HasGrant m e
-IsEnabled m (Touch e i block) = MayStillMove m e × (i < e.request.asked.count) × (m.present e.request.port ≡ true)
+IsEnabled m (Touch e i block) = IsIssuedOrKept m e × (i < e.request.asked.count) × (m.present e.request.port ≡ true)
     × (sector_of e.request i < m.sizes e.request.port) × WriteMovesItsOwnBytes e.request i block
-IsEnabled m (End e) = MayStillMove m e × AllTouched e × (m.present e.request.port ≡ true)
+IsEnabled m (End e) = IsIssuedOrKept m e × AllTouched e × (m.present e.request.port ≡ true)
 IsEnabled m (Age ready) = Unit {0}
 IsEnabled m (WaitAgain e) = Contains m.book e × (e.issued ≡ true) × (e.issue_count < 4) × HasGrant m e
 IsEnabled m (Answer e outcome) = Contains m.book e × RevokedLacksGrantAbortedHasGrant m e outcome

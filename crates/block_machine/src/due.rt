@@ -52,8 +52,8 @@ fn are_overlapping(a: &Range, b: &Range) -> bool
 
 /// Whether the two conflict: both are of one port, and one of them is a flush, or they have a sector in common and one
 /// of them writes or trims.
-pub fn conflict_by_flush_or_overlap(a: &Unanswered, b: &Unanswered) -> bool
-    ensures { result ≡ due.conflict_by_flush_or_overlap a.now b.now }
+pub fn conflict_on_port_by_flush_or_overlap(a: &Unanswered, b: &Unanswered) -> bool
+    ensures { result ≡ due.conflict_on_port_by_flush_or_overlap a.now b.now }
 {
     let flush = a.op == Op::Flush || b.op == Op::Flush;
     let writes = changes_sectors(a.op) || changes_sectors(b.op);
@@ -72,6 +72,7 @@ pub fn waits_for(mode: QueueMode, r: &Unanswered, other: &Unanswered) -> bool
         other.issued || earlier
     } else {
         let plain = is_plain(mode, other.op);
-        (plain && other.issued) || (earlier && (plain || conflict_by_flush_or_overlap(other, r)))
+        (plain && other.issued)
+            || (earlier && (plain || conflict_on_port_by_flush_or_overlap(other, r)))
     }
 }

@@ -3,7 +3,7 @@
 
 ghost use Rattle.std.specs.Prelude.{◌≡◌, ◌≢◌, ◌↔◌, ◌<◌, ℕ, Bool, IsTrue, true, false, List, [], ◌∷◌, ◌++◌, ◌≤◌, ◌&&◌, nat_lt, Option, Some, All, length, map, count_by, Contains};
 ghost use Rattle.ata_types.specs.{declared.Port.{Port}, declared.PortState.TheVariants.{Ready}, declared.request.ClientId.{ClientId}, declared.request.Frame.{Frame}, declared.request.Request.{Request}, declared.request.RequestId.{RequestId}, declared.grant.GrantRow.{GrantRow}, declared.request.Outcome.{Outcome}, declared.request.Op.TheVariants.{Read}};
-ghost use Rattle.block_machine.specs.{declared.due.QueueMode.{QueueMode}, declared.due.Unanswered.{Unanswered}, DueRequests.{IsDue, IsInOrder, is_plain, issued_count, is_due, unblocked_ahead_count, due_ahead_count, free_slots, with_issued, with_waiting, without_request, requests_of_port, due_of, AreAllDueInOrder}, Ports.{Ports, PortsWellFormed}, Refusals.{AdmissionContext, IsAcceptable, MayAccessFrame}, Rules.{HasGrantName}};
+ghost use Rattle.block_machine.specs.{declared.due.QueueMode.{QueueMode}, declared.due.Unanswered.{Unanswered}, DueRequests.{IsDue, IsInOrder, is_plain, issued_count, is_due, unblocked_ahead_count, due_ahead_count, free_slots, with_issued, with_waiting, without_request, requests_of_port, due_of, AreDueInTurnAndLeaveNoneDue}, Ports.{Ports, PortsWellFormed}, Refusals.{AdmissionContext, IsAcceptable, MayAccessFrame}, Rules.{HasGrantName}};
 ghost use Rattle.block_machine.specs.{State.{Block, Accepted, Pending, Machine, unanswered}, Steps.{Step, Touch, End, Issue, WaitAgain, Answer, Age, after_step, IsEnabled, MayAccept, IsInBookOrKept, AllTouched}, Expected.{IsInitial, AllStepsFaithful, HoldsExpected, after}, Confinement.{IsGranted, IsConfined, FramesAreAsAcceptedOutsideReadRange, HasFrame, KeepsNonFrameRulesAndHoldsFrames, WasAccepted, KeepsLimitsAndHoldsOwnFrames}};
 ghost use Rattle.block_machine.specs.{Events.{AbstractState, CallRecord, AllEnabled, IsRun, EveryReadHoldsExpected, abstract_after_all, steps_of}, Histories.{IsReachable}};
 
@@ -234,7 +234,7 @@ pub fn law_issue_removes_only_that_request_from_due()
 /// due.
 pub fn law_issuing_due_in_turn_leaves_none_due()
     ensures { (mode : QueueMode) (port : Port) (book : List Unanswered) → IsInOrder book
-        → AreAllDueInOrder mode port (map (λ r. r.id) (due_of mode port book)) book }
+        → AreDueInTurnAndLeaveNoneDue mode port (map (λ r. r.id) (due_of mode port book)) book }
 {}
 
 /// A port that takes plain commands alone has one due request at most, and none while one is issued. It is the first of
@@ -264,7 +264,7 @@ pub fn law_due_depends_on_own_port()
 {}
 
 /// A request that is issued, waits again or is answered on one port leaves the requests of another as they are.
-pub fn law_request_steps_leave_other_ports_requests()
+pub fn law_issue_requeue_answer_keep_other_ports()
     ensures issued { (port : Port) (book : List Unanswered) (r : Unanswered) → IsInOrder book → Contains book r
         → r.port ≢ port → requests_of_port port (with_issued r.id book) ≡ requests_of_port port book }
     ensures waiting { (port : Port) (book : List Unanswered) (r : Unanswered) → IsInOrder book → Contains book r
@@ -275,7 +275,7 @@ pub fn law_request_steps_leave_other_ports_requests()
 
 /// What steps on requests of the book leave of the list that says which are due: an issue, a wait and an answer change
 /// it; an ageing, a touch and an end don't.
-pub fn law_unanswered_follow_request_steps()
+pub fn law_unanswered_follow_issue_requeue_answer()
     ensures issue { (m : Machine) (mode : QueueMode) (e : Pending)
         → map unanswered (after_step m (Issue mode e)).book ≡ with_issued e.request.id (map unanswered m.book) }
     ensures wait_again { (m : Machine) (e : Pending)

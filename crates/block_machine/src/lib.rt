@@ -13,5 +13,6 @@ pub mod laws;
 
 pub use counts::{frame_count, is_allowed_count};
 pub use due::{
-    QueueMode, Unanswered, changes_sectors, conflict_by_flush_or_overlap, is_plain, waits_for,
+    QueueMode, Unanswered, changes_sectors, conflict_on_port_by_flush_or_overlap, is_plain,
+    waits_for,
 };

@@ -39,9 +39,9 @@ use Rattle.identify.specs.declared.DiskInfo.{DiskInfo}
 use Rattle.identify.specs.declared.wanted.Wanted.{Wanted}
 use Rattle.server_history.specs.Histories.{ExtendsHistory, LeadsToServer}
 use Rattle.server_history.specs.ServerState.{is_served, ports_of, state_of}
-use Rattle.block_server.specs.ClientPromise.{ConfinesMovesAndClears, HoldsOfEachAdded, ClientPromiseInvariant, MatchesTape, PortStateIsJustified, IsSeenAt, FlushesSurviveReplugIfDisksTell}
+use Rattle.block_server.specs.ClientPromise.{ConfinesMovesAndTrimClears, HoldsOfEachAdded, ClientPromiseInvariant, MatchesTape, PortStateIsJustified, IsSeenAt, FlushesSurviveReplugIfDisksTell}
 use Rattle.block_server.specs.InitialServer.{IsInitialServer}
-use Rattle.block_server.specs.Promise.{GoesWellForPortAndClients, IsFaultFreeAnswer, Simulates, ServesPorts}
+use Rattle.block_server.specs.Promise.{GoesWellForPortAndClients, RevokesWaitingOrAnswersEndedOk, Simulates, ServesPorts}
 use Rattle.block_server.specs.AbstractCalls.{abstract_call_of, machine_result_of}
 use Rattle.block_server.specs.ServerView.{ServerView, server_of, observed_state_of}
 use Rattle.arrayvec.specs.ArrayVec.{ArrayVec}
@@ -181,7 +181,7 @@ parts port old mid new one two first second u =
 
 told_well : (ask : AbstractCall DeviceStep) (said : AbstractCallResult) (old : AbstractState) (evidence : Evidence) (steps : List Step) (new : AbstractState) (e : Pending) (told : Outcome)
     → ResultMatchesSteps ask said old evidence steps new → Contains steps (Answer e told) → IsFaultFreeOutcome ask told
-    → (told ≡ Ok → IsIssuedInBook old.machine e.request.id × (e.issued ≡ true) × AllTouched e × (e.ended ≡ true)) → IsFaultFreeAnswer ask old.machine e told
+    → (told ≡ Ok → IsIssuedInBook old.machine e.request.id × (e.issued ≡ true) × AllTouched e × (e.ended ≡ true)) → RevokesWaitingOrAnswersEndedOk ask old.machine e told
 told_well (RevokeOf client number) (WasRevoked (Some replies)) old evidence steps new e told answered here calm rests = (calm, ((answered.waiting_are_revoked e).0 (subst (λ (o : Outcome). Contains steps (Answer e o)) calm here)).1)
 told_well (RevokeOf client number) (WasRevoked None) old evidence steps new e told answered here calm rests =
     absurd (All-contains (λ _. ⊥) [] (Answer e told) (All-nil (λ _. ⊥)) (subst (λ (list : List Step). Contains list (Answer e told)) answered.1 here))
@@ -222,7 +222,7 @@ module _ (laws : HistoryLaws) where
         },
       )
 
-  all_confined : (wanted : List Wanted) (first : JointState Device) (past added : Calls) → IsDriverHistory wanted first (added ++ past) → ConfinesMovesAndClears first past added
+  all_confined : (wanted : List Wanted) (first : JointState Device) (past added : Calls) → IsDriverHistory wanted first (added ++ past) → ConfinesMovesAndTrimClears first past added
   all_confined wanted first past [] history = tt
   all_confined wanted first past (h ∷ added) history = (all_confined wanted first past added history.0, laws.moves wanted first (added ++ past) h history)
 

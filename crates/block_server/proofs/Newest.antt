@@ -10,7 +10,7 @@ use Rattle.std.specs.Prelude.{nat_lt}
 use Rattle.ata_types.specs.declared.Port.{Port}
 use Rattle.block_machine.specs.declared.due.QueueMode.{QueueMode}
 use Rattle.block_machine.specs.declared.due.Unanswered.{Unanswered}
-use Rattle.block_machine.specs.DueRequests.{IsDue, NoneDue, unblocked_ahead_count, conflict_by_flush_or_overlap, due_of, free_slots, waits_for, is_waiting_and_unblocked, is_due, is_earlier_on_port, is_plain, issued_count}
+use Rattle.block_machine.specs.DueRequests.{IsDue, NoneDue, unblocked_ahead_count, conflict_on_port_by_flush_or_overlap, due_of, free_slots, waits_for, is_waiting_and_unblocked, is_due, is_earlier_on_port, is_plain, issued_count}
 use Rattle.request_queue.specs.BookEntries.{BookEntry, as_unanswered, unanswered_of}
 
 -- ---- tests
@@ -88,7 +88,7 @@ module _ (mode : QueueMode) (book : List Unanswered) (r : Unanswered) (waits : r
 
   -- it stands in the way of no earlier one
   free : (x : Unanswered) → Earlier x → waits_for mode x r ≡ false
-  free x late = held_no r.issued (nat_lt r.id.0 x.id.0) (r.port.0 == x.port.0) (is_plain mode x.op) (is_plain mode r.op) (is_plain mode r.op || conflict_by_flush_or_overlap r x) waits late
+  free x late = held_no r.issued (nat_lt r.id.0 x.id.0) (r.port.0 == x.port.0) (is_plain mode x.op) (is_plain mode r.op) (is_plain mode r.op || conflict_on_port_by_flush_or_overlap r x) waits late
 
   clear_same : (x : Unanswered) → Earlier x → is_waiting_and_unblocked mode longer x ≡ is_waiting_and_unblocked mode book x
   clear_same x late =

@@ -18,7 +18,7 @@ use Rattle.block_machine.specs.Histories.{JointEvent, JointState, events_of, joi
 use Rattle.durability.specs.Durable.{EveryReplugFindsFlushedOrLater}
 use Rattle.driver_history.specs.PortInvariants.{ShowsDiskInfo}
 use Rattle.driver_history.specs.ConfinedMoves.{ConfinesCallMovesAndClears}
-use Rattle.host_boot.specs.TakeOver.{IsServed, wanted_of}
+use Rattle.host_boot.specs.TakeOver.{IsWantedAndImplemented, wanted_of}
 use Rattle.identify.specs.Wanted.{serial_of}
 use Rattle.identify.specs.declared.DiskInfo.{DiskInfo}
 use Rattle.identify.specs.declared.wanted.Wanted.{Wanted}
@@ -68,7 +68,7 @@ PortStateIsJustified wanted i p true state = BacksState (serial_of wanted) state
 -- tell their sectors, these hold the same.
 pub record ClientPromiseInvariant (wanted : List Wanted) (i : JointState Device) : Type 0 where
   pub served_iff_wanted_and_there : (p : Port) → p.0 < 4 → (i.abstract.ports.served p ≡ true)
-      ↔ IsServed (wanted_of wanted p.0) p.0 i.device
+      ↔ IsWantedAndImplemented (wanted_of wanted p.0) p.0 i.device
   pub states_are_justified : (p : Port) → p.0 < 4
       → PortStateIsJustified (wanted_of wanted p.0) i p (i.abstract.ports.served p) (i.abstract.ports.state p)
   pub unready_have_none_while_on : (p : Port) → p.0 < 4 → IsOn i.device → EmptyUnlessReady i.abstract p
@@ -111,9 +111,9 @@ pub record MeetsClientPromise (first : JointState Device) (past added : List (Jo
 
 -- What is promised of moves of data, which follows: in each of these calls moves and clears keep to their places, of
 -- requests that were accepted when they broke no rule.
-abbrev pub ConfinesMovesAndClears : JointState Device → List (JointEvent Device DeviceStep)
+abbrev pub ConfinesMovesAndTrimClears : JointState Device → List (JointEvent Device DeviceStep)
     → List (JointEvent Device DeviceStep) → Type 0
-ConfinesMovesAndClears first past added = HoldsOfEachAdded
+ConfinesMovesAndTrimClears first past added = HoldsOfEachAdded
     (λ before h. ConfinesCallMovesAndClears first.abstract.machine
     (steps_of (events_of before))
     h.event.steps (joint_state_after first before).device h.device) past added

@@ -24,28 +24,29 @@ use Rattle.driver_history.specs.Histories.{IssuesAllDue}
 use Rattle.host_boot.specs.TakeOver.{probe_result_of}
 use Rattle.server_history.specs.Histories.{LeadsToServer}
 use Rattle.server_history.specs.ServerState.{state_of}
-use Rattle.block_server.specs.ClientPromise.{ConfinesMovesAndClears, HoldsOfEachAdded, FlushesSurviveReplugIfDisksTell, MeetsClientPromise}
+use Rattle.block_server.specs.ClientPromise.{ConfinesMovesAndTrimClears, HoldsOfEachAdded, FlushesSurviveReplugIfDisksTell, MeetsClientPromise}
 use Rattle.block_server.specs.AbstractCalls.{abstract_call_of, machine_result_of}
 use Rattle.block_server.specs.ServerView.{ServerView, server_of, observed_state_of}
 
 -- What is told where nothing goes wrong. A call that revokes a grant tells Revoked, of requests that aren't issued
 -- (which ones: `AnswersRevoke`). Each other one tells Ok, of a request that was issued when the call began, of which
 -- each sector was moved or cleared since its last issue, and which was ended.
-abbrev pub IsFaultFreeAnswer : AbstractCall DeviceStep → Machine → Pending → Outcome → Type 0
-IsFaultFreeAnswer (RevokeOf client number) old e told = (told ≡ outcome.Revoked) × (e.issued ≡ false)
-IsFaultFreeAnswer ask old e told = (told ≡ outcome.Ok) × IsIssuedInBook old e.request.id × (e.issued ≡ true)
+abbrev pub RevokesWaitingOrAnswersEndedOk : AbstractCall DeviceStep → Machine → Pending → Outcome → Type 0
+RevokesWaitingOrAnswersEndedOk (RevokeOf client number) old e told = (told ≡ outcome.Revoked) × (e.issued ≡ false)
+RevokesWaitingOrAnswersEndedOk ask old e told = (told ≡ outcome.Ok) × IsIssuedInBook old e.request.id
+    × (e.issued ≡ true)
     × AllTouched e
     × (e.ended ≡ true)
 
 -- What a call is to the clients of a port that is ready and stays healthy, with no register in it. The port is what it
--- was, with the same disk. What is answered there is told as where nothing goes wrong (`IsFaultFreeAnswer`); a service
--- answers Ok each request that had ended when it began. And of the port's unanswered requests a submit, a service and a
--- revocation issue exactly those that are due once all else is done.
+-- was, with the same disk. What is answered there is told as where nothing goes wrong
+-- (`RevokesWaitingOrAnswersEndedOk`); a service answers Ok each request that had ended when it began. And of the port's
+-- unanswered requests a submit, a service and a revocation issue exactly those that are due once all else is done.
 pub record MeetsPortPromise (port : Port) (old : AbstractState) (call : CallRecord DeviceStep) : Type 0 where
   pub port_is_same : SamePort old.ports call.ports port
   pub answers_are_fault_free : (e : Pending) (told : Outcome) → Contains call.steps (Answer e told)
       → e.request.port ≡ port
-      → IsFaultFreeAnswer call.call old.machine e told
+      → RevokesWaitingOrAnswersEndedOk call.call old.machine e told
   pub answers_ok_what_had_ended : call.call ≡ Service → AnswersOkWhatHadEnded old.machine call.steps port
   pub issues_all_due : IssuesAllDue call.call call.steps (abstract_after old call).machine call.ports port
 
@@ -96,7 +97,7 @@ pub record KeepsPromise {A : Type 0} (device : A → Device) (first : JointState
       (observed_state_of device new)
       (map abstract_call_of calls)
       (map machine_result_of said)
-  pub confines_moves_and_clears : ConfinesMovesAndClears first past added
+  pub confines_moves_and_clears : ConfinesMovesAndTrimClears first past added
   pub flushes_survive_replug : FlushesSurviveReplugIfDisksTell first (added ++ past)
   pub drives_device : DrivesDevice device first past added old new
 

@@ -16,7 +16,7 @@ use driver_history::laws::{
     law_ok_reads_hold_expected_if_disks_tell, law_replugs_keep_flushed_if_disks_tell,
     law_services_answer_where_bits_are_clear,
 };
-use host_boot::laws::law_taken_over_ports_are_as_their_state_says;
+use host_boot::laws::law_ready_ports_run_and_unusable_disks_show;
 
 /// Calls that add an event each to every history that leads to the server before them keep their promise: none at all,
 /// one, and calls after others. With them the history is a run of the block machine, in which each read that was
@@ -47,14 +47,14 @@ pub fn law_calls_that_extend_history_keep_promise<A: Stepped>()
 
 /// A port that is ready when its server is made runs well then, where nothing went wrong on it since the adapter was
 /// idle.
-pub fn law_new_server_ready_ports_run_well<A: Stepped>()
+pub fn law_ready_ports_of_new_server_run_if_undisturbed<A: Stepped>()
     ensures { (config : Config) (adapter : A) (server : ServerView A) (port : Port) → IsIdle (A.device adapter)
         → IsInitialServer A.device config adapter server → state_of (probe_result_of server.probe_results port.0)
         ≡ Ready
         → Undisturbed port.0 (A.device adapter) (A.device server.adapter)
         → RunsWell ((A.device server.adapter).port port.0) }
 {
-    law_taken_over_ports_are_as_their_state_says();
+    law_ready_ports_run_and_unusable_disks_show();
 }
 
 /// How many accesses the calls make at most, in numbers: by the 64 readings of a wait, 32 slots and four ports.

@@ -12,8 +12,8 @@ use dma_frames::FrameTable;
 use host_boot::Host;
 use port_driver::{ServedPort, Shared, probed_mode};
 use server_history::laws::{
-    law_giving_back_loans_composes, law_handled_port_errors_keep_invariant,
-    law_requests_preserve_invariant,
+    law_giving_back_loans_composes, law_requests_preserve_invariant,
+    law_resolved_errors_keep_in_call_invariant,
 };
 use server_history::stuck_server::law_resolving_one_port_lets_others_resolve;
 
@@ -89,7 +89,7 @@ pub(crate) fn issue_due_on_ports<A: Adapter>(
         (with_ports s (A.device adapter.new) shared.new ports.new) }
     ensures cost { MakesAtMost (PORTS * ISSUE_DUE_ACCESSES) (A.access_count adapter.old) (A.access_count adapter.new) }
 {
-    law_handled_port_errors_keep_invariant();
+    law_resolved_errors_keep_in_call_invariant();
     law_requests_preserve_invariant();
     for number in 0..PORTS {
         ports[number].issue_where_ready(adapter, &mut shared.book, Port(number as u8));

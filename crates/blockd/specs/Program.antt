@@ -66,8 +66,9 @@ pub record IsImageAnd2048BlankSectors (image : FileStore) (first second : DiskSt
   pub zeros : filled_with_zeros_to_size blank.size blank.written.items ≡ replicate 2048 (replicate 512 0)
 
 -- What is told is how the play ended; or, where that was well, that the output failed to hand on what it had gathered.
-abbrev pub TellsEnd : Ended → Result (Unit {0}) BlockdError → Type 0
-TellsEnd ended result = (result ≡ program_result_of ended) ⊎ ((ended ≡ Done) × (result ≡ Err Unwritten))
+abbrev pub TellsEndOrUnwrittenAfterDone : Ended → Result (Unit {0}) BlockdError → Type 0
+TellsEndOrUnwrittenAfterDone ended result = (result ≡ program_result_of ended) ⊎ ((ended ≡ Done)
+    × (result ≡ Err Unwritten))
 
 -- The script was played over both disks, as far as it could be, and the output keeps what it took then. What is told is
 -- how that ended.
@@ -79,4 +80,4 @@ pub record RunsScript {S : Type 0} (size : S → ℕ) (told : S → Option (ℕ 
   pub printed : Option (List ℕ)
   pub ends : EndsPlay size told config script image blank trace old printed ended model
   pub output_is_kept : Keeps printed new
-  pub tells_end : TellsEnd ended result
+  pub tells_end : TellsEndOrUnwrittenAfterDone ended result

@@ -1,7 +1,7 @@
 // What the program makes of its files, once they are read: `main` hands over what the system gives.
 ghost use Rattle.std.specs.{Prelude.{◌≡◌, ℕ, IfOk, List}, Global.{Vec as VecOf}, Io.KnownBytes.{Keeps}, declared.result.Result.{Result as ResultOf}};
 ghost use Rattle.sector_store.specs.declared.file.FileStore.{FileStore as FileStoreOf};
-ghost use Rattle.blockd.specs.{Program.{IsImageAnd2048BlankSectors, Loads, RunsScript, TellsEnd, file_fault_of}, declared.program.FileError.{FileError as UnreadOf}};
+ghost use Rattle.blockd.specs.{Program.{IsImageAnd2048BlankSectors, Loads, RunsScript, TellsEndOrUnwrittenAfterDone, file_fault_of}, declared.program.FileError.{FileError as UnreadOf}};
 
 use crate::command_line::Args;
 use crate::fault::{BlockdError, program_result};
@@ -96,7 +96,7 @@ pub fn image_and_2048_blank_sectors(
 /// again; where all was played, and it fails now, it is that which is told.
 fn flush_output<W: io::Write>(ended: Ended, out: &mut W) -> Result<(), BlockdError>
     ensures keeps { Keeps (W.contents out.old) (W.contents out.new) }
-    ensures tells { TellsEnd ended result }
+    ensures tells { TellsEndOrUnwrittenAfterDone ended result }
 {
     match ended {
         Ended::Unwritten => Err(BlockdError::Unwritten),

@@ -18,7 +18,7 @@ use Rattle.adapter.specs.Encoding.{EncodesCommand, EncodesHeader, EncodesPrd}
 use Rattle.adapter.specs.declared.command.Command.{Command}
 use Rattle.adapter.specs.declared.command.Operation.{Operation}
 use Rattle.adapter.specs.declared.command.Prd.{Prd}
-use Rattle.refinement.specs.Fragments.{AnyAccess, SomeMachineAgrees, IsDrivenBy, IsSimulated, SparesOtherPorts, NoneWrites}
+use Rattle.refinement.specs.Fragments.{AnyAccess, SomeMachineAgrees, IsDrivenBy, IsSimulated, AccessesNoOtherPort, NoneWrites}
 use Rattle.refinement.specs.PreservedParts.{SameAdapter}
 use Rattle.refinement.specs.Driver.{KeepsTablesAndScratchUnlessOwn, IsInMemoryOfFreeSlot, MissesTableAndHeaderButPrdbc}
 use Rattle.refinement.specs.MemoryLayout.{command_list_address, scratch_frame_address, command_table_address}
@@ -48,7 +48,7 @@ store_free laws uses d port slot at bytes a room below small free here =
     (may_store uses port slot at bytes below small free here)
 
 -- no such access is of a register
-pub table_is_of : (port : Port) (at slot : ℕ) (access : Access) → IsHeaderOrTableStore at slot access → SparesOtherPorts port access
+pub table_is_of : (port : Port) (at slot : ℕ) (access : Access) → IsHeaderOrTableStore at slot access → AccessesNoOtherPort port access
 table_is_of port at slot (Storing place bytes) here = tt
 table_is_of port at slot (Loading place bytes) here = tt
 table_is_of port at slot (Reading r v) here = absurd here

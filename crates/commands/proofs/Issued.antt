@@ -27,10 +27,10 @@ use Rattle.block_machine.specs.Expected.{after}
 use Rattle.block_machine.specs.State.{Accepted, Pending, Machine}
 use Rattle.block_machine.specs.Steps.{Step, Issue, IsEnabled, after_step}
 use Rattle.block_machine.specs.declared.due.QueueMode.{QueueMode}
-use Rattle.refinement.specs.Acts.{Act, ActsReach, AreActsDone, DriverSlots, IsActDone, IsIssueStepOn, IsIssueStep, IsAtMostOneStepOrIssuesOfPort, accesses_of, newest_first_steps_of_acts, driver_state_of_slots}
+use Rattle.refinement.specs.Acts.{Act, ActsReach, AreActsDone, DriverSlots, IsActDone, IsIssueStepOn, IsIssueStep, IsAtMostOneStepOrIssuesByPxciWrite, accesses_of, newest_first_steps_of_acts, driver_state_of_slots}
 use Rattle.refinement.specs.Relation.{StateRelation, port_at}
 use Rattle.refinement.specs.Fragments.{IsSoleBit, AreByDeviceAndKeepUnwrittenSlots, driver_state_of}
-use Rattle.refinement.specs.Driver.{IsBackedByDeviceAlone, DriverAdvances, DriverRelation, DriverState, EndsInSteps, IsRequestPreparedToIssue, KeepsTablesAndScratchUnlessOwn, MissesTableAndHeaderButPrdbc, with_slot_serving}
+use Rattle.refinement.specs.Driver.{IsBackedByDeviceAlone, DriverAdvances, DriverRelation, DriverState, EndsInOwnStepsAfterDeviceSteps, IsRequestPreparedToIssue, KeepsTablesAndScratchUnlessOwn, MissesTableAndHeaderButPrdbc, with_slot_serving}
 use Rattle.refinement.specs.Simulation.{SimulatesSteps}
 use Rattle.refinement.specs.PreservedParts.{DoesNotWrite, ControlsChangeOnlyByTheirWrites, SameAdapter}
 use Rattle.refinement.specs.ReadySlots.{IsStoredAndArmedIffQueued, IsReadyToIssue, IsStoredOnPortWithStSet}
@@ -51,7 +51,7 @@ pub record Laws : Type 0 where
   pub same : (access : Access) (old new : Device) → Does access old new → SameAdapter old new
   pub on : (access : Access) (old new : Device) → IsOn old → ((v : ℕ) → access ≡ Writing Ghc v → (bit v 31 ≡ true) × (bit v 0 ≡ false)) → Does access old new → IsOn new
   pub controls : (port : Port) (access : Access) (old new : Device) → old.hr ≡ false → Does access old new → ControlsChangeOnlyByTheirWrites access port (old.port port.0) (new.port port.0)
-  pub ends : (k later : DriverState) (m : Machine) (access : Access) (own : List Step) → (e : EndsInSteps k m own later) → IsAtMostOneStepOrIssuesOfPort access own → Does access k.device later.device
+  pub ends : (k later : DriverState) (m : Machine) (access : Access) (own : List Step) → (e : EndsInOwnStepsAfterDeviceSteps k m own later) → IsAtMostOneStepOrIssuesByPxciWrite access own → Does access k.device later.device
       → IsActDone k m (record { access = Some access; steps = own ++ e.steps; state_after = later })
   pub part : (k : DriverState) (new : Device) → Steps k.device new → IsSimulatedBySteps DriverRelation k (record k { device = new }) (IsBackedByDeviceAlone k.device new)
   pub access : (k later : DriverState) (m : Machine) → IsSimulatedBySteps DriverRelation k later (IsBackedByDeviceAlone k.device later.device) → IsReachable m → DriverRelation m k
@@ -91,7 +91,7 @@ pub only_issues : (mode : QueueMode) (es : List Pending) → All IsIssueStep (is
 only_issues mode [] = All-nil IsIssueStep
 only_issues mode (e ∷ es) = All-append IsIssueStep (issues_newest_first mode es) (Issue mode e ∷ []) (only_issues mode es) (all_one IsIssueStep (Issue mode e) tt)
 
-issues_decide : (port : Port) (v : ℕ) (own : List Step) → All (IsIssueStepOn port) own → IsAtMostOneStepOrIssuesOfPort (Writing (Px port Ci) v) own
+issues_decide : (port : Port) (v : ℕ) (own : List Step) → All (IsIssueStepOn port) own → IsAtMostOneStepOrIssuesByPxciWrite (Writing (Px port Ci) v) own
 issues_decide port v [] all = tt
 issues_decide port v (step ∷ []) all = tt
 issues_decide port v (step ∷ other ∷ own) all = all
@@ -272,7 +272,7 @@ module _ (laws : Laws) (port : Port) where
       abbrev later_armed : DriverState
       later_armed = driver_state_of_slots (with_armed true port tasks s) armed
 
-      arm_ends : EndsInSteps (driver_state_of_slots s b.after_stores) m [] later_armed
+      arm_ends : EndsInOwnStepsAfterDeviceSteps (driver_state_of_slots s b.after_stores) m [] later_armed
       arm_ends =
           let k : DriverState = driver_state_of_slots s b.after_stores in
           let between : DriverState = driver_state_of_slots s call.at_access in
@@ -293,7 +293,7 @@ module _ (laws : Laws) (port : Port) where
     armed_from : (kind : Bool) → WritesSactIfQueued kind port own b.after_stores armed → (s : DriverSlots) (m : Machine) → IsReachable m → DriverRelation m (driver_state_of_slots s b.after_stores) → BatchSlotsAreUnused port.0 tasks s.slot_states →
         Reaches port tasks kind (arming_of port kind own) s m b.after_stores armed
     armed_from true call s m reached knows free =
-        let e : EndsInSteps (driver_state_of_slots s b.after_stores) m [] (driver_state_of_slots (with_armed true port tasks s) armed) = arm_ends call s m reached knows free in
+        let e : EndsInOwnStepsAfterDeviceSteps (driver_state_of_slots s b.after_stores) m [] (driver_state_of_slots (with_armed true port tasks s) armed) = arm_ends call s m reached knows free in
         let act : Act = record { access = Some (Writing (Px port Sact) own); steps = e.steps; state_after = driver_state_of_slots (with_armed true port tasks s) armed } in
         record {
           acts = act ∷ [];
@@ -506,7 +506,7 @@ module _ (laws : Laws) (port : Port) where
           abbrev served : DriverState
           served = driver_state_of (uses_served port.0 tasks es s.slot_states) s.awaiting_disposition new
 
-          issue_ends : EndsInSteps k m (issues_newest_first mode es) served
+          issue_ends : EndsInOwnStepsAfterDeviceSteps k m (issues_newest_first mode es) served
           issue_ends =
               let x : (steps : List Step) × AllByDevice steps × DriverAdvances k m steps between = laws.access k between m (laws.part k call.at_access call.steps) reached knows in
               let bits : ℕ → Bool = (call.at_access.port port.0).ci in
@@ -566,8 +566,8 @@ module _ (laws : Laws) (port : Port) where
             may2 : AllEnabled m2 (issues_newest_first mode es)
             may2 = laws.due m (newest_first_steps_of_acts x.reaches.acts) reached x.reaches.device x.goes.steps_are_enabled (issues_newest_first mode es) (only_issues mode es) fits.may_be_issued
 
-            ends : EndsInSteps before m2 (issues_newest_first mode es) later
-            ends = subst (λ (z : DriverSlots). EndsInSteps before m2 (issues_newest_first mode es) (driver_state_of_slots z new)) (serves_as queued s)
+            ends : EndsInOwnStepsAfterDeviceSteps before m2 (issues_newest_first mode es) later
+            ends = subst (λ (z : DriverSlots). EndsInOwnStepsAfterDeviceSteps before m2 (issues_newest_first mode es) (driver_state_of_slots z new)) (serves_as queued s)
                 (issue_ends (with_armed queued port tasks s) m2 x.reached x.goes.driver_relation may2 x.readied (trim_free s fits.slots_are_free))
 
             act : Act

@@ -18,8 +18,8 @@ use Rattle.block_machine.specs.State.{Machine, Pending}
 use Rattle.block_machine.specs.Steps.{Step}
 use Rattle.block_machine.specs.declared.due.QueueMode.{QueueMode}
 use Rattle.refinement.specs.Acts.{Act, AreActsDone, ActsReach, DriverSlots, driver_state_of_slots, newest_first_steps_of_acts}
-use Rattle.refinement.specs.Fragments.{AnySlotStates, IsSimulated, SparesOtherPorts, GainsNoMove}
-use Rattle.refinement.specs.Driver.{EndsInSteps, DriverAdvances, TapeBacksSteps, DriverState, DriverRelation}
+use Rattle.refinement.specs.Fragments.{AnySlotStates, IsSimulated, AccessesNoOtherPort, GainsNoMove}
+use Rattle.refinement.specs.Driver.{EndsInOwnStepsAfterDeviceSteps, DriverAdvances, TapeBacksSteps, DriverState, DriverRelation}
 use Rattle.refinement.specs.Slots.{Own, SlotState, client_operation_of}
 use Rattle.commands.specs.Masks.{ReadsDone, ReadsCiOrSact}
 use Rattle.commands.specs.Batches.{IsCommandIssueAccess, IsSlotOf, IssuesBatch, IssuesBatchAtEnd, MayServeBatch, PlacedTask, issues_newest_first, with_serving_batch}
@@ -28,19 +28,19 @@ use Rattle.commands.proofs.Batch.{all_as, slot_cases, zip_at}
 
 -- ---- of one port
 
-reading_own : (port : Port) (r : PortReg) (place : Reg) (v : ℕ) → place ≡ Px port r → SparesOtherPorts port (Reading place v)
-reading_own port r place v e = subst (λ (w : Reg). SparesOtherPorts port (Reading w v)) (sym e) refl
+reading_own : (port : Port) (r : PortReg) (place : Reg) (v : ℕ) → place ≡ Px port r → AccessesNoOtherPort port (Reading place v)
+reading_own port r place v e = subst (λ (w : Reg). AccessesNoOtherPort port (Reading w v)) (sym e) refl
 
-writing_own : (port : Port) (r : PortReg) (place : Reg) (v : ℕ) → place ≡ Px port r → SparesOtherPorts port (Writing place v)
-writing_own port r place v e = subst (λ (w : Reg). SparesOtherPorts port (Writing w v)) (sym e) refl
+writing_own : (port : Port) (r : PortReg) (place : Reg) (v : ℕ) → place ≡ Px port r → AccessesNoOtherPort port (Writing place v)
+writing_own port r place v e = subst (λ (w : Reg). AccessesNoOtherPort port (Writing w v)) (sym e) refl
 
-pub issuing_of : (port : Port) (access : Access) → IsCommandIssueAccess port access → SparesOtherPorts port access
+pub issuing_of : (port : Port) (access : Access) → IsCommandIssueAccess port access → AccessesNoOtherPort port access
 issuing_of port (Writing r v) here = ⊎_elim (λ e. writing_own port _ r v e) (λ e. writing_own port _ r v e) here
 issuing_of port (Storing place bytes) here = tt
 issuing_of port (Reading r v) here = absurd here
 issuing_of port (Loading place bytes) here = absurd here
 
-pub finding_of : (port : Port) (access : Access) → ReadsCiOrSact port access → SparesOtherPorts port access
+pub finding_of : (port : Port) (access : Access) → ReadsCiOrSact port access → AccessesNoOtherPort port access
 finding_of port (Reading r v) here = ⊎_elim (λ e. reading_own port _ r v e) (λ e. reading_own port _ r v e) here
 finding_of port (Writing r v) here = absurd here
 finding_of port (Storing place bytes) here = absurd here
@@ -72,7 +72,7 @@ module _ (laws : Laws) (port : Port) (tasks : List PlacedTask) (mode : QueueMode
   g : DriverAdvances (driver_state_of_slots s old) m (newest_first_steps_of_acts x.acts) later
   g = laws.goes x.acts (driver_state_of_slots s old) later m knows x.acts_are_done
 
-  pub ends : EndsInSteps (driver_state_of_slots s old) m (issues_newest_first mode es) (driver_state_of_slots (with_serving_batch port tasks es s) new)
+  pub ends : EndsInOwnStepsAfterDeviceSteps (driver_state_of_slots s old) m (issues_newest_first mode es) (driver_state_of_slots (with_serving_batch port tasks es s) new)
   unfolding later
   ends = record {
     steps = x.acts_are_such.device_steps;

@@ -24,7 +24,7 @@ use Rattle.refinement.specs.Driver.{DriverState, DriverRelation, IsBackedByDevic
 use Rattle.refinement.specs.PortFacts.{EndedOnPort, IsSlotClear}
 use Rattle.refinement.specs.PreservedParts.{ControlsChangeOnlyByTheirWrites}
 use Rattle.refinement.specs.Slots.{Serves, SlotStates}
-use Rattle.commands.specs.Masks.{IsDoneMask, ReadsDone, FindsEnds, ReadsCiOrSact, FindsEachClearSlot}
+use Rattle.commands.specs.Masks.{IsDoneMask, ReadsDone, FindsEndsIfStWasSet, ReadsCiOrSact, FindsEachClearSlot}
 use Rattle.commands.proofs.Batch.{changed_here}
 
 -- what laws of the crates below say
@@ -99,7 +99,7 @@ module _ (laws : Laws) (port : Port) (mask done issued active : ℕ) (old mid ne
   abbrev accesses : List Access
   accesses = Reading (Px port Ci) issued ∷ Reading (Px port Sact) active ∷ []
 
-  comes : (s : DriverSlots) (m : Machine) → IsReachable m → DriverRelation m (driver_state_of_slots s old) → Unit {0} → ActsReach accesses (driver_state_of_slots s old) m (driver_state_of_slots s new) (FindsEnds port done old new s m)
+  comes : (s : DriverSlots) (m : Machine) → IsReachable m → DriverRelation m (driver_state_of_slots s old) → Unit {0} → ActsReach accesses (driver_state_of_slots s old) m (driver_state_of_slots s new) (FindsEndsIfStWasSet port done old new s m)
   comes s m reached knows any = record {
     acts = one ∷ two ∷ [];
     acts_are_done = (x.2, (y.2, refl));

@@ -17,7 +17,7 @@ use Rattle.block_machine.specs.Expected.{after}
 use Rattle.block_machine.specs.State.{Machine}
 use Rattle.block_machine.specs.Steps.{Step}
 use Rattle.refinement.specs.Acts.{Act, AreActsDone, driver_state_of_slots, accesses_of, newest_first_steps_of_acts}
-use Rattle.refinement.specs.Fragments.{AnyAccess, IsDrivenBy, IsSimulated, OnlyDeviceChangesPort, SparesOtherPorts}
+use Rattle.refinement.specs.Fragments.{AnyAccess, IsDrivenBy, IsSimulated, OnlyDeviceChangesPort, AccessesNoOtherPort}
 use Rattle.refinement.specs.Driver.{DriverAdvances, DriverRelation, DriverState}
 use Rattle.refinement.specs.PreservedParts.{SameAdapter, DoesNotWrite}
 use Rattle.refinement.specs.MemoryLayout.{command_list_address}
@@ -57,7 +57,7 @@ table_stores port slot (Loading place bytes) here = here
 table_stores port slot (Reading q v) here = here
 table_stores port slot (Writing q v) here = here
 
-storing_spares : (port : Port) (access : Access) → IsStoring access → SparesOtherPorts port access
+storing_spares : (port : Port) (access : Access) → IsStoring access → AccessesNoOtherPort port access
 storing_spares port (Storing place bytes) here = tt
 storing_spares port (Loading place bytes) here = tt
 storing_spares port (Reading q v) here = absurd here
@@ -73,8 +73,8 @@ storing_writes_none r (Writing q v) here = absurd here
 
 -- what laws say: accesses of another port leave the port to the device, and any leave the adapter what it is
 pub record Leaving : Type 0 where
-  pub left : (port : Port) (q : ℕ) (old new : Device) → q ≢ port.0 → IsOn old → IsDrivenBy (SparesOtherPorts port) old new → OnlyDeviceChangesPort (old.port q) (new.port q)
-  pub on : (port : Port) (old new : Device) → IsOn old → IsDrivenBy (SparesOtherPorts port) old new → IsOn new
+  pub left : (port : Port) (q : ℕ) (old new : Device) → q ≢ port.0 → IsOn old → IsDrivenBy (AccessesNoOtherPort port) old new → OnlyDeviceChangesPort (old.port q) (new.port q)
+  pub on : (port : Port) (old new : Device) → IsOn old → IsDrivenBy (AccessesNoOtherPort port) old new → IsOn new
   pub adapter : (old new : Device) → IsDrivenBy AnyAccess old new → SameAdapter old new
 
 module _ (laws : Leaving) (port : Port) (May : Access → Type 0) (stores : (access : Access) → May access → IsStoring access) (old mid : Device) (driven : IsDrivenBy May old mid) where
@@ -89,10 +89,10 @@ module _ (laws : Leaving) (port : Port) (May : Access → Type 0) (stores : (acc
   stores_left : IsOn old → OnlyDeviceChangesPort (old.port port.0) (mid.port port.0)
   stores_left on =
       let q : Port = record { 0 = port.0 + 1 } in
-      laws.left q port.0 old mid (λ (e : port.0 ≡ port.0 + 1). omega (arith, e)) on (as_kind (SparesOtherPorts q) (storing_spares q))
+      laws.left q port.0 old mid (λ (e : port.0 ≡ port.0 + 1). omega (arith, e)) on (as_kind (AccessesNoOtherPort q) (storing_spares q))
 
   pub stores_on : IsOn old → IsOn mid
-  stores_on on = laws.on port old mid on (as_kind (SparesOtherPorts port) (storing_spares port))
+  stores_on on = laws.on port old mid on (as_kind (AccessesNoOtherPort port) (storing_spares port))
 
   pub stores_same : SameAdapter old mid
   stores_same = laws.adapter old mid (as_kind AnyAccess (λ access is. tt))

@@ -24,7 +24,7 @@ use Rattle.refinement.specs.MemoryLayout.{sector_address}
 use Rattle.refinement.specs.Slots.{AreRequestPlaces, HasBlockIfTrim, MeansRequest, client_operation_of}
 use Rattle.command_table.specs.SectorPlaces.{place_of, places_of}
 use Rattle.command_table.specs.TableStores.{IsTableFor, IsHeaderOrTableStore, IsSlotStateFree}
-use Rattle.commands.specs.Tasks.{BlockNamesSectors, IsStoreFor, IsTransfer, IsTaskOf, piece_addresses_of, number_if_transfer, meaning_of, task_operation}
+use Rattle.commands.specs.Tasks.{BlockNamesSectors, IsStoreFor, IsTransfer, IsTaskOf, piece_addresses_of, number_if_read_or_write, meaning_of, task_operation}
 use Rattle.commands.specs.declared.ncq.Task.{Task}
 
 -- what holds of a read and of a write holds of a transfer
@@ -46,8 +46,8 @@ ranged = of_command (λ queued op. is_ranged (task_operation queued op) ≡ true
 moves_all : (count : ℕ) (queued : Bool) (op : Op) → IsTransfer op → transfer_sector_count (task_operation queued op) count ≡ count
 moves_all count = of_command (λ queued op. transfer_sector_count (task_operation queued op) count ≡ count) refl refl refl refl
 
-pub in_its_fis : (n : ℕ) (op : Op) → IsTransfer op → number_if_transfer op n ≡ n
-in_its_fis n = of_transfer (λ op. number_if_transfer op n ≡ n) refl refl
+pub in_its_fis : (n : ℕ) (op : Op) → IsTransfer op → number_if_read_or_write op n ≡ n
+in_its_fis n = of_transfer (λ op. number_if_read_or_write op n ≡ n) refl refl
 
 pub in_frames : (port count : ℕ) (frames : List Frame) (op : Op) → IsTransfer op → piece_addresses_of port op count frames ≡ places_of frames count
 in_frames port count frames = of_transfer (λ op. piece_addresses_of port op count frames ≡ places_of frames count) refl refl
@@ -73,7 +73,7 @@ pub table_says : (r : Task) (frames : List Frame) (port slot : ℕ) → IsTransf
     command ≡ command_of (task_operation r.queued r.op) slot r.range.first.0 r.range.count → All IsWholePieces prds → pieces prds ≡ places_of frames r.range.count →
     IsTableFor slot command prds (meaning_of r) (piece_addresses_of port r.op r.range.count frames)
 table_says r frames port slot transfers some few first command prds fields whole places =
-    subst (λ (first : ℕ). IsTableFor slot command prds (record { operation = task_operation r.queued r.op; first = first; count = number_if_transfer r.op r.range.count }) (piece_addresses_of port r.op r.range.count frames)) (sym (in_its_fis r.range.first.0 r.op transfers))
+    subst (λ (first : ℕ). IsTableFor slot command prds (record { operation = task_operation r.queued r.op; first = first; count = number_if_read_or_write r.op r.range.count }) (piece_addresses_of port r.op r.range.count frames)) (sym (in_its_fis r.range.first.0 r.op transfers))
     (subst (λ (count : ℕ). IsTableFor slot command prds (record { operation = task_operation r.queued r.op; first = r.range.first.0; count = count }) (piece_addresses_of port r.op r.range.count frames)) (sym (in_its_fis r.range.count r.op transfers))
     (subst (IsTableFor slot command prds (record { operation = task_operation r.queued r.op; first = r.range.first.0; count = r.range.count })) (sym (in_frames port r.range.count frames r.op transfers)) (record {
       meaning = record {
@@ -118,7 +118,7 @@ module _ (port : Port) (slot : ℕ) (r : Task) (frames : List Frame) (mode : Que
   head : r.op ≡ Trim → slot ≡ 0
   head trim = is.plain_in_slot_0 (is.queued_is ∙ ap (λ (op : Op). not (is_plain mode op)) trim)
 
-  names_first : (queued : Bool) (op : Op) → is_ranged (task_operation queued op) ≡ true → number_if_transfer op r.range.first.0 ≡ e.request.asked.first.0
+  names_first : (queued : Bool) (op : Op) → is_ranged (task_operation queued op) ≡ true → number_if_read_or_write op r.range.first.0 ≡ e.request.asked.first.0
   names_first true Read named = sym (ap (λ (s : Sector). s.0) is.first_is)
   names_first false Read named = sym (ap (λ (s : Sector). s.0) is.first_is)
   names_first true Write named = sym (ap (λ (s : Sector). s.0) is.first_is)

@@ -25,7 +25,7 @@ ReadsCiOrSact port access = ⊥
 
 -- The device alone makes steps, and each slot goes on as it is used. Where ST was one, the command of each slot that is
 -- done and serves a request is over, and the request has ended. And no request of the port was kept meanwhile.
-pub record FindsEnds (port : Port) (done : ℕ) (old new : Device) (s : DriverSlots) (m : Machine)
+pub record FindsEndsIfStWasSet (port : Port) (done : ℕ) (old new : Device) (s : DriverSlots) (m : Machine)
     (acts : List Act) : Type 0 where
   pub only_device_steps : AllByDevice (newest_first_steps_of_acts acts)
   pub slots_are_kept : All (λ act. act.state_after.slot_states ≡ s.slot_states) acts
@@ -47,7 +47,8 @@ pub record ReadsDone (port : Port) (mask done : ℕ) (old new : Device) : Type 0
   pub driven : IsDrivenBy (ReadsCiOrSact port) old new
   pub reads : driven.accesses ≡ Reading (Px port Ci) issued ∷ Reading (Px port Sact) active ∷ []
   pub done_is : IsDoneMask mask issued active done
-  pub machine_follows : ActsReachWith driven.accesses (λ s m. Unit {0}) (λ s. s) (FindsEnds port done old new) old new
+  pub machine_follows : ActsReachWith driven.accesses (λ s m. Unit {0}) (λ s. s) (FindsEndsIfStWasSet port done old
+      new) old new
 
 -- a slot of the mask whose bits were clear when the call began is done
 abbrev pub FindsEachClearSlot : Port → ℕ → ℕ → Device → Type 0

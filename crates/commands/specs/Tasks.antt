@@ -53,18 +53,18 @@ task_operation queued Trim = operation.Trim
 task_operation queued Flush = operation.Flush
 
 -- of a range, what the command's FIS says: a trim's sectors stand in its block, and a flush has none
-abbrev pub number_if_transfer : Op → ℕ → ℕ
-number_if_transfer Read n = n
-number_if_transfer Write n = n
-number_if_transfer Trim n = 0
-number_if_transfer Flush n = 0
+abbrev pub number_if_read_or_write : Op → ℕ → ℕ
+number_if_read_or_write Read n = n
+number_if_read_or_write Write n = n
+number_if_read_or_write Trim n = 0
+number_if_read_or_write Flush n = 0
 
 -- what the task's command says
 abbrev pub meaning_of : Task → Meaning
 meaning_of r = record {
   operation = task_operation r.queued r.op;
-  first = number_if_transfer r.op r.range.first.0;
-  count = number_if_transfer r.op
+  first = number_if_read_or_write r.op r.range.first.0;
+  count = number_if_read_or_write r.op
       r.range.count;
 }
 

@@ -4,13 +4,13 @@ ghost use Rattle.ata_types.specs.{declared.Port.{Port}, declared.memory.TheConst
 ghost use Rattle.hba_regs.specs.{Bits.{bit}, declared.reg.Reg.TheVariants.{Px}, declared.reg.PortReg.TheVariants.{Ci}};
 ghost use Rattle.adapter.specs.{Access.{Access, Writes}, Device.{Device}, Rules.{HasPort, IsOn, MayWrite, IsStable}, declared.command.Operation.{Operation}};
 ghost use Rattle.block_machine.specs.{Histories.{IsReachable}, State.{Machine, Pending}, declared.due.QueueMode.{QueueMode}};
-ghost use Rattle.refinement.specs.{Acts.{DriverSlots, driver_state_of_slots}, Fragments.{AnySlotStates, IsSimulated, SomeMachineAgreesWith, SparesOtherPorts, GainsNoMove}, Driver.{EndsInSteps, DriverRelation}, Slots.{Own, client_operation_of}};
+ghost use Rattle.refinement.specs.{Acts.{DriverSlots, driver_state_of_slots}, Fragments.{AnySlotStates, IsSimulated, SomeMachineAgreesWith, AccessesNoOtherPort, GainsNoMove}, Driver.{EndsInOwnStepsAfterDeviceSteps, DriverRelation}, Slots.{Own, client_operation_of}};
 ghost use Rattle.commands.specs.{Batches.{BatchSlotsAreUnused, HasExactlySlotBitsOf, IsBatchIssued, IsBatchStored, IsCommandIssueAccess, IsSlotOf, IssuesBatch, MayServeBatch, PlacedTask, StoresTransfer, issues_newest_first, with_serving_batch}, Issuing.{IsArmedFor, MayIssueTransfer}, Masks.{ReadsDone, ReadsCiOrSact}, Tasks.{IsFitTransfer, IsTaskOf, RunsItsList}, Witness.{BatchIssueWitness, TransferIssueWitness}};
 
 use adapter::laws::{law_an_adapter_with_one_read_exists, law_slot_decodes_to_at_most_one_command};
 use block_machine::laws::law_issued_was_accepted_and_granted_at_issue;
 use refinement::acts::{
-    law_accesses_and_decisions_are_acts, law_acts_advance_driver, law_acts_compose,
+    law_acts_advance_driver, law_acts_compose, law_an_access_or_own_step_is_one_act,
 };
 use refinement::fragments::law_other_ports_are_untouched;
 use refinement::laws::{
@@ -20,7 +20,7 @@ use refinement::laws::{
     law_tables_and_idle_scratch_are_kept, law_two_stored_reads_example_agrees,
 };
 use refinement::port_facts::{
-    law_adapter_stays_the_same_and_switched_on, law_port_controls_stay_until_written,
+    law_adapter_stays_same_and_on_until_ghc_write, law_port_controls_stay_until_written,
 };
 use refinement::readying::{
     law_one_bit_arms_or_issues_slot, law_readied_may_be_issued,
@@ -28,11 +28,11 @@ use refinement::readying::{
 };
 
 /// No access that issues commands, or reads what is done, touches a register of another port, nor another port's bit of
-/// IS: so what is said of such accesses (`SparesOtherPorts`) is so of each.
+/// IS: so what is said of such accesses (`AccessesNoOtherPort`) is so of each.
 pub fn law_batch_and_mask_access_spares_other_ports()
     ensures issuing { (port : Port) (access : Access) → IsCommandIssueAccess port access
-        → SparesOtherPorts port access }
-    ensures finding { (port : Port) (access : Access) → ReadsCiOrSact port access → SparesOtherPorts port access }
+        → AccessesNoOtherPort port access }
+    ensures finding { (port : Port) (access : Access) → ReadsCiOrSact port access → AccessesNoOtherPort port access }
 {}
 
 /// Once all is stored that the tasks' commands need, and their slots are armed, the slots' bits of PxCI may be written,
@@ -42,10 +42,10 @@ pub fn law_ci_write_issues_armed_batch()
         → IsArmedFor port queued tasks own old armed → IsStable (MayWrite (Px port Ci) own) armed
         × ((new : Device) → Writes (Px port Ci) own armed new → IsBatchIssued port tasks old new) }
 {
-    law_accesses_and_decisions_are_acts();
+    law_an_access_or_own_step_is_one_act();
     law_acts_compose();
     law_acts_advance_driver();
-    law_adapter_stays_the_same_and_switched_on();
+    law_adapter_stays_same_and_on_until_ghc_write();
     law_one_bit_arms_or_issues_slot();
     law_port_controls_stay_until_written();
     law_device_steps_are_simulated();
@@ -101,7 +101,7 @@ pub fn law_batch_issues_come_last()
         (s : DriverSlots) (m : Machine) → IssuesBatch port tasks old new
         → AllZip (λ t e. IsTaskOf port t.slot t.task t.frames mode e) tasks es → IsReachable m
         → DriverRelation m (driver_state_of_slots s old) → MayServeBatch port tasks mode es s m
-        → EndsInSteps (driver_state_of_slots s old) m (issues_newest_first mode es)
+        → EndsInOwnStepsAfterDeviceSteps (driver_state_of_slots s old) m (issues_newest_first mode es)
         (driver_state_of_slots (with_serving_batch port tasks es s) new) }
     ensures no_unasked_page_moves { (port : Port) (tasks : List PlacedTask) (mode : QueueMode) (es : List Pending)
         (old new : Device)

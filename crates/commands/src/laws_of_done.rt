@@ -7,13 +7,13 @@ ghost use Rattle.adapter.specs.{Access.{Reads}, Device.{Device}, Rules.{IsOn}};
 ghost use Rattle.commands.specs.Masks.{IsDoneMask, ReadsDone, FindsEachClearSlot};
 
 use adapter::laws::law_step_lists_keep_what_steps_keep;
-use refinement::acts::law_accesses_and_decisions_are_acts;
+use refinement::acts::law_an_access_or_own_step_is_one_act;
 use refinement::laws::{
     law_advances_compose, law_book_only_advances_over_device_steps,
     law_device_and_faithful_step_lists_compose, law_register_reading_is_simulated,
 };
 use refinement::port_facts::{
-    law_adapter_stays_the_same_and_switched_on, law_port_controls_stay_until_written,
+    law_adapter_stays_same_and_on_until_ghc_write, law_port_controls_stay_until_written,
     law_slot_is_clear_iff_ended_while_st_set,
 };
 
@@ -23,8 +23,8 @@ pub fn law_ci_then_sact_reads_find_done_slots()
         → Reads (Px port Ci) issued old mid → Reads (Px port Sact) active mid new → IsDoneMask mask issued active done
         → ReadsDone port mask done old new × FindsEachClearSlot port mask done old }
 {
-    law_accesses_and_decisions_are_acts();
-    law_adapter_stays_the_same_and_switched_on();
+    law_an_access_or_own_step_is_one_act();
+    law_adapter_stays_same_and_on_until_ghc_write();
     law_port_controls_stay_until_written();
     law_slot_is_clear_iff_ended_while_st_set();
     law_advances_compose();

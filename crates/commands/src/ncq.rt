@@ -24,7 +24,7 @@ use command_table::{prds_in, write_table};
 use hba_regs::{PortReg, Reg, with_bit};
 use refinement::fragments::law_other_ports_are_untouched;
 use refinement::laws::law_writes_but_ci_stay_permitted;
-use refinement::port_facts::law_adapter_stays_the_same_and_switched_on;
+use refinement::port_facts::law_adapter_stays_same_and_on_until_ghc_write;
 
 /// Where a queued command has its tag, which is its slot: bits 7:3 of the count field (ACS-3).
 const TAG_FACTOR: u16 = 8;
@@ -197,7 +197,7 @@ pub fn done<A: Adapter>(adapter: &mut A, port: Port, mask: u32) -> u32
     ensures finds_each_that_was_clear { FindsEachClearSlot port mask result (A.device adapter.old) }
     ensures cost { MakesAtMost DONE_ACCESSES (A.access_count adapter.old) (A.access_count adapter.new) }
 {
-    law_adapter_stays_the_same_and_switched_on();
+    law_adapter_stays_same_and_on_until_ghc_write();
     law_ci_then_sact_reads_find_done_slots();
     let issued = adapter.read(Reg::Px(port, PortReg::Ci));
     let active = adapter.read(Reg::Px(port, PortReg::Sact));

@@ -14,7 +14,7 @@ use Rattle.ata_types.specs.declared.Port.{Port}
 use Rattle.ata_types.specs.declared.Slot.{Slot}
 use Rattle.sector_store.specs.declared.store.Failures.{Failures}
 use Rattle.device_model.specs.Disks.{bay_of, port_has_cache, disk_over, bay_failures, disk_failures, has_cache, lasting_of, page_source_of}
-use Rattle.device_model.specs.StepEffects.{ClearsFewer, HasCleared, CommandOfStepFails, SectorIsPastDiskOrStoreFails}
+use Rattle.device_model.specs.StepEffects.{ClearsFewerSectorsThan, HasCleared, CommandOfStepFails, SectorIsPastDiskOrStoreFails}
 use Rattle.device_model.specs.ModelState.{device_at, media_of, all_media_at}
 use Rattle.device_model.specs.DiskPages.{GainsOwnPages, with_logged_error}
 use Rattle.device_model.specs.SentFises.{SendsFault}
@@ -117,7 +117,7 @@ found_clear h o d port slot most run r has same is = next_has_clear h o d port s
 
 -- So many of the next sectors of a trim are cleared, or none: the rest is as it was, and the next one, if there is one, can be cleared.
 pub record IsPart {S : Type 0} (size : S → ℕ) (told : S → Option (ℕ → List ℕ)) (p : Port) (slot : Slot) (most first count : ℕ) (t : FetchedCommand) (old new : Model S) : Type 0 where
-  pub before : count < next_run_length most t → (device_at size told new ≡ device_at size told old) ⊎ ClearsFewer p.0 slot.0 most (device_at size told old) (device_at size told new)
+  pub before : count < next_run_length most t → (device_at size told new ≡ device_at size told old) ⊎ ClearsFewerSectorsThan p.0 slot.0 most (device_at size told old) (device_at size told new)
   pub whole : 1 ≤ count → DoesClear p.0 slot.0 most (device_at size told old) (device_at size told new)
   pub all : 1 ≤ count → count ≡ next_run_length most t → HasCleared (device_at size told old) (device_at size told new) p.0 slot.0 most
   pub more : count < next_run_length most t → HasClear (device_at size told new) p.0 slot.0 1 (record t { cleared = t.cleared + count })

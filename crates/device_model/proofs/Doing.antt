@@ -12,7 +12,7 @@ use Rattle.adapter.proofs.Runs.{Steps-refl}
 use Rattle.adapter.specs.Steps.{Can, Steps}
 use Rattle.adapter.specs.Steps.DeviceTransition.{Fault}
 use Rattle.sector_store.specs.declared.store.Failures.{Failures}
-use Rattle.device_model.specs.StepEffects.{AnswersStep, MayAskStore, ClearsFewer, Completes, DidStep, FailsToClear, FailsToMove, OwnStepsKeep, CommandOfStepFails, IsLeftOut, LacksMemory, MemoryIs4GibAtMostForStep, NoCallFailed, StepKeeps, IsPossible, asked_port, page_source_after_failure}
+use Rattle.device_model.specs.StepEffects.{AnswersStep, MayAskStore, ClearsFewerSectorsThan, Completes, DidStep, FailsToClear, FailsToMove, OwnStepsKeep, CommandOfStepFails, IsLeftOut, LacksMemory, MemoryIs4GibAtMostIfMoveOrTakenFinish, NoCallFailed, StepKeeps, IsPossible, asked_port, page_source_after_failure}
 use Rattle.device_model.specs.Disks.{bay_of, port_has_cache, disk_in_bay, numbered_disk, disk_failures, identity_of, page_source_of, disk_index_of}
 use Rattle.device_model.specs.ModelState.{device_at}
 use Rattle.device_model.specs.DiskPages.{GainsOwnPages}
@@ -167,7 +167,7 @@ module _ {S : Type 0} (size : S → ℕ) (told : S → Option (ℕ → List ℕ)
       (did ≡ true → DoesAtLeastOneSlotStep (SendsEnd slot.0) p.0 slot.0 (device_at size told old) (device_at size told mid)) → (did ≡ false → device_at size told mid ≡ device_at size told old) →
       Meanwhile size p.0 old mid → ((MayAskStore (asked.Finish p slot) (device_at size told old) → ⊥) → (which : DiskIndex) → numbered_disk mid p.0 which ≡ numbered_disk old p.0 which) →
       (did ≡ false → (which : DiskIndex) → numbered_disk mid p.0 which ≡ numbered_disk old p.0 which) → NoCallFailed failures old mid → asked_port s ≡ p.0 → IsLeftOut size told failures s mid new →
-      ((device_at size told old).memory_size ≤ 2 ^ 32 → MemoryIs4GibAtMostForStep s (device_at size told mid)) → IsPossible s (device_at size told mid) →
+      ((device_at size told old).memory_size ≤ 2 ^ 32 → MemoryIs4GibAtMostIfMoveOrTakenFinish s (device_at size told mid)) → IsPossible s (device_at size told mid) →
       (LacksMemory s (device_at size told mid) mid.hardware mid.bays.items → ⊥) → (t : FetchedCommand) → ((device_at size told mid).port p.0).taken slot.0 ≡ Some t →
       AnswersStep size told failures (asked.Finish p slot) did old new
   cut_short s p slot did old mid new may went stayed meanwhile same untouched none at step needs possible room t taken = by did went stayed untouched
@@ -289,7 +289,7 @@ module _ {S : Type 0} (size : S → ℕ) (told : S → Option (ℕ → List ℕ)
               (subst (λ says. FailsToClear (port_has_cache mid p.0) p.0 slot.0 (disk_failures failures mid p.0) (disk_failures failures new p.0) says (page_source_of new p.0) last (device_at size told new)) meanwhile.says f))),
         )
       where
-        on : (last ≡ device_at size told mid) ⊎ ClearsFewer p.0 slot.0 most (device_at size told mid) last →
+        on : (last ≡ device_at size told mid) ⊎ ClearsFewerSectorsThan p.0 slot.0 most (device_at size told mid) last →
             (last ≡ device_at size told old) ⊎ DoesAtLeastOneSlotStep (SendsEnd slot.0) p.0 slot.0 (device_at size told old) last
         on (inl same) =
             subst (λ (d : Device). (d ≡ device_at size told old) ⊎ DoesAtLeastOneSlotStep (SendsEnd slot.0) p.0 slot.0 (device_at size told old) d) (sym same)

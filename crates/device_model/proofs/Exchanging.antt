@@ -16,7 +16,7 @@ use Rattle.adapter.specs.declared.command.Direction.{Direction}
 use Rattle.adapter.specs.declared.command.Operation.{Operation}
 use Rattle.adapter.specs.declared.tape.Entry.{Entry}
 use Rattle.adapter.specs.declared.tape.Entry.TheVariants as entry
-use Rattle.device_model.specs.PieceTransfers.{IsTransferred, piece_of}
+use Rattle.device_model.specs.PieceTransfers.{IsTransferred, piece_in_memory}
 use Rattle.device_model.specs.FetchedBytes.{bytes_of}
 use Rattle.device_model.specs.Finishing.{TapeHasRoom}
 use Rattle.device_model.specs.Slots.{WorksOnIn, IsNextMove}
@@ -65,13 +65,13 @@ with_piece_is h at k d b is small size =
 
 -- the piece that stood there
 pub piece_was : (h : Hardware) (next : NextMove) (k : ℕ) (d : List ℕ) → d ≡ h.memory.items → k ≡ 512 →
-    next.address + 512 ≤ length h.memory.items → piece_of h next ≡ take k (drop next.address d)
+    next.address + 512 ≤ length h.memory.items → piece_in_memory h next ≡ take k (drop next.address d)
 piece_was h next k d is whole small =
     bytes_at-list h.memory.items next.address 512 small ∙ (λ i. take (sym whole i) (drop next.address (sym is i)))
 
 -- and the one that stands there now
 pub piece_is : (h : Hardware) (next : NextMove) (k : ℕ) (d b : List ℕ) → d ≡ h.memory.items → k ≡ 512 →
-    next.address + 512 ≤ length h.memory.items → length b ≡ 512 → piece_of (with_piece h next.address k d b) next ≡ b
+    next.address + 512 ≤ length h.memory.items → length b ≡ 512 → piece_in_memory (with_piece h next.address k d b) next ≡ b
 piece_is h next k d b is whole small size =
     let all : length d ≡ length h.memory.items = ap length is in
     let items = with_piece_is h next.address k d b is (omega (arith, all, whole, small)) (omega (arith, size, whole)) in
@@ -112,7 +112,7 @@ exchanged h next k d b is whole small size takes =
     by : (reads : Bool) → (reads ≡ true → b ≡ take k (drop next.address d)) →
         bytes_of (with_piece h next.address k d b).memory.items
         ≡ (if reads then bytes_of h.memory.items
-        else patched (bytes_of h.memory.items) next.address (piece_of (with_piece h next.address k d b) next))
+        else patched (bytes_of h.memory.items) next.address (piece_in_memory (with_piece h next.address k d b) next))
     by true same =
         ap (λ (l : List ℕ). bytes_of l)
         (items ∙ (ap (over next.address k d) (same (λ _. true)) ∙ (over_same next.address k d ∙ is)))
@@ -139,18 +139,18 @@ piece_stays h o next k d b is whole small same =
 pub port_moves_over : (old h : Hardware) (o : AllMedia) (p port slot : ℕ) (next : NextMove) (new : PortModel)
     (t : TakenCommand) (tape : Vec Entry) (operation : Operation) (direction : Direction) →
     IsTransferred old h next → p ≡ port → p < length h.ports → IsNextMove old port slot next t →
-    port_of new (media_after_move (o.media p) (taken_of t) (piece_of h next))
-    ≡ port_after_move (port_of (slice_index_or h.ports p reset_port_without_disk) (o.media p)) slot (taken_of t) (piece_of h next) →
+    port_of new (media_after_move (o.media p) (taken_of t) (piece_in_memory h next))
+    ≡ port_after_move (port_of (slice_index_or h.ports p reset_port_without_disk) (o.media p)) slot (taken_of t) (piece_in_memory h next) →
     operation ≡ next.operation → direction ≡ direction_of next.operation →
     tape.items
     ≡ h.tape.items
-    ++ entry.Move (moved_by port slot operation next.sector next.address direction (piece_of h next)) ∷ [] →
+    ++ entry.Move (moved_by port slot operation next.sector next.address direction (piece_in_memory h next)) ∷ [] →
     device_of (record h { ports = slice_set h.ports p new; tape = tape })
-    (all_media_after_move o port (taken_of t) (piece_of h next))
-    ≡ device_after (Move port slot (taken_of t) (piece_of h next)) (device_of old o)
+    (all_media_after_move o port (taken_of t) (piece_in_memory h next))
+    ≡ device_after (Move port slot (taken_of t) (piece_in_memory h next)) (device_of old o)
 port_moves_over old h o p port slot next new t tape operation direction is e small at moves named way more =
     let noted : Vec Entry = tape in
-    let bytes : List ℕ = piece_of h next in
+    let bytes : List ℕ = piece_in_memory h next in
     let effect : Device = device_after (Move port slot (taken_of t) bytes) (device_of old o) in
     let moved = port_moves old o p port slot next new t tape h.memory bytes operation direction e
     (subst (λ (x : Hardware). p < length x.ports) is.rest_is_kept small) at

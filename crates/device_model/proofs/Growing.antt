@@ -11,7 +11,7 @@ use Rattle.adapter.specs.declared.access.DeviceStep.{DeviceStep}
 use Rattle.sector_store.specs.declared.store.Failures.{Failures}
 use Rattle.device_model.specs.WriteCaches.{HasRoomForOldSectors, KeepsSameOldSectors}
 use Rattle.device_model.specs.Disks.{ModelHasRoomForOldSectors, BayHasRoomForOldSectors, BaysHaveRoomForOldSectors, bay_of, disk_in_bay, numbered_disk, lasting_of}
-use Rattle.device_model.specs.StepEffects.{HasCleared, IsLeftOut, LacksMemory, MemoryIs4GibAtMostForStep, IsPossible, StepKeeps, asked_port, cleared_count_on_disk}
+use Rattle.device_model.specs.StepEffects.{HasCleared, IsLeftOut, LacksMemory, MemoryIs4GibAtMostIfMoveOrTakenFinish, IsPossible, StepKeeps, asked_port, cleared_count_on_disk}
 use Rattle.device_model.specs.ModelState.{device_at, all_media_at}
 use Rattle.device_model.specs.OldSectors.{with_old_bytes}
 use Rattle.device_model.specs.Trims.{HasClear, sectors_left_to_change, next_uncleared, next_run_length, sectors_left_to_write}
@@ -57,7 +57,7 @@ module _ {S : Type 0} (size : S → ℕ) (told : S → Option (ℕ → List ℕ)
   -- a step is left
   pub grown_left : (s : DeviceStep) → asked_port s ≡ port → device_of new.hardware (all_media_at size told m) ≡ device_at size told m → new.held ≡ m.held → new.queue ≡ m.queue →
       new.accesses ≡ m.accesses →
-      (MemoryIs4GibAtMostForStep s (device_at size told m) → IsPossible s (device_at size told m) → LacksMemory s (device_at size told m) m.hardware m.bays.items × (new.hardware.starved ≡ true)) →
+      (MemoryIs4GibAtMostIfMoveOrTakenFinish s (device_at size told m) → IsPossible s (device_at size told m) → LacksMemory s (device_at size told m) m.hardware m.bays.items × (new.hardware.starved ≡ true)) →
       (m.hardware.starved ≡ true → new.hardware.starved ≡ true) →
       (new.hardware.starved ≡ true → (m.hardware.starved ≡ true) ⊎ (IsPossible s (device_at size told m) × LacksMemory s (device_at size told m) m.hardware m.bays.items)) →
       IsLeftOut size told failures s m new

@@ -12,9 +12,9 @@ use Rattle.adapter.specs.declared.command.Operation.{Operation}
 use Rattle.adapter.specs.declared.command.Operation.TheVariants as operation
 use Rattle.adapter.proofs.Going.{post_steps}
 use Rattle.sector_store.specs.declared.store.Failures.{Failures}
-use Rattle.device_model.specs.StepEffects.{ClearsFewer, DidStep, StepFails, FailsToClear, FailsToMove}
+use Rattle.device_model.specs.StepEffects.{ClearsFewerSectorsThan, DidStep, StepFails, FailsToClear, FailsToMove}
 use Rattle.device_model.specs.ModelState.{device_at}
-use Rattle.device_model.specs.SentFises.{IsSentOrLost, SendsFisOfAskedStep, SendsFisAfterTransition, SendsEnd, SendsFaultOfOperation, SendsFault, fre_is_set_and_area_fits}
+use Rattle.device_model.specs.SentFises.{IsSentOrLost, SendsFisOfAskedEndOrFault, SendsFisAfterTransition, SendsEnd, SendsFaultOfOperation, SendsFault, fre_is_set_and_area_fits}
 use Rattle.device_model.specs.declared.bay.PageSource.{PageSource}
 use Rattle.device_model.specs.declared.model.Model.{Model}
 
@@ -106,7 +106,7 @@ failed_may port slot error kept old new f =
     let o : Operation = f.fault.fetched_command.meaning.operation in
     record { after_failure = f.after_failure; fault = f.fault; posts = fault_may (is_queued o) port o f.after_failure new f.posts }
 
-done_may : (s : DeviceStep) (old new : Device) → DoesAskedStep (SendsFisOfAskedStep s) s old new → DoesAskedStep PostsAnyBytesOrNone s old new
+done_may : (s : DeviceStep) (old new : Device) → DoesAskedStep (SendsFisOfAskedEndOrFault s) s old new → DoesAskedStep PostsAnyBytesOrNone s old new
 done_may (asked.Fetch p slot) old new did = did
 done_may (asked.Move p slot) old new did = did
 done_may (asked.Clear p slot most) old new did = did
@@ -151,7 +151,7 @@ fails_may (asked.Fetch p s) cached was now says later old new f = inr (record {
 fails_may (asked.Move p s) cached was now says later old new f =
     inr (f.error, failed_may p.0 s.0 f.error 0 old new (moving_fails cached p.0 s.0 was now says later old new f))
 fails_may (asked.Clear p s most) cached was now says later old new (mid, before, f) =
-    inr (fails_after_may p.0 s.0 f.error (ClearsFewer p.0 s.0 most) (DoesClear p.0 s.0 most) (λ a b some. some.0) old mid new before
+    inr (fails_after_may p.0 s.0 f.error (ClearsFewerSectorsThan p.0 s.0 most) (DoesClear p.0 s.0 most) (λ a b some. some.0) old mid new before
     (clearing_fails cached p.0 s.0 was now says later mid new f))
 fails_may (asked.Finish p s) cached was now says later old new (mid, before, inl f) =
     inr (fails_after_may p.0 s.0 f.error (DoesAtLeastOneSlotStep (SendsEnd s.0) p.0 s.0) (DoesAtLeastOneSlotStep PostsAnyBytesOrNone p.0 s.0) (λ a b g. (g.0, some_may (suc g.0) p.0 s.0 a b g.1)) old mid new before

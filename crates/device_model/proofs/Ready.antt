@@ -19,7 +19,7 @@ use Rattle.device_model.specs.Finishing.{HasFinishablePageCommand, FindsPageComm
 use Rattle.device_model.specs.FetchedBytes.{IsNewlyTaken, bytes_of}
 use Rattle.device_model.specs.WriteCaches.{HasRoomForOldSectors}
 use Rattle.device_model.specs.Trims.{HasClearsLeft, sectors_left_to_change}
-use Rattle.device_model.specs.Slots.{AdmitsBesideTaken, MayTakeIfDecoded, HasIssuedUntakenOnWorkingPort, WorksOnIn}
+use Rattle.device_model.specs.Slots.{AdmitsByHaltAndTaken, MayTakeIfDecoded, IsFetchableIfHaltAdmits, WorksOnIn}
 use Rattle.device_model.specs.WordBits.{word_bits}
 use Rattle.device_model.specs.PortView.{Media, halt_of, taken_in, port_of, taken_of, reset_port_without_disk}
 use Rattle.device_model.specs.WholeAdapter.{AllMedia, device_of}
@@ -108,9 +108,9 @@ MayTakeNone p slot = (m : Media) (operation : Operation) → MayTakeIfDecoded (p
 
 -- this command may be taken beside those that are
 abbrev pub IsBeside : PortModel → TakenCommand → Type 0
-IsBeside p r = AdmitsBesideTaken p r.operation
+IsBeside p r = AdmitsByHaltAndTaken p r.operation
 
-pub may_be_taken : (p : PortModel) (slot : ℕ) (r : TakenCommand) → HasIssuedUntakenOnWorkingPort p slot → IsBeside p r → (m : Media) →
+pub may_be_taken : (p : PortModel) (slot : ℕ) (r : TakenCommand) → IsFetchableIfHaltAdmits p slot → IsBeside p r → (m : Media) →
     MayTakeIfDecoded (port_of p m) slot r.operation
 may_be_taken p slot r may beside m =
     let w = may m r.operation beside.0 in record { fetchable = w.0; working = w.1; is_unmixed = beside.1 m }
@@ -119,7 +119,7 @@ module _ (h : Hardware) (o : AllMedia) (p port slot left clears : ℕ) (e : p �
   abbrev state : PortModel
   state = slice_index_or h.ports p reset_port_without_disk
 
-  pub ready_fetch : HasIssuedUntakenOnWorkingPort state slot →
+  pub ready_fetch : IsFetchableIfHaltAdmits state slot →
       Can (Fetch port slot ready.fetched_command.meaning ready.fetched_command.places) (device_of h o) × (ready.fetched_command ≡ newly_fetched ready.fetched_command.meaning ready.fetched_command.places)
   ready_fetch may = by ready.is_begun_or_fetchable
     where
@@ -129,7 +129,7 @@ module _ (h : Hardware) (o : AllMedia) (p port slot left clears : ℕ) (e : p �
       by (inl works) = some-none (ap (λ (q : ℕ). ((device_of h o).port q).taken slot) e ∙ works.taken) (may (o.media p) ready.fetched_command.meaning.operation (ap (λ (q : ℕ). admits ((device_of h o).port q).halt ready.fetched_command.meaning.operation) e ∙ works.working.admitted)).0.free
       by (inr begins) = begins
 
-  pub ready_said : HasIssuedUntakenOnWorkingPort state slot → DecodesTo (bytes_of h.memory.items) state.addresses.clb slot ready.fetched_command.meaning ready.fetched_command.places
+  pub ready_said : IsFetchableIfHaltAdmits state slot → DecodesTo (bytes_of h.memory.items) state.addresses.clb slot ready.fetched_command.meaning ready.fetched_command.places
   ready_said may = fetch_says h o p port slot ready.fetched_command.meaning ready.fetched_command.places e (ready_fetch may).0
 
   pub ready_held : MayTakeNone state slot → (r : TakenCommand) × WorksOnIn state slot r × (ready.fetched_command ≡ taken_of r)
@@ -146,7 +146,7 @@ module _ (h : Hardware) (o : AllMedia) (p port slot left clears : ℕ) (e : p �
 module _ (h : Hardware) (p port slot : ℕ) (r : TakenCommand) (e : p ≡ port) where
   -- a command that may be taken is ready
   pub ready_to_take : (left clears : ℕ) → HasMovesAndTrimRunsLeft r h.memory.items left clears → IsNewlyTaken r →
-      HasIssuedUntakenOnWorkingPort (slice_index_or h.ports p reset_port_without_disk) slot → IsBeside (slice_index_or h.ports p reset_port_without_disk) r →
+      IsFetchableIfHaltAdmits (slice_index_or h.ports p reset_port_without_disk) slot → IsBeside (slice_index_or h.ports p reset_port_without_disk) r →
       DecodesTo (bytes_of h.memory.items) (slice_index_or h.ports p reset_port_without_disk).addresses.clb slot (taken_of r).meaning (taken_of r).places →
       (o : AllMedia) → MayFinish (device_of h o) port slot left clears
   ready_to_take left clears rest new may beside says o =
@@ -176,7 +176,7 @@ module _ (h : Hardware) (p port slot : ℕ) (r : TakenCommand) (e : p ≡ port) 
       (subst Q same ready.has_moves_left, subst R same ready.has_trim_runs_left)
 
   -- where a command may be taken, one that is ready is the one that its slot's bytes say
-  pub ready_is_one : HasIssuedUntakenOnWorkingPort (slice_index_or h.ports p reset_port_without_disk) slot → IsNewlyTaken r →
+  pub ready_is_one : IsFetchableIfHaltAdmits (slice_index_or h.ports p reset_port_without_disk) slot → IsNewlyTaken r →
       DecodesTo (bytes_of h.memory.items) (slice_index_or h.ports p reset_port_without_disk).addresses.clb slot (taken_of r).meaning (taken_of r).places →
       (o : AllMedia) (left clears : ℕ) (ready : MayFinish (device_of h o) port slot left clears) → ready.fetched_command ≡ taken_of r
   ready_is_one may new says o left clears ready =
@@ -188,14 +188,14 @@ module _ (h : Hardware) (p port slot : ℕ) (r : TakenCommand) (e : p ≡ port) 
       let places = says_places memory list slot t.meaning (taken_of r).meaning t.places (taken_of r).places there says in
       (ready_fetch h o p port slot left clears e ready may).1 ∙ ((λ i. newly_fetched (meaning i) (places i)) ∙ sym (new_begun r new))
 
-  pub ready_is_said : HasIssuedUntakenOnWorkingPort (slice_index_or h.ports p reset_port_without_disk) slot → IsNewlyTaken r →
+  pub ready_is_said : IsFetchableIfHaltAdmits (slice_index_or h.ports p reset_port_without_disk) slot → IsNewlyTaken r →
       DecodesTo (bytes_of h.memory.items) (slice_index_or h.ports p reset_port_without_disk).addresses.clb slot (taken_of r).meaning (taken_of r).places →
       (o : AllMedia) (left clears : ℕ) → MayFinish (device_of h o) port slot left clears → HasMovesAndTrimRunsLeft r h.memory.items left clears
   ready_is_said may new says o left clears ready =
       rest_back left clears o ready (ready_is_one may new says o left clears ready)
 
   -- one that may not be taken beside those that are isn't ready
-  pub ready_beside : HasIssuedUntakenOnWorkingPort (slice_index_or h.ports p reset_port_without_disk) slot → IsNewlyTaken r →
+  pub ready_beside : IsFetchableIfHaltAdmits (slice_index_or h.ports p reset_port_without_disk) slot → IsNewlyTaken r →
       DecodesTo (bytes_of h.memory.items) (slice_index_or h.ports p reset_port_without_disk).addresses.clb slot (taken_of r).meaning (taken_of r).places →
       (o : AllMedia) (left clears : ℕ) → MayFinish (device_of h o) port slot left clears →
       (admits (halt_of (slice_index_or h.ports p reset_port_without_disk).halting) r.operation ≡ true)
@@ -270,7 +270,7 @@ module _ (h : Hardware) (port slot size : ℕ) (sized : size ≡ vec_len h.memor
 
   -- one that may be taken
   pub page_said : (r : TakenCommand) → IsNewlyTaken r → DecodesTo (bytes_of h.memory.items) here.addresses.clb slot (taken_of r).meaning (taken_of r).places →
-      sends_page r.operation ≡ true → HasIssuedUntakenOnWorkingPort here slot → IsBeside here r → Ends r → (o : AllMedia) → HasFinishablePageCommand (device_of h o) port slot
+      sends_page r.operation ≡ true → IsFetchableIfHaltAdmits here slot → IsBeside here r → Ends r → (o : AllMedia) → HasFinishablePageCommand (device_of h o) port slot
   page_said r new says kind may beside ends o =
       let m = may (o.media port) r.operation beside.0 in
       record {
@@ -287,13 +287,13 @@ module _ (h : Hardware) (port slot size : ℕ) (sized : size ≡ vec_len h.memor
 
   -- no other one may be
   pub page_unsaid : ((m : Meaning) (places : List ℕ) → sends_page m.operation ≡ true → DecodesTo (bytes_of h.memory.items) here.addresses.clb slot m places → ⊥) →
-      HasIssuedUntakenOnWorkingPort here slot → (o : AllMedia) → HasFinishablePageCommand (device_of h o) port slot → ⊥
+      IsFetchableIfHaltAdmits here slot → (o : AllMedia) → HasFinishablePageCommand (device_of h o) port slot → ⊥
   page_unsaid none may o has =
       none has.may_finish.fetched_command.meaning has.may_finish.fetched_command.places has.sends_page (ready_said h o port port slot has.moves_left 0 refl has.may_finish may)
 
   -- and where one may be taken, it is the one that is ready
   pub page_endless : (r : TakenCommand) → IsNewlyTaken r → DecodesTo (bytes_of h.memory.items) here.addresses.clb slot (taken_of r).meaning (taken_of r).places →
-      HasIssuedUntakenOnWorkingPort here slot → ((left : ℕ) → HasMovesLeftInMemory (taken_of r) size left → PiecesInside (2 ^ 32) (pieces r.prds) → ⊥) → (o : AllMedia) →
+      IsFetchableIfHaltAdmits here slot → ((left : ℕ) → HasMovesLeftInMemory (taken_of r) size left → PiecesInside (2 ^ 32) (pieces r.prds) → ⊥) → (o : AllMedia) →
       HasFinishablePageCommand (device_of h o) port slot → ⊥
   page_endless r new says may never o has =
       let same = ready_is_one h port port slot r refl may new says o has.moves_left 0 has.may_finish in
@@ -333,7 +333,7 @@ module _ (h : Hardware) (port slot : ℕ) where
 
   -- one that its slot's bytes say may be taken
   pub may_page : (r : TakenCommand) → DecodesTo (bytes_of h.memory.items) first.addresses.clb slot (taken_of r).meaning (taken_of r).places →
-      sends_page r.operation ≡ true → HasIssuedUntakenOnWorkingPort first slot → IsBeside first r → (o : AllMedia) → MayTakePageCommand (device_of h o) port slot
+      sends_page r.operation ≡ true → IsFetchableIfHaltAdmits first slot → IsBeside first r → (o : AllMedia) → MayTakePageCommand (device_of h o) port slot
   may_page r says kind may beside o =
       let m = may (o.media port) r.operation beside.0 in
       record {
@@ -344,7 +344,7 @@ module _ (h : Hardware) (port slot : ℕ) where
       }
 
   -- and so may one that can be done to its end, where one may be
-  pub ready_may : HasIssuedUntakenOnWorkingPort first slot → (o : AllMedia) → HasFinishablePageCommand (device_of h o) port slot → MayTakePageCommand (device_of h o) port slot
+  pub ready_may : IsFetchableIfHaltAdmits first slot → (o : AllMedia) → HasFinishablePageCommand (device_of h o) port slot → MayTakePageCommand (device_of h o) port slot
   ready_may may o has = record {
     meaning = has.may_finish.fetched_command.meaning;
     places = has.may_finish.fetched_command.places;

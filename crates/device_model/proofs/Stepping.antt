@@ -19,7 +19,7 @@ use Rattle.adapter.specs.declared.tape.Move as tape_move
 use Rattle.adapter.specs.AskedSteps.{DoesFatal, DoesFault, DoesFetch, EndsAndPosts, fatal_bit}
 use Rattle.device_model.specs.FetchedBytes.{bytes_of}
 use Rattle.device_model.specs.SentFises.{SendsEnd}
-use Rattle.device_model.specs.Slots.{HasIssuedUntakenOnWorkingPort, MayTakeIfDecoded, WorksOnIn, IsNextMove}
+use Rattle.device_model.specs.Slots.{IsFetchableIfHaltAdmits, MayTakeIfDecoded, WorksOnIn, IsNextMove}
 use Rattle.device_model.specs.PortView.{Media, cause_of, halt_of, taken_in, bsy_if_disk_left_busy, media_after_move, media_after_clear, media_after_end, port_of, taken_of, reset_port_without_disk}
 use Rattle.device_model.specs.WholeAdapter.{AllMedia, device_of, media_after_plug, all_media_after_move, all_media_after_clear, all_media_after_end, all_media_after_plug}
 use Rattle.device_model.specs.declared.port.TakenCommand.{TakenCommand}
@@ -140,7 +140,7 @@ port_ends h o p port slot new t tape last e small holds all is more sends =
     })
 
 -- what is issued and means no command may fail for that, where no fault keeps it waiting
-pub may_fail_senseless : (h : Hardware) (o : AllMedia) (p port slot : ℕ) → p ≡ port → HasIssuedUntakenOnWorkingPort (slice_index_or h.ports p reset_port_without_disk) slot →
+pub may_fail_senseless : (h : Hardware) (o : AllMedia) (p port slot : ℕ) → p ≡ port → IsFetchableIfHaltAdmits (slice_index_or h.ports p reset_port_without_disk) slot →
     admits (halt_of (slice_index_or h.ports p reset_port_without_disk).halting) Identify ≡ true →
     ((m : Meaning) (places : List ℕ) → DecodesTo (bytes_of h.memory.items) (slice_index_or h.ports p reset_port_without_disk).addresses.clb slot m places → ⊥) →
     MayFetchFault (device_of h o) port slot 0

@@ -24,7 +24,7 @@ use Rattle.device_model.specs.StepEffects.{AnswersStep, EndsIfFinishAndClearsRun
 use Rattle.device_model.specs.Finishing.{TapeHasRoom, IsImpossibleOrLacksTape}
 use Rattle.device_model.specs.HeldPorts.{held_after}
 use Rattle.device_model.specs.ModelState.{device_at, media_of, all_media_at, tells}
-use Rattle.device_model.specs.SentFises.{SendsFisOfAskedStep, SendsEnd, SendsFaultOfOperation, SendsFault}
+use Rattle.device_model.specs.SentFises.{SendsFisOfAskedEndOrFault, SendsEnd, SendsFaultOfOperation, SendsFault}
 use Rattle.device_model.specs.PortView.{bsy_if_disk_left_busy, media_after_end}
 use Rattle.device_model.specs.WholeAdapter.{AllMedia, device_of, all_media_after_end}
 use Rattle.device_model.specs.declared.hardware.Hardware.{Hardware}
@@ -266,7 +266,7 @@ module _ {S : Type 0} (size : S → ℕ) (told : S → Option (ℕ → List ℕ)
   -- a command that is taken fails: in the model the log names it, if it is queued
   module _ (step : DeviceStep) (s : Slot) (error kept : ℕ) (may : IsPossible step (device_at size told m))
       (f : FailsAndPosts SendsFaultOfOperation (asked_port step) s.0 error kept (device_of m.hardware behind) (device_of h behind)) (starved : h.starved ≡ m.hardware.starved)
-      (done : (old last : Device) → FailsAndPosts SendsFaultOfOperation (asked_port step) s.0 error kept old last → DoesAskedStep (SendsFisOfAskedStep step) step old last)
+      (done : (old last : Device) → FailsAndPosts SendsFaultOfOperation (asked_port step) s.0 error kept old last → DoesAskedStep (SendsFisOfAskedEndOrFault step) step old last)
       (ends : (old last : Device) → EndsIfFinishAndClearsRunIfClear step old last)
       (safe : is_cache_loss step ≡ false)
       (tells : (said : Option PageSource) → page_source_after step (device_at size told m) said ≡ page_source_after_failure (((device_at size told m).port (asked_port step)).taken s.0) s.0 error said)
@@ -382,7 +382,7 @@ module _ {S : Type 0} (size : S → ℕ) (told : S → Option (ℕ → List ℕ)
       ((TapeHasRoom m.hardware 1 → ⊥) → LacksMemory s (device_at size told m) m.hardware m.bays.items) → page_source_of m (asked_port s) ≡ page_source_after s (device_at size told m) (page_source_of m (asked_port s)) →
       m.held ≡ held_after s m.held → disk_index_of m (asked_port s) ≡ disk_index_after s (disk_index_of m (asked_port s)) → EndsIfFinishAndClearsRunIfClear s (device_of m.hardware behind) (device_of h behind) →
       is_cache_loss s ≡ false →
-      (did ≡ true → possible × DoesAskedStep (SendsFisOfAskedStep s) s (device_of m.hardware behind) (device_of h behind) × (h.tape.items ≡ m.hardware.tape.items ++ note ∷ [])) →
+      (did ≡ true → possible × DoesAskedStep (SendsFisOfAskedEndOrFault s) s (device_of m.hardware behind) (device_of h behind) × (h.tape.items ≡ m.hardware.tape.items ++ note ∷ [])) →
       (did ≡ false → device_of h behind ≡ device_of m.hardware behind) → (did ≡ false → IsImpossibleOrLacksTape m.hardware h possible) →
       (did ≡ true → h.starved ≡ m.hardware.starved) → AnswersStep size told failures s did m new
   noted_answers s true possible note no_move forth back lacks says held which ends safe done same passed starved =
@@ -428,7 +428,7 @@ module _ {S : Type 0} (size : S → ℕ) (told : S → Option (ℕ → List ℕ)
   lied = record m { bays = bays }
 
   -- a step that asks for nothing else is done
-  pub lie_answers : IsPossible s (device_at size told m) → ((old new : Device) → new ≡ old → DoesAskedStep (SendsFisOfAskedStep s) s old new) → ((old new : Device) → EndsIfFinishAndClearsRunIfClear s old new) →
+  pub lie_answers : IsPossible s (device_at size told m) → ((old new : Device) → new ≡ old → DoesAskedStep (SendsFisOfAskedEndOrFault s) s old new) → ((old new : Device) → EndsIfFinishAndClearsRunIfClear s old new) →
       is_cache_loss s ≡ false →
       option_map name (page_source_of m (asked_port s)) ≡ page_source_after s (device_at size told m) (page_source_of m (asked_port s)) → m.held ≡ held_after s m.held →
       disk_index_of m (asked_port s) ≡ disk_index_after s (disk_index_of m (asked_port s)) → AnswersStep size told failures s true m lied

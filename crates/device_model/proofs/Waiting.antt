@@ -11,10 +11,10 @@ use Rattle.adapter.specs.declared.access.DeviceStep.{DeviceStep}
 use Rattle.adapter.specs.declared.access.DeviceStep.TheVariants as asked
 use Rattle.sector_store.specs.declared.store.Failures.{Failures}
 use Rattle.device_model.specs.Disks.{disk_in_bay, disk_number, numbered_disk, disk_index_of}
-use Rattle.device_model.specs.StepEffects.{AnswersStep, MayAskStore, ClearsFewer, StepFails, FailsToClear, FailsToMove, IsPossible, PutsDiskIntoPort, asked_port, disk_index_after}
+use Rattle.device_model.specs.StepEffects.{AnswersStep, MayAskStore, ClearsFewerSectorsThan, StepFails, FailsToClear, FailsToMove, IsPossible, PutsDiskIntoPort, asked_port, disk_index_after}
 use Rattle.device_model.specs.ModelState.{device_at}
 use Rattle.device_model.specs.Queue.{AnswersEachStep}
-use Rattle.device_model.specs.SentFises.{SendsFisOfAskedStep, SendsEnd}
+use Rattle.device_model.specs.SentFises.{SendsFisOfAskedEndOrFault, SendsEnd}
 use Rattle.device_model.specs.declared.disks.DiskIndex.{DiskIndex}
 use Rattle.device_model.specs.declared.disks.DiskIndex.TheVariants.{Disk0, Disk1}
 use Rattle.device_model.specs.declared.bay.PageSource.{PageSource}
@@ -69,7 +69,7 @@ still_out l (asked.LosePlug p) d q w v at out never may = out
 
 -- where a port has no disk in it, nothing that is asked puts one in, but a Plug
 still_empty : (s : DeviceStep) (old new : Device) (q : ℕ) (w : DiskIndex) (v : Option DiskIndex) → (old.port q).present ≡ false → (PutsDiskIntoPort (Some w) q w s → ⊥) → IsPossible s old →
-    DoesAskedStep (SendsFisOfAskedStep s) s old new → (q ≡ asked_port s → disk_index_after s v ≡ Some w) → (new.port q).present ≡ false
+    DoesAskedStep (SendsFisOfAskedEndOrFault s) s old new → (q ≡ asked_port s → disk_index_after s v ≡ Some w) → (new.port q).present ≡ false
 still_empty (asked.Fetch p s) old new q w v empty never may did same = one_keeps_present q p.0 s.0 old new (inl did) ∙ empty
 still_empty (asked.Move p s) old new q w v empty never may did same = one_keeps_present q p.0 s.0 old new (inr (inl did)) ∙ empty
 still_empty (asked.Clear p s n) old new q w v empty never may did same = one_keeps_present q p.0 s.0 old new (inr (inr (inr (n, did)))) ∙ empty
@@ -106,7 +106,7 @@ still_failed q (asked.Move p s) cached was now says later old new empty f = movi
 still_failed q (asked.Clear p s most) cached was now says later old new empty (mid, before, f) =
     clearing_keeps cached q p.0 s.0 was now says later mid new f ∙ (by before ∙ empty)
   where
-    by : (mid ≡ old) ⊎ ClearsFewer p.0 s.0 most old mid → (mid.port q).present ≡ (old.port q).present
+    by : (mid ≡ old) ⊎ ClearsFewerSectorsThan p.0 s.0 most old mid → (mid.port q).present ≡ (old.port q).present
     by (inl same) = ap (λ (d : Device). (d.port q).present) same
     by (inr did) = one_keeps_present q p.0 s.0 old mid (inr (inr (inr (most, did.0))))
 still_failed q (asked.Finish p s) cached was now says later old new empty (mid, before, f) = by f ∙ (went before ∙ empty)

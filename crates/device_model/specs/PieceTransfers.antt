@@ -5,7 +5,7 @@ use Rattle.adapter.specs.Device.{IsValidSector}
 use Rattle.adapter.specs.Memory.{bytes_at, patched}
 use Rattle.adapter.specs.Steps.{disk_after}
 use Rattle.sector_store.specs.declared.store.Failures.{Failures}
-use Rattle.device_model.specs.WriteCaches.{CallFails, HasRoomForOldSectors}
+use Rattle.device_model.specs.WriteCaches.{OneMoreCallFails, HasRoomForOldSectors}
 use Rattle.device_model.specs.Disks.{disk_over, identity, lasting_of}
 use Rattle.device_model.specs.FetchedBytes.{bytes_of}
 use Rattle.device_model.specs.DiskPages.{IsSentLog, IsSentIdentify}
@@ -15,9 +15,9 @@ use Rattle.device_model.specs.declared.hardware.Hardware.{Hardware}
 use Rattle.adapter.specs.declared.command.Operation.TheVariants.{Identify, ReadLog}
 use Rattle.device_model.specs.declared.steps.NextMove.{NextMove}
 
--- the bytes of memory that it moves
-abbrev pub piece_of : Hardware → NextMove → List ℕ
-piece_of h next = bytes_at (bytes_of h.memory.items) next.address 512
+-- the 512 bytes that stand in the memory at the place of the next move
+abbrev pub piece_in_memory : Hardware → NextMove → List ℕ
+piece_in_memory h next = bytes_at (bytes_of h.memory.items) next.address 512
 
 -- it was exchanged: it stands in memory, where nothing else is another; what the device reads there is as it was
 pub record IsTransferred (old new : Hardware) (next : NextMove) : Type 0 where
@@ -25,7 +25,7 @@ pub record IsTransferred (old new : Hardware) (next : NextMove) : Type 0 where
   pub memory_size_is_kept : length new.memory.items ≡ length old.memory.items
   pub memory_is : bytes_of new.memory.items
       ≡ (if reads_memory next.operation then bytes_of old.memory.items
-      else patched (bytes_of old.memory.items) next.address (piece_of new next))
+      else patched (bytes_of old.memory.items) next.address (piece_in_memory new next))
 
 -- Bytes of memory, as they were and as they are now. The disk that is in has given them: the sector of a read, or its
 -- page. Or it has taken them as a write's sector, or they are a trim's block. Or the store has failed: it tells what it
@@ -54,7 +54,7 @@ pub record TransfersPieceOrFails {S : Type 0} (size : S → ℕ) (told : S → O
   pub no_call_failed : done ≡ true → failures new.disk.store ≡ failures old.disk.store
   pub only_ranged_fails : done ≡ false → is_ranged next.operation ≡ true
   pub failure_is_noted : done ≡ false → next.sector < size old.disk.store →
-      CallFails old.cache.is_on (reads_memory next.operation) next.sector (failures
+      OneMoreCallFails old.cache.is_on (reads_memory next.operation) next.sector (failures
       old.disk.store)
       (failures new.disk.store)
   pub lasting_is_kept : lasting_of told new ≡ lasting_of told old

@@ -36,8 +36,15 @@ page_setup_fis p =
 
 -- A command ended, or a plain one failed: LBA, device and count, which are reserved where it ended (ACS-3), are zero. A
 -- disk may tell in LBA where a command failed: the model's tells 0.
-abbrev pub end_fis : DevicePort → DeviceToHost
-end_fis p = record { interrupt = true; status = p.tfd % 256; error = p.tfd / 256; lba = 0; device = 0; count = 0 }
+abbrev pub end_or_failure_d2h_fis : DevicePort → DeviceToHost
+end_or_failure_d2h_fis p = record {
+  interrupt = true;
+  status = p.tfd % 256;
+  error = p.tfd / 256;
+  lba = 0;
+  device = 0;
+  count = 0;
+}
 
 -- the queued command of a slot ended without error: its tag, and the status without BSY and DRQ, which this FIS doesn't
 -- set
@@ -102,24 +109,25 @@ SendsEnd slot port cause_bit ReadQueued old new = (cause_bit ≡ 3)
     × SendsSetDeviceBits port (ended_tag_fis slot (old.port port)) old new
 SendsEnd slot port cause_bit WriteQueued old new = (cause_bit ≡ 3)
     × SendsSetDeviceBits port (ended_tag_fis slot (old.port port)) old new
-SendsEnd slot port cause_bit _ old new = (cause_bit ≡ 0) × SendsDeviceToHost port (end_fis (old.port port)) old new
+SendsEnd slot port cause_bit _ old new = (cause_bit ≡ 0) × SendsDeviceToHost port (end_or_failure_d2h_fis (old.port
+    port)) old new
 
 -- As a command fails, with TFES of PxIS: of a queued one a Set Device Bits FIS, and of another one, or of what means
 -- none, a Register FIS (TFES: AHCI 1.3.1, 3.3.5).
 abbrev pub SendsFault : (queued : Bool) → (port : ℕ) → Device → Device → Type 0
 SendsFault true port old new = SendsSetDeviceBits port (queued_failure_fis (old.port port)) old new
-SendsFault false port old new = SendsDeviceToHost port (end_fis (old.port port)) old new
+SendsFault false port old new = SendsDeviceToHost port (end_or_failure_d2h_fis (old.port port)) old new
 
 abbrev pub SendsFaultOfOperation : (port cause_bit : ℕ) → Operation → Device → Device → Type 0
 SendsFaultOfOperation port cause_bit operation old new = SendsFault (is_queued operation) port old new
 
 -- as the command of the slot that a step names ends or fails
-abbrev pub SendsFisOfAskedStep : DeviceStep → (port cause_bit : ℕ) → Operation → Device → Device → Type 0
-SendsFisOfAskedStep (asked.Done p s) = SendsEnd s.0
-SendsFisOfAskedStep (asked.Finish p s) = SendsEnd s.0
-SendsFisOfAskedStep (asked.Fault p s error) = SendsFaultOfOperation
-SendsFisOfAskedStep (asked.FaultBusy p s error) = SendsFaultOfOperation
-SendsFisOfAskedStep step = PostsNone
+abbrev pub SendsFisOfAskedEndOrFault : DeviceStep → (port cause_bit : ℕ) → Operation → Device → Device → Type 0
+SendsFisOfAskedEndOrFault (asked.Done p s) = SendsEnd s.0
+SendsFisOfAskedEndOrFault (asked.Finish p s) = SendsEnd s.0
+SendsFisOfAskedEndOrFault (asked.Fault p s error) = SendsFaultOfOperation
+SendsFisOfAskedEndOrFault (asked.FaultBusy p s error) = SendsFaultOfOperation
+SendsFisOfAskedEndOrFault step = PostsNone
 
 -- after a step that the model does by itself: as a command ends, and as the link comes up
 abbrev pub SendsFisAfterTransition : DeviceTransition → Device → Device → Type 0

@@ -20,16 +20,16 @@ pub record MayTakeIfDecoded (p : DevicePort) (slot : ℕ) (operation : Operation
   pub working : IsWorking p operation
   pub is_unmixed : IsUnmixed p operation
 
--- the slot has a command that is issued and not taken, on a port that works: it may be taken, if its bytes say one that
--- may be now
-abbrev pub HasIssuedUntakenOnWorkingPort : PortModel → ℕ → Type 0
-HasIssuedUntakenOnWorkingPort p slot =
+-- for each operation that the port's halt admits: the slot has a command that is issued and not taken, and the port
+-- works on that operation (of a port that a fault has halted it says nothing)
+abbrev pub IsFetchableIfHaltAdmits : PortModel → ℕ → Type 0
+IsFetchableIfHaltAdmits p slot =
     (m : Media) (operation : Operation) → admits (halt_of p.halting) operation ≡ true → IsFetchable (port_of p m) slot
     × IsWorking (port_of p m) operation
 
 -- such a command may be now: no fault keeps it waiting, and it goes beside those that are taken
-abbrev pub AdmitsBesideTaken : PortModel → Operation → Type 0
-AdmitsBesideTaken p operation = (admits (halt_of p.halting) operation ≡ true) × ((m : Media)
+abbrev pub AdmitsByHaltAndTaken : PortModel → Operation → Type 0
+AdmitsByHaltAndTaken p operation = (admits (halt_of p.halting) operation ≡ true) × ((m : Media)
     → IsUnmixed (port_of p m) operation)
 
 -- the port works on this command, which it has taken in this slot

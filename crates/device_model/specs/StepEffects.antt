@@ -13,13 +13,13 @@ use Rattle.adapter.specs.declared.tape.Entry.{Entry}
 use Rattle.ata_types.specs.declared.Port.{Port}
 use Rattle.ata_types.specs.declared.Slot.{Slot}
 use Rattle.sector_store.specs.declared.store.Failures.{Failures}
-use Rattle.device_model.specs.WriteCaches.{CallFails}
+use Rattle.device_model.specs.WriteCaches.{OneMoreCallFails}
 use Rattle.device_model.specs.Disks.{ModelHasRoomForOldSectors, BaysHaveRoomForOldSectors, LosesCache, bay_of, port_has_cache, disk_number, numbered_disk, disk_failures, identity, page_source_of, disk_index_of}
 use Rattle.device_model.specs.Finishing.{HasMove, TapeHasRoom, MayFinish}
 use Rattle.device_model.specs.HeldPorts.{held_after}
 use Rattle.device_model.specs.ModelState.{device_at}
 use Rattle.device_model.specs.DiskPages.{GainsOwnPages, with_lie, with_logged_error, without_lies}
-use Rattle.device_model.specs.SentFises.{SendsFisOfAskedStep, SendsEnd, SendsFault}
+use Rattle.device_model.specs.SentFises.{SendsFisOfAskedEndOrFault, SendsEnd, SendsFault}
 use Rattle.device_model.specs.Slots.{IsNextMove}
 use Rattle.device_model.specs.Trims.{HasClear, sectors_left_to_change, next_uncleared, next_run_length, sectors_left_to_write}
 use Rattle.device_model.specs.declared.disks.DiskIndex.{DiskIndex}
@@ -116,11 +116,11 @@ MayAskStore step d = ⊥
 
 -- Each place of the memory has an address of 32 bits, for a step to which that matters: a Move, or a Finish of a
 -- command that is taken already.
-abbrev pub MemoryIs4GibAtMostForStep : DeviceStep → Device → Type 0
-MemoryIs4GibAtMostForStep (asked.Move p s) d = d.memory_size ≤ 2 ^ 32
-MemoryIs4GibAtMostForStep (asked.Finish p s) d = (t : FetchedCommand) → (d.port p.0).taken s.0 ≡ Some t
+abbrev pub MemoryIs4GibAtMostIfMoveOrTakenFinish : DeviceStep → Device → Type 0
+MemoryIs4GibAtMostIfMoveOrTakenFinish (asked.Move p s) d = d.memory_size ≤ 2 ^ 32
+MemoryIs4GibAtMostIfMoveOrTakenFinish (asked.Finish p s) d = (t : FetchedCommand) → (d.port p.0).taken s.0 ≡ Some t
     → d.memory_size ≤ 2 ^ 32
-MemoryIs4GibAtMostForStep step d = Unit {0}
+MemoryIs4GibAtMostIfMoveOrTakenFinish step d = Unit {0}
 
 -- ---- what a step makes of a model
 
@@ -196,11 +196,11 @@ abbrev pub SectorIsPastDiskOrStoreFails : (cached writes : Bool) (sector size er
     → Type 0
 SectorIsPastDiskOrStoreFails cached writes sector size error was now =
     ((size ≤ sector) × (error ≡ 0x10) × (now ≡ was))
-    ⊎ ((sector < size) × (error ≡ 0x40) × CallFails cached writes sector was now)
+    ⊎ ((sector < size) × (error ≡ 0x40) × OneMoreCallFails cached writes sector was now)
 
 -- What is issued in the slot fails as it is to be taken, since its bytes mean no command: with 04h, aborted. It is told
 -- as a plain one.
-pub record FailsToFetch (port slot : ℕ) (was now : Option Failures) (says after_it : Option PageSource)
+pub record AbortsUndecodableCommand (port slot : ℕ) (was now : Option Failures) (says after_it : Option PageSource)
     (old new : Device) : Type 0 where
   pub can : Can (FetchFault port slot false 0) old
   pub sends : SendsFault false port (device_after (FetchFault port slot false 0) old) new
@@ -242,21 +242,21 @@ FailsAtOnceOrAfterPart Part FailsAndPosts old new = (mid : Device) × ((mid ≡ 
     × FailsAndPosts mid new
 
 -- fewer sectors of the slot's trim were cleared than so many
-abbrev pub ClearsFewer : (port slot most : ℕ) → Device → Device → Type 0
-ClearsFewer port slot most old new = (did : DoesClear port slot most old new) × (did.count < most)
+abbrev pub ClearsFewerSectorsThan : (port slot most : ℕ) → Device → Device → Type 0
+ClearsFewerSectorsThan port slot most old new = (did : DoesClear port slot most old new) × (did.count < most)
 
 -- The command of a step fails in its place, or on the way: a Fetch since it means none; and a Move, a Clear and a
 -- Finish as they come to a sector of those that they ask for on which it fails, a Move as it begins, and the others
 -- once they have done what comes before it. What the disks say after it tells of a queued one.
 abbrev pub StepFails : DeviceStep → (cached : Bool) → (was now : Option Failures)
     → (source_before source_after : Option PageSource) → Device → Device → Type 0
-StepFails (asked.Fetch p s) cached was now source_before source_after old new = FailsToFetch p.0 s.0 was now
+StepFails (asked.Fetch p s) cached was now source_before source_after old new = AbortsUndecodableCommand p.0 s.0 was now
     source_before source_after old new
 StepFails (asked.Move p s) cached was now source_before source_after old new = FailsToMove cached p.0 s.0 was now
     source_before source_after old
     new
 StepFails (asked.Clear p s most) cached was now source_before source_after old new =
-    FailsAtOnceOrAfterPart (ClearsFewer p.0 s.0 most)
+    FailsAtOnceOrAfterPart (ClearsFewerSectorsThan p.0 s.0 most)
     (FailsToClear cached p.0 s.0 was now source_before source_after) old new
 StepFails (asked.Finish p s) cached was now source_before source_after old new =
     FailsAtOnceOrAfterPart (DoesAtLeastOneSlotStep (SendsEnd s.0) p.0 s.0)
@@ -319,7 +319,8 @@ EndsIfFinishAndClearsRunIfClear step old new = Unit {0}
 -- what they say after it.
 pub record Completes {S : Type 0} (size : S → ℕ) (told : S → Option (ℕ → List ℕ)) (failures : S → Option Failures)
     (s : DeviceStep) (old new : Model S) : Type 0 where
-  pub does_asked_step : DoesAskedStep (SendsFisOfAskedStep s) s (device_at size told old) (device_at size told new)
+  pub does_asked_step : DoesAskedStep (SendsFisOfAskedEndOrFault s) s (device_at size told old) (device_at size told
+      new)
   pub no_call_failed : is_cache_loss s ≡ false → NoCallFailed failures old new
   pub page_source_is : page_source_of new (asked_port s) ≡ page_source_after s (device_at size told old)
       (page_source_of old
@@ -371,7 +372,7 @@ pub record IsLeftOut {S : Type 0} (size : S → ℕ) (told : S → Option (ℕ �
   pub other_bays_are_kept : (port : ℕ) → port ≢ asked_port s → bay_of new port ≡ bay_of old port
   pub disks_are_kept : (which : DiskIndex) → numbered_disk new (asked_port s) which
       ≡ numbered_disk old (asked_port s) which
-  pub possible_step_lacks_memory : MemoryIs4GibAtMostForStep s (device_at size told old)
+  pub possible_step_lacks_memory : MemoryIs4GibAtMostIfMoveOrTakenFinish s (device_at size told old)
       → IsPossible s (device_at size told old) →
       LacksMemory s (device_at size told old) old.hardware old.bays.items × (new.hardware.starved ≡ true)
   pub step_keeps : StepKeeps size old new

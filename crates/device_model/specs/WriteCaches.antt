@@ -1,7 +1,7 @@
 -- A volatile write cache: what is lasting of a disk that has one, and what is lost (FLUSH CACHE EXT, ACS-3).
 use Rattle.std.specs.Prelude.{ℕ, Bool, true, false, ◌≡◌, ◌+◌, ◌<◌, ◌≤◌, ◌⊎◌, List, [], ◌∷◌, Option, Contains, if◌then◌else◌, length, option_map}
 use Rattle.std.specs.Vec.{vec_len, vec_capacity}
-use Rattle.sector_store.specs.Stores.{HasOneMoreFailure}
+use Rattle.sector_store.specs.Stores.{RecordsOneMoreFailure}
 use Rattle.sector_store.specs.declared.store.Failures.{Failures}
 use Rattle.device_model.specs.OldSectors.{with_old_bytes}
 use Rattle.device_model.specs.declared.cache.Cache.{Cache}
@@ -27,10 +27,10 @@ lasting_in c told noted = if c.is_on then option_map (with_old_bytes c.kept.sect
 
 -- One more call for this sector has failed: the one that was asked; or, where a sector is changed in a cache, the read
 -- of what it held before.
-abbrev pub CallFails : (cached changes : Bool) → ℕ → (was now : Option Failures) → Type 0
-CallFails cached changes sector was now =
-    HasOneMoreFailure changes sector was now
-    ⊎ ((cached ≡ true) × (changes ≡ true) × HasOneMoreFailure false sector was now)
+abbrev pub OneMoreCallFails : (cached changes : Bool) → ℕ → (was now : Option Failures) → Type 0
+OneMoreCallFails cached changes sector was now =
+    RecordsOneMoreFailure changes sector was now
+    ⊎ ((cached ≡ true) × (changes ≡ true) × RecordsOneMoreFailure false sector was now)
 
 -- ---- what is lost
 
@@ -41,7 +41,7 @@ sector_told told sector = option_map (λ f. f sector) told
 -- one write more has failed of each of these sectors, in this order
 abbrev pub WritesFail : List ℕ → (was now : Option Failures) → Type 0
 WritesFail [] was now = now ≡ was
-WritesFail (sector ∷ rest) was now = (mid : Option Failures) × HasOneMoreFailure true sector was mid
+WritesFail (sector ∷ rest) was now = (mid : Option Failures) × RecordsOneMoreFailure true sector was mid
     × WritesFail rest mid now
 
 -- The sectors of a store were to become these again. They did, but for some of which a write has failed: these, no more

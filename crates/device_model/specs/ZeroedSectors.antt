@@ -2,7 +2,7 @@
 use Rattle.std.specs.Prelude.{ℕ, true, ◌≡◌, ◌+◌, ◌<◌, ◌≤◌, List, Option}
 use Rattle.adapter.specs.Steps.{disk_cleared}
 use Rattle.sector_store.specs.declared.store.Failures.{Failures}
-use Rattle.device_model.specs.WriteCaches.{CallFails, HasRoomForOldSectors, lasting_in}
+use Rattle.device_model.specs.WriteCaches.{OneMoreCallFails, HasRoomForOldSectors, lasting_in}
 use Rattle.device_model.specs.Disks.{disk_over}
 use Rattle.device_model.specs.declared.cache.Cache.{Cache}
 use Rattle.device_model.specs.declared.clearing.SectorExtent.{SectorExtent}
@@ -18,7 +18,8 @@ pub record MakesZero {S : Type 0} (size : S → ℕ) (told : S → Option (ℕ �
   pub size_is_kept : size new ≡ size old
   pub no_clear_keeps_sectors : count ≡ 0 → told new ≡ told old
   pub no_call_failed : count ≡ run.count → failures new ≡ failures old
-  pub failure_is_noted : count < run.count → CallFails was.is_on true (run.first + count) (failures old) (failures new)
+  pub failure_is_noted : count < run.count → OneMoreCallFails was.is_on true (run.first + count) (failures old)
+      (failures new)
   pub lasting_is_kept : (noted : Option (ℕ → List ℕ)) → lasting_in now (told new) noted
       ≡ lasting_in was (told old) noted
   pub cache_mode_is_kept : now.is_on ≡ was.is_on

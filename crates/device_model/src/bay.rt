@@ -1,7 +1,7 @@
 // The disks of a port, as a model has them.
 ghost use Rattle.std.specs.Prelude.{◌≡◌, ◌<◌, ◌≤◌, ◌+◌, ◌++◌, ◌∷◌, [], ℕ, List, Option, None, true, false, length, if◌then◌else◌, IfSome};
 ghost use Rattle.adapter.specs.{Commands.{is_ranged, reads_memory}, Device.{Disk, IsValidSector}, Steps.{disk_after, disk_cleared}};
-ghost use Rattle.device_model.specs.{WriteCaches.{CallFails, HasRoomForOldSectors, KeepsSameOldSectors, lasting_in}, Disks.{OnlyEndsCommand, BayEndsCommand, LosesCache, OnlyChangesPageSource, SelectsDisk, disk_over, identity, lasting_of, plugged_as}, PieceTransfers.{TransfersPieceOrFails, IsTransferred, piece_of}, Finishing.{CacheHasRoomForRestOfCommand, IsCommandBegun, NoneMayFinishOrLacksRoom}, ModelState.{AreNewDisks}};
+ghost use Rattle.device_model.specs.{WriteCaches.{OneMoreCallFails, HasRoomForOldSectors, KeepsSameOldSectors, lasting_in}, Disks.{OnlyEndsCommand, BayEndsCommand, LosesCache, OnlyChangesPageSource, SelectsDisk, disk_over, identity, lasting_of, plugged_as}, PieceTransfers.{TransfersPieceOrFails, IsTransferred, piece_in_memory}, Finishing.{CacheHasRoomForRestOfCommand, IsCommandBegun, NoneMayFinishOrLacksRoom}, ModelState.{AreNewDisks}};
 ghost use Rattle.device_model.specs.{DiskPages.{IsSentLog, IsSentIdentify, HasBitsFlipped, with_lie, with_logged_error, without_lies}, Trims.{sectors_left_to_write}, WholeAdapter.{AllMedia, device_of}, ZeroedSectors.{MakesZero}};
 
 use crate::cache::{Cache, put_sector, roll_back};
@@ -185,7 +185,7 @@ impl<S: SectorStore> Bay<S> {
         requires room { HasRoomForOldSectors self.old.cache (sectors_left_to_write
             next.operation 1) }
         ensures exchanges { TransfersPieceOrFails S.size S.told S.failures self.old self.new next
-            (piece_of hardware.old next) (piece_of hardware.new next) result }
+            (piece_in_memory hardware.old next) (piece_in_memory hardware.new next) result }
         ensures memory { IsTransferred hardware.old hardware.new next }
         ensures stays { result ≡ false → (o : AllMedia) → device_of hardware.new o ≡ device_of hardware.old o }
     {

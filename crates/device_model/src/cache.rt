@@ -1,8 +1,8 @@
 // The volatile write cache of a disk: what it holds is lost with it, but for what a flush has made lasting (ACS-3,
 // FLUSH CACHE EXT). What is written goes to the store at once; what the store held before is kept until the next flush.
 ghost use Rattle.std.specs.{Prelude.{◌≡◌, ◌<◌, ◌≤◌, ◌+◌, ◌⊎◌, ℕ, List, Option, true, false, option_map, length, is_some, []}, Vec.{vec_len, vec_capacity}};
-ghost use Rattle.sector_store.specs.Stores.{HasOneMoreFailure, WritesSector};
-ghost use Rattle.device_model.specs.{WriteCaches.{CallFails, HasRoomForOldSectors, KeepsNoOldSectors, KeepsSameOldSectors, RollsBack, lasting_in}, OldSectors.{with_old_bytes}};
+ghost use Rattle.sector_store.specs.Stores.{RecordsOneMoreFailure, WritesSector};
+ghost use Rattle.device_model.specs.{WriteCaches.{OneMoreCallFails, HasRoomForOldSectors, KeepsNoOldSectors, KeepsSameOldSectors, RollsBack, lasting_in}, OldSectors.{with_old_bytes}};
 
 use crate::old_sectors::OldSectors;
 use sector_store::SectorStore;
@@ -61,7 +61,8 @@ fn put_over_old<S: SectorStore>(
     bytes: &[u8; 512],
 ) -> bool
     requires { vec_len kept.old.sectors < vec_capacity kept.old.sectors }
-    ensures writes { WritesSector S.size S.told S.failures (CallFails true true sector) sector bytes.now store.old
+    ensures writes { WritesSector S.size S.told S.failures (OneMoreCallFails true true sector) sector bytes.now
+        store.old
         store.new result }
     ensures lasting { option_map (with_old_bytes kept.new.sectors.items) (S.told store.new)
         ≡ option_map (with_old_bytes kept.old.sectors.items) (S.told store.old) }
@@ -87,7 +88,8 @@ pub fn put_sector<S: SectorStore>(
     bytes: &[u8; 512],
 ) -> bool
     requires { HasRoomForOldSectors cache.old 1 }
-    ensures writes { WritesSector S.size S.told S.failures (CallFails cache.old.is_on true sector) sector bytes.now
+    ensures writes { WritesSector S.size S.told S.failures (OneMoreCallFails cache.old.is_on true sector) sector
+        bytes.now
         store.old store.new result }
     ensures lasting { (noted : Option (ℕ → List ℕ)) → lasting_in cache.new (S.told store.new) noted
         ≡ lasting_in cache.old (S.told store.old) noted }

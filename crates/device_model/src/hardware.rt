@@ -210,8 +210,8 @@ impl Hardware {
             q }
         ensures spares { KeepsPortCountHrTapeAndStarved self.old self.new }
     {
-        self.ports[port].settle_engines();
-        if self.ports[port].link() {
+        self.ports[port].let_cr_and_fr_fall();
+        if self.ports[port].link_up_if_possible() {
             self.send_signature(port);
         }
     }
@@ -219,7 +219,7 @@ impl Hardware {
     /// What the adapter does by itself before a register is read: a pending reset ends unless all ports are held, and
     /// ends all holds; then, on each port that isn't held, the engines stop that may, and the link comes up if it may.
     /// Afterwards none of this is possible any more.
-    pub fn settle_reset_engines_and_links(&mut self, held: &mut [bool; PORTS])
+    pub fn end_reset_stop_engines_link_up(&mut self, held: &mut [bool; PORTS])
         ensures own { (o : AllMedia) → (reset : Device)
             × EndsPendingResetUnlessAllHeld held.old held.new (device_of self.old o) reset
             × LeadsBySteps (Settles held.new) reset (device_of self.new o) }

@@ -18,7 +18,7 @@ pub fn law_disk_sectors_are_known_if_telling<S: SectorStore>()
 
 /// A move that the device may make, on a port that has a disk, is possible for a model where its piece is in the
 /// memory.
-pub fn law_device_moves_are_model_possible<S: SectorStore>()
+pub fn law_moves_within_memory_are_model_possible<S: SectorStore>()
     ensures { (m : Model S) (p : Port) (slot : Slot) (t : FetchedCommand) (bytes : List ℕ) → slot.0 < 32
         → HasDisksOrOperationIsRanged (device_at S.size S.told m) p.0 t.meaning.operation →
         next_place t + 512 ≤ (device_at S.size S.told m).memory_size

@@ -1,7 +1,7 @@
 // The model as an adapter.
 ghost use Rattle.std.specs.{Prelude.{◌≡◌, ◌≢◌, ◌↔◌, ◌<◌, ◌≤◌, ◌+◌, ◌-◌, ◌*◌, ◌^◌, ◌⊎◌, ◌++◌, ◌∷◌, [], ℕ, Bool, List, true, false, is_some, None, Some, ◌&&◌, min, max, map, length, slice_index, slice_index_or, slice_set, IsTrue, IfSome, IfOk, OnOk, OnErr}, Vec.{vec_len, vec_capacity}};
 ghost use Rattle.adapter.specs.{Commands.{is_ranged, reads_memory, sends_page}, Device.{Disk, IsValidSector, FetchedCommand}, Access.{Reads, Writes, Loads, Stores, Shows, device_after_write}, Memory.{bytes_at, patched}, Rules.{MayRead, MayWrite, IsInMemoryNotOwnedByDevice, IsStable}, Steps.{Steps, disk_after, disk_cleared, next_place}, AskedSteps.{DoesOrFailsStep}, OneCommand.{SlotHasNoCommand}};
-ghost use Rattle.sector_store.specs.Stores.{HasOneMoreFailure};
+ghost use Rattle.sector_store.specs.Stores.{RecordsOneMoreFailure};
 ghost use Rattle.device_model.specs.{FetchedBytes.{bytes_of}, Disks.{OnlyEndsCommand, ModelHasRoomForOldSectors, OnlyChangesPageSource, numbered_disk, disks_given_for, port_0_alone}, Finishing.{FindsPageCommandAndWhetherItCanEnd, HasFinishablePageCommand, HasMove, TapeHasRoom, HasTakenCommand, MayTakePageCommand}, HeldPorts.{IsPortReleased}, DiskPages.{with_lie, with_logged_error, without_lies}, PageTaking.{TakesPageCommandUnlessOneIsTaken}};
 ghost use Rattle.device_model.specs.{StepEffects.{AnswersStep, Completes, OwnStepsKeep, HasCleared, IsPossible, CommandOfStepFails, KeepsRoomForNext, is_step_not_skipped, asked_fault}, ToldDisks.{all_disks_have_known_sectors}, Queue.{BeginsAccess, DoesRead, AppliesEffect}, ModelState.{IsNewBay, IsNewMedia, IsNewModel, all_given_disks_tell, all_bay_stores_are_known, cap_of, device_at, given_disks_tell, media_of, tells}, Slots.{IsNextMove}};
 ghost use Rattle.device_model.specs.{declared.port.TakenCommand.{TakenCommand}, ModelOwnSteps.{SendsPages, IsSettled, LeadsBySteps, LeavesPageWithoutTapeRoom, PageCommandWaitsOnlyIfHeldOrStarved}, Trims.{next_run_length, sectors_left_to_write}, WholeAdapter.{HasDisks, HasRegister}};
@@ -731,7 +731,7 @@ impl<S: SectorStore> Adapter for Model<S> {
         ensures does_read { DoesRead S.size S.told S.failures r result self.old self.new }
     {
         self.do_queued_steps();
-        self.hardware.settle_reset_engines_and_links(&mut self.held);
+        self.hardware.end_reset_stop_engines_link_up(&mut self.held);
         self.send_pages();
         let value = self.hardware.shown(r);
         self.hardware.update_read_notes(r, value);

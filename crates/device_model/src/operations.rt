@@ -26,7 +26,7 @@ pub fn sectors_to_write(operation: Operation, left: u32) -> u32
 
 /// The bit of PxIS that the end of a command sets: PSS where its data go by PIO, SDBS where it was queued, and else
 /// DHRS (AHCI 1.3.1, 3.3.5).
-pub fn end_cause(operation: Operation) -> u32
+pub fn end_cause_bit_number(operation: Operation) -> u32
     ensures { result ≡ cause_of operation }
 {
     match operation {

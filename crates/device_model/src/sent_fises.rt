@@ -1,7 +1,7 @@
 // The FISes that the model sends, in the received FIS area of a port (Serial ATA; AHCI 1.3.1, 4.2.1).
 ghost use Rattle.std.specs.Prelude.{◌≡◌, ◌+◌, ◌<◌, ◌≤◌, ◌/◌, ◌%◌, true, false, length};
 ghost use Rattle.ata_types.specs.declared.memory.TheConstants.{RECEIVED_FIS_BYTES};
-ghost use Rattle.device_model.specs.{SentFises.{IsSentOrLost, SendsEnd, SendsFault, SendsDeviceToHost, end_fis, queued_failure_fis, page_setup_fis, signature_fis, ended_tag_fis}, PortView.{Media, cause_of, port_of}, WholeAdapter.{AllMedia, device_of}};
+ghost use Rattle.device_model.specs.{SentFises.{IsSentOrLost, SendsEnd, SendsFault, SendsDeviceToHost, end_or_failure_d2h_fis, queued_failure_fis, page_setup_fis, signature_fis, ended_tag_fis}, PortView.{Media, cause_of, port_of}, WholeAdapter.{AllMedia, device_of}};
 
 use crate::hardware::{Hardware, put};
 use crate::port::PortModel;
@@ -56,7 +56,7 @@ impl PortModel {
 
     /// What a Register FIS tells of a command that has ended or failed.
     fn end_registers(&self) -> DeviceToHost
-        ensures { (m : Media) → result ≡ end_fis (port_of self.now m) }
+        ensures { (m : Media) → result ≡ end_or_failure_d2h_fis (port_of self.now m) }
     {
         let (status, error) = self.status_and_error();
         DeviceToHost {

@@ -62,7 +62,7 @@ impl PortModel {
     }
 
     /// The link comes up, if it may; `true` says that it did.
-    pub fn link(&mut self) -> bool
+    pub fn link_up_if_possible(&mut self) -> bool
         ensures up { result ≡ true → (m : Media) → MayLinkUp (port_of self.old m) 0x101
             × (port_of self.new m ≡ port_after_link_up (port_of self.old m) 0x101 true) }
         ensures same { result ≡ false → self.new ≡ self.old }
@@ -79,7 +79,7 @@ impl PortModel {
     }
 
     /// CR and FR fall where they may.
-    pub fn settle_engines(&mut self)
+    pub fn let_cr_and_fr_fall(&mut self)
         ensures does { (m : Media) → PortChangesBySettlingSteps (port_of self.old m) (port_of self.new m) }
         ensures cr_is_clear_without_st { self.new.st ≡ false → self.new.cr ≡ true → false ≡ true }
         ensures fr_is_clear_without_fre_and_cr { self.new.fre ≡ false → self.new.cr ≡ false → self.new.fr ≡ true

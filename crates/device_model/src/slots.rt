@@ -1,12 +1,12 @@
 // The slots of a port: which command is taken, and how it goes on.
 ghost use Rattle.std.specs.Prelude.{◌≡◌, ◌↔◌, ◌<◌, ◌≤◌, ◌^◌, ◌+◌, ◌||◌, ℕ, IsTrue, None, Some, true, false, is_some, slice_index_or, IfSome, List};
 ghost use Rattle.adapter.specs.{Steps.{IsUnmixed, IsFetchable, IsWorking, admits, port_after_clear, port_after_done_except_lasting, port_after_fault, port_after_fetch, port_with_lasting_after_operation, port_after_move}, declared.command.Operation.{Operation}};
-ghost use Rattle.device_model.specs.{WordBits.{word_bits}, FetchedBytes.{IsNewlyTaken}, Slots.{AdmitsBesideTaken, MayTakeIfDecoded, HasIssuedUntakenOnWorkingPort, WorksOnIn}, PortView.{Media, cause_of, halt_of, taken_in, bsy_if_disk_left_busy, media_after_move, media_after_clear, media_after_end, port_of, taken_of, reset_port_without_disk}, declared.port.TakenCommand.{TakenCommand}};
+ghost use Rattle.device_model.specs.{WordBits.{word_bits}, FetchedBytes.{IsNewlyTaken}, Slots.{AdmitsByHaltAndTaken, MayTakeIfDecoded, IsFetchableIfHaltAdmits, WorksOnIn}, PortView.{Media, cause_of, halt_of, taken_in, bsy_if_disk_left_busy, media_after_move, media_after_clear, media_after_end, port_of, taken_of, reset_port_without_disk}, declared.port.TakenCommand.{TakenCommand}};
 
 use crate::bits::{is_clear_from, with_bit_as};
 use crate::clearing::SectorExtent;
 use crate::halt::Halting;
-use crate::operations::{end_cause, lasting_tape_length_after};
+use crate::operations::{end_cause_bit_number, lasting_tape_length_after};
 use crate::port::{PortModel, TakenCommand};
 use adapter::Operation;
 use hba_regs::is_set;
@@ -101,7 +101,7 @@ impl PortModel {
             here,
         );
         self.taken.remove(slot);
-        self.is = with_bit_as(self.is, end_cause(operation), true);
+        self.is = with_bit_as(self.is, end_cause_bit_number(operation), true);
         self.halting = Halting::NotHalted;
         self.tfd = Some(self.task_file() & 0xff7f);
         if operation.is_queued() {
@@ -150,8 +150,8 @@ impl PortModel {
     }
 
     /// Whether no fault keeps such a command waiting, and it goes beside those that are taken.
-    pub fn admits_beside_taken(&self, operation: Operation) -> bool
-        ensures open { result ≡ true → AdmitsBesideTaken self.now operation }
+    pub fn admits_by_halt_and_taken(&self, operation: Operation) -> bool
+        ensures open { result ≡ true → AdmitsByHaltAndTaken self.now operation }
         ensures complete { result ≡ false → (m : Media)
             → admits (halt_of self.now.halting) operation ≡ true
             → IsUnmixed (port_of self.now m) operation → ⊥ }
@@ -174,13 +174,13 @@ impl PortModel {
     }
 }
 
-/// Whether a slot has a command that is issued and not taken, on a port that works: it may be taken, if its bytes say
-/// one that may be beside those that are.
-pub fn has_issued_untaken_on_working_port(ports: &[PortModel; 4], port: usize, slot: u8) -> bool
+/// Whether a slot has a command that is issued and not taken, on a port that works but for its halt, which isn't looked
+/// at: it may be taken, if its bytes say one that the halt and those that are taken admit.
+pub fn is_fetchable_if_halt_admits(ports: &[PortModel; 4], port: usize, slot: u8) -> bool
     requires port { port < 4 }
     requires slot { slot < 32 }
     ensures may { result ≡ true
-        → HasIssuedUntakenOnWorkingPort (slice_index_or ports.now port reset_port_without_disk) slot }
+        → IsFetchableIfHaltAdmits (slice_index_or ports.now port reset_port_without_disk) slot }
     ensures complete { result ≡ false → (m : Media) (operation : Operation)
         → MayTakeIfDecoded (port_of (slice_index_or ports.now port reset_port_without_disk) m) slot operation → ⊥ }
     ensures is_not_fetchable { result ≡ false → (m : Media) (operation : Operation)

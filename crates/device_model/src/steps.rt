@@ -2,7 +2,7 @@
 ghost use Rattle.std.specs.{Prelude.{◌≡◌, ◌↔◌, IsTrue, ◌<◌, ◌≤◌, ◌+◌, ◌-◌, ◌*◌, ◌^◌, ◌++◌, ◌∷◌, [], true, false, ℕ, List, None, Some, IfSome, IsSomeAnd, if◌then◌else◌, length, nat_eq, slice_index, slice_index_or}, Vec.{vec_len, vec_capacity}};
 ghost use Rattle.adapter.specs.{Commands.{Meaning, is_queued, is_ranged, reads_memory}, Device.{Disk, FetchedCommand}, Memory.{bytes_at}, Decoding.{pieces}, Steps.{Can, IsFinished, device_after, next_sector}, Steps.DeviceTransition.{Fetch as FetchStep, FetchFault as FetchFaultStep, Move as MoveStep, Done as DoneStep, Fault as FaultStep, Fatal as FatalStep, Unplug as UnplugStep, Plug as PlugStep}};
 ghost use Rattle.adapter.specs.AskedSteps.{DoesFatal, DoesFault, DoesFetch, EndsAndPosts, fatal_bit};
-ghost use Rattle.device_model.specs.{TakenBlocks.{brought}, WriteCaches.{HasRoomForOldSectors, KeepsSameOldSectors}, PieceTransfers.{IsTransferred, piece_of}, FetchedBytes.{bytes_of}, Finishing.{TapeHasRoom, CacheHasRoomForRestOfCommand, FindsPageCommandAndWhetherItCanEnd, IsInside, PiecesInside, IsCommandBegun, HasMovesLeftInMemory, IsImpossibleOrLacksTape, HasMovesAndTrimRunsLeft, NoneMayFinishOrLacksRoom}, SentFises.{SendsEnd}, Slots.{WorksOnIn, IsNextMove, HasIssuedUntakenOnWorkingPort}, Trims.{sectors_left_to_change}};
+ghost use Rattle.device_model.specs.{TakenBlocks.{brought}, WriteCaches.{HasRoomForOldSectors, KeepsSameOldSectors}, PieceTransfers.{IsTransferred, piece_in_memory}, FetchedBytes.{bytes_of}, Finishing.{TapeHasRoom, CacheHasRoomForRestOfCommand, FindsPageCommandAndWhetherItCanEnd, IsInside, PiecesInside, IsCommandBegun, HasMovesLeftInMemory, IsImpossibleOrLacksTape, HasMovesAndTrimRunsLeft, NoneMayFinishOrLacksRoom}, SentFises.{SendsEnd}, Slots.{WorksOnIn, IsNextMove, IsFetchableIfHaltAdmits}, Trims.{sectors_left_to_change}};
 ghost use Rattle.device_model.specs.{PortView.{taken_in, bsy_if_disk_left_busy, taken_of, reset_port_without_disk}, WholeAdapter.{AllMedia, device_of, all_media_after_move, all_media_after_end, all_media_after_plug}, declared.port.TakenCommand.{TakenCommand}};
 
 use crate::cache::Cache;
@@ -13,7 +13,7 @@ use crate::fetch::{
 use crate::hardware::Hardware;
 use crate::operations::sectors_to_write;
 use crate::port::TakenCommand;
-use crate::slots::{FAILED_STATUS, failed_status, has_issued_untaken_on_working_port, working_on};
+use crate::slots::{FAILED_STATUS, failed_status, is_fetchable_if_halt_admits, working_on};
 use crate::trims::{clears_left_unless_too_many_cleared, is_finished};
 use adapter::{Done, Entry, FatalError, Fault, Move, Operation, Prd};
 use ata_types::{Port, Slot};
@@ -284,16 +284,16 @@ impl Hardware {
         ensures tape { self.new.tape ≡ self.old.tape }
         ensures starved { self.new.starved ≡ self.old.starved }
     {
-        has_issued_untaken_on_working_port(&self.ports, usize::from(port), slot)
+        is_fetchable_if_halt_admits(&self.ports, usize::from(port), slot)
             && self.fetch_decoded(port, slot)
     }
 
-    /// Takes the command that the bytes of a slot say, which may be taken; `false` says that they say none that the
-    /// model takes. It is entered only then, since its frame has room for a command.
+    /// Takes the command that the bytes of a slot say, which is fetchable if the port's halt admits it; `false` says
+    /// that they say none that the model takes now. It is entered only then, since its frame has room for a command.
     #[inline(never)]
     fn fetch_decoded(&mut self, port: u8, slot: u8) -> bool
         requires there { (port < 4) × (slot < 32) }
-        requires may { HasIssuedUntakenOnWorkingPort (slice_index_or self.old.ports port reset_port_without_disk) slot }
+        requires may { IsFetchableIfHaltAdmits (slice_index_or self.old.ports port reset_port_without_disk) slot }
         ensures did { result ≡ true → (o : AllMedia)
             → DoesFetch port slot (device_of self.old o) (device_of self.new o) }
         ensures refused { result ≡ false → self.new ≡ self.old }
@@ -307,7 +307,7 @@ impl Hardware {
         let Some(command) = read_command(&self.memory, list, slot) else {
             return false;
         };
-        if !self.ports[place].admits_beside_taken(command.operation) {
+        if !self.ports[place].admits_by_halt_and_taken(command.operation) {
             return false;
         }
         self.ports[place].take(slot, &command);
@@ -320,12 +320,12 @@ impl Hardware {
     fn decodes_page(&self, port: usize, slot: u8) -> Option<bool>
         requires port { port < 4 }
         requires slot { slot < 32 }
-        requires may { HasIssuedUntakenOnWorkingPort (slice_index_or self.now.ports port reset_port_without_disk) slot }
+        requires may { IsFetchableIfHaltAdmits (slice_index_or self.now.ports port reset_port_without_disk) slot }
         ensures { (o : AllMedia) → FindsPageCommandAndWhetherItCanEnd (device_of self.now o) port slot result }
     {
         let list = self.ports[port].addresses.clb;
         let command = decode_page_command(&self.memory, list, slot)?;
-        if self.ports[port].admits_beside_taken(command.operation) {
+        if self.ports[port].admits_by_halt_and_taken(command.operation) {
             Some(can_end(&command, self.memory.len()))
         } else {
             None
@@ -342,7 +342,7 @@ impl Hardware {
         if !self.ports[port].is_issued_or_taken(slot) {
             return None;
         }
-        if has_issued_untaken_on_working_port(&self.ports, port, slot) {
+        if is_fetchable_if_halt_admits(&self.ports, port, slot) {
             if !may_be_page_command(&self.memory, self.ports[port].addresses.clb, slot) {
                 return None;
             }
@@ -444,8 +444,8 @@ impl Hardware {
         requires room { TapeHasRoom self.old 1 }
         ensures moved { (old : Hardware) (o : AllMedia) (t : TakenCommand) → IsTransferred old self.old next →
             IsNextMove old port slot next t →
-            device_of self.new (all_media_after_move o port (taken_of t) (piece_of self.old next))
-            ≡ device_after (MoveStep port slot (taken_of t) (piece_of self.old next)) (device_of old o) }
+            device_of self.new (all_media_after_move o port (taken_of t) (piece_in_memory self.old next))
+            ≡ device_after (MoveStep port slot (taken_of t) (piece_in_memory self.old next)) (device_of old o) }
         ensures room_is_left { (n : ℕ) → TapeHasRoom self.old (n + 1) → TapeHasRoom self.new n }
         ensures starved { self.new.starved ≡ self.old.starved }
         ensures after { IfSome result (λ n. (t : TakenCommand) × IsNextMove self.new port slot n t) }
@@ -603,7 +603,7 @@ impl Hardware {
         ensures starved_is_kept { result ≡ true → self.new.starved ≡ self.old.starved }
     {
         let place = usize::from(port);
-        if !has_issued_untaken_on_working_port(&self.ports, place, slot) {
+        if !is_fetchable_if_halt_admits(&self.ports, place, slot) {
             return false;
         }
         if !self.ports[place].halting.admits(Operation::Identify) {
@@ -626,14 +626,14 @@ impl Hardware {
         true
     }
 
-    /// Takes the command that the bytes of a slot say, which may be taken, where each of its moves and clears is
-    /// possible, the tape finds memory for them and the end, and the cache of the port's disks for what the sectors
-    /// held that they change. Want of memory is told.
+    /// Takes the command that the bytes of a slot say, which is fetchable if the port's halt admits it, where that and
+    /// those that are taken do, each of its moves and clears is possible, the tape finds memory for them and the end,
+    /// and the cache of the port's disks for what the sectors held that they change. Want of memory is told.
     #[inline(never)]
     fn begin_decoded(&mut self, port: u8, slot: u8, cache: &mut Cache) -> Option<BegunCommand>
         requires port { port < 4 }
         requires slot { slot < 32 }
-        requires may { HasIssuedUntakenOnWorkingPort (slice_index_or self.old.ports port reset_port_without_disk) slot }
+        requires may { IsFetchableIfHaltAdmits (slice_index_or self.old.ports port reset_port_without_disk) slot }
         ensures begun { IfSome result (λ b. IsCommandBegun port slot b.remaining.moves b.remaining.clears
             b.is_newly_taken self.old self.new) }
         ensures ahead { IfSome result (λ b. (o : AllMedia)
@@ -646,7 +646,7 @@ impl Hardware {
         let Some(command) = self.command_buffer.read(&self.memory, list, slot) else {
             return None;
         };
-        if !model.admits_beside_taken(command.operation) {
+        if !model.admits_by_halt_and_taken(command.operation) {
             return None;
         }
         let remaining = remaining_of(command, &[], &self.memory)?;
@@ -675,7 +675,7 @@ impl Hardware {
         ensures is_unbegun { result ≡ None → NoneMayFinishOrLacksRoom port slot self.old self.new cache.old cache.new }
     {
         let place = usize::from(port);
-        if has_issued_untaken_on_working_port(&self.ports, place, slot) {
+        if is_fetchable_if_halt_admits(&self.ports, place, slot) {
             return self.begin_decoded(port, slot, cache);
         }
         let remaining = self.remaining_at(port, slot)?;

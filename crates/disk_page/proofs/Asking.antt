@@ -23,7 +23,7 @@ use Rattle.adapter.specs.declared.command.Operation.{Operation}
 use Rattle.adapter.specs.declared.command.Prd.{Prd}
 use Rattle.adapter.specs.RegisterEffects.{PortRegisterRead, PortRegisterWritten}
 use Rattle.adapter.specs.declared.tape.Entry.{Entry}
-use Rattle.refinement.specs.Fragments.{SomeMachineAgrees, IsDrivenBy, IsSimulated, IsSimulatedChangingUses, SparesOtherPorts, IsSimulatedAlong, IsSimulatedAlongChangingUses, AnySlotStates, NoneWrites, AnyAccess, GainsNoMove}
+use Rattle.refinement.specs.Fragments.{SomeMachineAgrees, IsDrivenBy, IsSimulated, IsSimulatedChangingUses, AccessesNoOtherPort, IsSimulatedAlong, IsSimulatedAlongChangingUses, AnySlotStates, NoneWrites, AnyAccess, GainsNoMove}
 use Rattle.refinement.specs.Driver.{IsOwnCommandPreparedInSlot0}
 use Rattle.refinement.specs.PortFacts.{IsSlotClear}
 use Rattle.refinement.specs.MemoryLayout.{command_list_address, scratch_frame_address}
@@ -31,7 +31,7 @@ use Rattle.adapter.specs.OneCommand.{SlotHasNoCommand}
 use Rattle.refinement.specs.Slots.{Free, Own, SlotStates, set_slot_state as used, SlotDecodesTo, client_operation_of, PageCameSinceAndStandsInScratch}
 use Rattle.command_table.specs.SectorPlaces.{places_of}
 use Rattle.command_table.specs.TableStores.{IsTableFor, IsHeaderOrTableStore, IsSlotStateFree}
-use Rattle.disk_page.specs.PageRequests.{page_operation, AreSlot0IssuedReadings, PortMayAskForPage, IsSlot0CiOrPageMemoryAccess, BringsLastPage, ShowsSlot0Issued, WaitsForSlot0InVain}
+use Rattle.disk_page.specs.PageRequests.{page_operation, AreSlot0IssuedReadings, PortMayAskForPage, IsPxciOrSlot0PageMemoryAccess, BringsLastPage, ShowsSlot0Issued, WaitsForSlot0InVain}
 use Rattle.disk_page.specs.PageWaits.{IsPageAwaitedOrReceived}
 use Rattle.disk_page.specs.declared.Page.{Page}
 use Rattle.disk_page.specs.declared.Page.TheVariants.{Identity, ErrorLog}
@@ -57,7 +57,7 @@ pub record IsPending (port : Port) (start : Device) (n : ℕ) (d : Device) : Typ
   pub on : IsOn d
   pub there : HasPort d port.0
   pub det : (d.port port.0).sctl_det ≡ 0
-  pub told : IsSimulatedAlong (AreSlot0IssuedReadings port n) (IsSlot0CiOrPageMemoryAccess port) AnySlotStates start d
+  pub told : IsSimulatedAlong (AreSlot0IssuedReadings port n) (IsPxciOrSlot0PageMemoryAccess port) AnySlotStates start d
   pub waiting : (o : Operation) (since : ℕ) (uses : SlotStates) (begun : Device) → IsPageAwaitedOrReceived port o since uses begun start → IsPageAwaitedOrReceived port o since uses begun d
   pub low : n ≤ (d.port port.0).notes.slot0_issued_count
   pub high : 0 < n → (d.port port.0).notes.slot0_issued_count ≤ MOST_READINGS
@@ -65,7 +65,7 @@ pub record IsPending (port : Port) (start : Device) (n : ℕ) (d : Device) : Typ
 -- and one without it
 pub record IsFoundOver (port : Port) (start d : Device) : Type 0 where
   pub on : IsOn d
-  pub followed : IsSimulated (IsSlot0CiOrPageMemoryAccess port) AnySlotStates start d
+  pub followed : IsSimulated (IsPxciOrSlot0PageMemoryAccess port) AnySlotStates start d
   pub waiting : (o : Operation) (since : ℕ) (uses : SlotStates) (begun : Device) → IsPageAwaitedOrReceived port o since uses begun start → IsPageAwaitedOrReceived port o since uses begun d
   pub over : (o : Operation) (since : ℕ) (uses : SlotStates) (begun : Device) → IsPageAwaitedOrReceived port o since uses begun start → IsSlotClear (d.port port.0) 0
 
@@ -80,9 +80,9 @@ pub bit_one_other : (k : ℕ) → k ≢ 0 → bit 1 k ≡ false
 bit_one_other k other = ap (λ (n : ℕ). n == 1) (bit_at_ones_above 1 k (omega (arith, other)))
 
 -- none is of a register of another port
-pub asking_is_of : (port : Port) (access : Access) → IsSlot0CiOrPageMemoryAccess port access → SparesOtherPorts port access
-asking_is_of port (Reading r v) is = subst (λ (q : Reg). SparesOtherPorts port (Reading q v)) (sym is) refl
-asking_is_of port (Writing r v) is = subst (λ (q : Reg). SparesOtherPorts port (Writing q v)) (sym is.0) refl
+pub asking_is_of : (port : Port) (access : Access) → IsPxciOrSlot0PageMemoryAccess port access → AccessesNoOtherPort port access
+asking_is_of port (Reading r v) is = subst (λ (q : Reg). AccessesNoOtherPort port (Reading q v)) (sym is) refl
+asking_is_of port (Writing r v) is = subst (λ (q : Reg). AccessesNoOtherPort port (Writing q v)) (sym is.0) refl
 asking_is_of port (Loading at bytes) is = tt
 asking_is_of port (Storing at bytes) is = tt
 
@@ -161,11 +161,11 @@ vain_since port early late w = record {
 
 module _ (laws : Laws) where
   -- stores are accesses of any port, so of the next one
-  stores_of : (port : Port) (old new : Device) → IsDrivenBy (IsHeaderOrTableStore port.0 0) old new → IsDrivenBy (SparesOtherPorts (next port)) old new
+  stores_of : (port : Port) (old new : Device) → IsDrivenBy (IsHeaderOrTableStore port.0 0) old new → IsDrivenBy (AccessesNoOtherPort (next port)) old new
   stores_of port old new a = record {
     accesses = a.accesses;
     all_are_done = a.all_are_done;
-    accesses_are_of_kind = All-weaker (IsHeaderOrTableStore port.0 0) (SparesOtherPorts (next port)) (laws.stores_spare_other_ports (next port) port.0 0) a.accesses a.accesses_are_of_kind;
+    accesses_are_of_kind = All-weaker (IsHeaderOrTableStore port.0 0) (AccessesNoOtherPort (next port)) (laws.stores_spare_other_ports (next port) port.0 0) a.accesses a.accesses_are_of_kind;
   }
 
   any : (May : Access → Type 0) (old new : Device) → IsDrivenBy May old new → IsDrivenBy AnyAccess old new
@@ -196,7 +196,7 @@ module _ (laws : Laws) where
         later = grown old.tape new.tape k.new_entries (ap (λ (d : Device). d.tape) x.effect ∙ k.tape_grows);
       }
 
-  pub asking_spares_ghc : (port : Port) → NoneWrites (IsSlot0CiOrPageMemoryAccess port) Ghc
+  pub asking_spares_ghc : (port : Port) → NoneWrites (IsPxciOrSlot0PageMemoryAccess port) Ghc
   asking_spares_ghc port access is = laws.accesses_of_port_spare_ghc port access (asking_is_of port access is)
 
   -- an access brings a page of the command in slot 0 alone
@@ -235,7 +235,7 @@ module _ (laws : Laws) where
     ask_permitted uses free a = laws.issuing_page_command_is_permitted uses a.machine mid a.reached a.driver_relation.state_relation port (page_operation page) 1 on there (prepared uses free)
 
     module _ (call : Writes (Px port Ci) 1 mid new) where
-      pub asked_to : IsSimulatedChangingUses (IsSlot0CiOrPageMemoryAccess port) (IsSlotStateFree port.0 0) (λ uses. used uses port.0 0 (Own (page_operation page))) mid new
+      pub asked_to : IsSimulatedChangingUses (IsPxciOrSlot0PageMemoryAccess port) (IsSlotStateFree port.0 0) (λ uses. used uses port.0 0 (Own (page_operation page))) mid new
       asked_to = laws.fragments.own_command_is_issued (Asking port) port (page_operation page) 1 mid new (refl, refl) on.no_reset prepared call
 
       put_ci : PortRegisterWritten port.0 Ci 1 mid new
@@ -272,18 +272,18 @@ module _ (laws : Laws) where
   -- ---- stretches, one after another
 
   -- it is asked for after the stores
-  pub stored_then : (port : Port) (next : SlotStates → SlotStates) (old mid new : Device) → IsSimulated (IsSlot0CiOrPageMemoryAccess port) (IsSlotStateFree port.0 0) old mid → IsSimulatedChangingUses (IsSlot0CiOrPageMemoryAccess port) (IsSlotStateFree port.0 0) next mid new →
-      IsSimulatedChangingUses (IsSlot0CiOrPageMemoryAccess port) (IsSlotStateFree port.0 0) next old new
+  pub stored_then : (port : Port) (next : SlotStates → SlotStates) (old mid new : Device) → IsSimulated (IsPxciOrSlot0PageMemoryAccess port) (IsSlotStateFree port.0 0) old mid → IsSimulatedChangingUses (IsPxciOrSlot0PageMemoryAccess port) (IsSlotStateFree port.0 0) next mid new →
+      IsSimulatedChangingUses (IsPxciOrSlot0PageMemoryAccess port) (IsSlotStateFree port.0 0) next old new
   stored_then port next old mid new a b = (laws.fragments.fragments_join (Asking port) (Asking port) (λ uses. uses) next (λ access may. may) (λ uses free. free) old mid new a b).is_simulated
 
   -- what was asked for is awaited
-  pub asked_then : (port : Port) (next : SlotStates → SlotStates) (old mid new : Device) → IsSimulatedChangingUses (IsSlot0CiOrPageMemoryAccess port) (IsSlotStateFree port.0 0) next old mid → IsSimulated (IsSlot0CiOrPageMemoryAccess port) AnySlotStates mid new →
-      IsSimulatedChangingUses (IsSlot0CiOrPageMemoryAccess port) (IsSlotStateFree port.0 0) next old new
+  pub asked_then : (port : Port) (next : SlotStates → SlotStates) (old mid new : Device) → IsSimulatedChangingUses (IsPxciOrSlot0PageMemoryAccess port) (IsSlotStateFree port.0 0) next old mid → IsSimulated (IsPxciOrSlot0PageMemoryAccess port) AnySlotStates mid new →
+      IsSimulatedChangingUses (IsPxciOrSlot0PageMemoryAccess port) (IsSlotStateFree port.0 0) next old new
   asked_then port next old mid new a b = (laws.fragments.fragments_join (Asking port) (AwaitingWithAnySlots port) next (λ uses. uses) (λ access may. may) (λ uses free. tt) old mid new a b).is_simulated
 
   -- in vain, as is told of the accesses
-  pub asked_in_vain : (port : Port) (next : SlotStates → SlotStates) (old mid new : Device) → IsSimulatedChangingUses (IsSlot0CiOrPageMemoryAccess port) (IsSlotStateFree port.0 0) next old mid → IsSimulatedAlong (AreSlot0IssuedReadings port MOST_READINGS) (IsSlot0CiOrPageMemoryAccess port) AnySlotStates mid new →
-      IsSimulatedAlongChangingUses (WaitsForSlot0InVain port) (IsSlot0CiOrPageMemoryAccess port) (IsSlotStateFree port.0 0) next old new
+  pub asked_in_vain : (port : Port) (next : SlotStates → SlotStates) (old mid new : Device) → IsSimulatedChangingUses (IsPxciOrSlot0PageMemoryAccess port) (IsSlotStateFree port.0 0) next old mid → IsSimulatedAlong (AreSlot0IssuedReadings port MOST_READINGS) (IsPxciOrSlot0PageMemoryAccess port) AnySlotStates mid new →
+      IsSimulatedAlongChangingUses (WaitsForSlot0InVain port) (IsPxciOrSlot0PageMemoryAccess port) (IsSlotStateFree port.0 0) next old new
   asked_in_vain port next old mid new a b =
       let both = laws.fragments.fragments_join (Asking port) (AwaitingWithAnySlots port) next (λ uses. uses) (λ access may. may) (λ uses free. tt) old mid new a b.is_simulated in
       let early = a.is_driven.accesses in
@@ -294,12 +294,12 @@ module _ (laws : Laws) where
             (record { before = early; waits = waits; later = []; accesses_are = ap (λ (rest : List Access). early ++ rest) (sym (append-nil waits)); waits_are_vain = b.accesses_are_such });
       }
 
-  awaited_then : (port : Port) (old mid new : Device) → IsSimulated (IsSlot0CiOrPageMemoryAccess port) AnySlotStates old mid → IsSimulated (IsSlot0CiOrPageMemoryAccess port) AnySlotStates mid new → IsSimulated (IsSlot0CiOrPageMemoryAccess port) AnySlotStates old new
+  awaited_then : (port : Port) (old mid new : Device) → IsSimulated (IsPxciOrSlot0PageMemoryAccess port) AnySlotStates old mid → IsSimulated (IsPxciOrSlot0PageMemoryAccess port) AnySlotStates mid new → IsSimulated (IsPxciOrSlot0PageMemoryAccess port) AnySlotStates old new
   awaited_then port old mid new a b = (laws.fragments.fragments_join (AwaitingWithAnySlots port) (AwaitingWithAnySlots port) (λ uses. uses) (λ uses. uses) (λ access may. may) (λ uses any. tt) old mid new a b).is_simulated
 
   -- a page that came leaves its slot
-  pub asked_back : (port : Port) (o : Operation) (old new : Device) → SlotHasNoCommand (new.port port.0) 0 → IsSimulatedChangingUses (IsSlot0CiOrPageMemoryAccess port) (IsSlotStateFree port.0 0) (λ uses. used uses port.0 0 (Own o)) old new →
-      IsSimulated (IsSlot0CiOrPageMemoryAccess port) (IsSlotStateFree port.0 0) old new
+  pub asked_back : (port : Port) (o : Operation) (old new : Device) → SlotHasNoCommand (new.port port.0) 0 → IsSimulatedChangingUses (IsPxciOrSlot0PageMemoryAccess port) (IsSlotStateFree port.0 0) (λ uses. used uses port.0 0 (Own o)) old new →
+      IsSimulated (IsPxciOrSlot0PageMemoryAccess port) (IsSlotStateFree port.0 0) old new
   asked_back port o old new over a = (laws.fragments.own_command_is_over (Asking port) port o 1 old new (refl, refl) (λ uses free. free) over a).is_simulated
 
   -- ---- header and table are stored first
@@ -308,10 +308,10 @@ module _ (laws : Laws) where
     pub stores_leave : Leaves port.0 old mid
     stores_leave = tables_leave port old mid on stores.is_driven
 
-    pub stores_asking : IsSimulated (IsSlot0CiOrPageMemoryAccess port) (IsSlotStateFree port.0 0) old mid
+    pub stores_asking : IsSimulated (IsPxciOrSlot0PageMemoryAccess port) (IsSlotStateFree port.0 0) old mid
     stores_asking = (laws.fragments.is_of_wider_kind (Stored port) (Asking port) (λ uses. uses) kind (λ uses free. free) old mid stores).is_simulated
       where
-        kind : (access : Access) → IsHeaderOrTableStore port.0 0 access → IsSlot0CiOrPageMemoryAccess port access
+        kind : (access : Access) → IsHeaderOrTableStore port.0 0 access → IsPxciOrSlot0PageMemoryAccess port access
         kind (Storing at bytes) here = here
         kind (Reading r v) here = absurd here
         kind (Writing r v) here = absurd here
@@ -334,7 +334,7 @@ module _ (laws : Laws) where
     reads_on : IsOn e
     reads_on = laws.access_keeps_on (Reading (Px port Ci) v) d e on (λ w f. absurd cc) call
 
-    reads_followed : IsSimulated (IsSlot0CiOrPageMemoryAccess port) AnySlotStates d e
+    reads_followed : IsSimulated (IsPxciOrSlot0PageMemoryAccess port) AnySlotStates d e
     reads_followed = (laws.fragments.reads (AwaitingWithAnySlots port) (Px port Ci) v d e refl call).is_simulated
 
     -- the driver goes on to wait
@@ -435,7 +435,7 @@ module _ (laws : Laws) where
       pub load_clear : IsSlotClear (new.port port.0) 0
       load_clear = laws.access_keeps_slot_clear port 0 (Loading (scratch_frame_address port.0) bytes) old new (λ v e. absurd cc) (λ v e. absurd cc) call clear
 
-      pub load_followed : IsSimulated (IsSlot0CiOrPageMemoryAccess port) AnySlotStates old new
+      pub load_followed : IsSimulated (IsPxciOrSlot0PageMemoryAccess port) AnySlotStates old new
       load_followed = (laws.fragments.loads (AwaitingWithAnySlots port) (scratch_frame_address port.0) bytes old new (refl, size) call).is_simulated
 
       pub load_brings : (early : ℕ) → early ≤ since → BringsLastPage port.0 o early bytes new

@@ -16,7 +16,7 @@ use Rattle.adapter.specs.RegisterEffects.{PortRegisterRead}
 use Rattle.adapter.specs.RegisterEffects.{PortRegisterWritten}
 use Rattle.refinement.specs.Fragments.{NoCommandIsIssuedOrTaken, IsDrivenBy}
 use Rattle.adapter.specs.OneCommand.{SlotHasNoCommand}
-use Rattle.disk_page.specs.PageRequests.{IsSlot0CiOrPageMemoryAccess, LeavesPortWhileAsking, SameButCiNotes}
+use Rattle.disk_page.specs.PageRequests.{IsPxciOrSlot0PageMemoryAccess, LeavesPortWhileAsking, SameButCiNotes}
 use Rattle.disk_page.proofs.Asking.{reading_leaves, grown, asking_spares_ghc, bit_one_other}
 use Rattle.disk_page.specs.Laws.{Laws}
 use Rattle.std.specs.List.{All}
@@ -112,7 +112,7 @@ module _ (laws : Laws) where
     notes = l.other_notes_are_kept;
   }
 
-  asking_leaves : (port : Port) (access : Access) (old new : Device) → IsOn old → IsSlot0CiOrPageMemoryAccess port access → Does access old new → LeavesPortWhileAsking port.0 old new
+  asking_leaves : (port : Port) (access : Access) (old new : Device) → IsOn old → IsPxciOrSlot0PageMemoryAccess port access → Does access old new → LeavesPortWhileAsking port.0 old new
   asking_leaves port (Loading at bytes) old new on here x = by_device port.0 old new on.no_reset x.steps
   asking_leaves port (Storing at bytes) old new on here x =
       let P : Device → Type 0 = λ d. LeavesPortWhileAsking port.0 old d in subst P (sym x.effect) (with_memory port.0 at bytes old x.at_access (by_device port.0 old x.at_access on.no_reset x.steps))
@@ -149,13 +149,13 @@ module _ (laws : Laws) where
         faults_are_on_record = laws.issues_keep_fault_record port.0 port 1 old new call;
       }
 
-  leaves_over : (port : Port) (accesses : List Access) (old new : Device) → IsOn old → All (IsSlot0CiOrPageMemoryAccess port) accesses → DoesAll accesses old new → LeavesPortWhileAsking port.0 old new
+  leaves_over : (port : Port) (accesses : List Access) (old new : Device) → IsOn old → All (IsPxciOrSlot0PageMemoryAccess port) accesses → DoesAll accesses old new → LeavesPortWhileAsking port.0 old new
   leaves_over port [] old new on all is = subst (LeavesPortWhileAsking port.0 old) (sym is) (running_none port.0 old)
   leaves_over port (access ∷ accesses) old new on all (mid, does, rest) =
-      let here = All-head (IsSlot0CiOrPageMemoryAccess port) access accesses all in
+      let here = All-head (IsPxciOrSlot0PageMemoryAccess port) access accesses all in
       let host = asking_spares_ghc laws port access here in
       let later = laws.access_keeps_on access old mid on (λ v is. absurd (subst (DoesNotWrite Ghc) is host refl)) does in
-      running_more port.0 old mid new (asking_leaves port access old mid on here does) (leaves_over port accesses mid new later (All-tail (IsSlot0CiOrPageMemoryAccess port) access accesses all) rest)
+      running_more port.0 old mid new (asking_leaves port access old mid on here does) (leaves_over port accesses mid new later (All-tail (IsPxciOrSlot0PageMemoryAccess port) access accesses all) rest)
 
-  pub asking_leaves_running : (port : Port) (old new : Device) → IsOn old → IsDrivenBy (IsSlot0CiOrPageMemoryAccess port) old new → LeavesPortWhileAsking port.0 old new
+  pub asking_leaves_running : (port : Port) (old new : Device) → IsOn old → IsDrivenBy (IsPxciOrSlot0PageMemoryAccess port) old new → LeavesPortWhileAsking port.0 old new
   asking_leaves_running port old new on a = leaves_over port a.accesses old new on a.accesses_are_of_kind a.all_are_done

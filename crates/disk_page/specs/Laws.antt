@@ -4,7 +4,7 @@ use Rattle.ata_types.specs.declared.Port.{Port}
 use Rattle.adapter.specs.Access.{Access, Does, Loads, Reads, Writes}
 use Rattle.refinement.specs.Laws.{FragmentLaws, TapeLaws}
 use Rattle.refinement.specs.Relation.{StateRelation}
-use Rattle.refinement.specs.Fragments.{AnyAccess, AnySlotStates, SomeMachineAgrees, IsDrivenBy, SparesOtherPorts, OnlyDeviceChangesPort, NoneWrites, GainsNoMove}
+use Rattle.refinement.specs.Fragments.{AnyAccess, AnySlotStates, SomeMachineAgrees, IsDrivenBy, AccessesNoOtherPort, OnlyDeviceChangesPort, NoneWrites, GainsNoMove}
 use Rattle.refinement.specs.AwaitedPage.{AwaitsOrHasPage}
 use Rattle.refinement.specs.HaltRecovery.{PlainSlot0IsIssuedOrNotHalted}
 use Rattle.adapter.specs.OneCommand.{SlotHasNoCommand}
@@ -16,7 +16,7 @@ use Rattle.adapter.specs.declared.tape.Entry.{Entry}
 use Rattle.refinement.specs.PortFacts.{FollowsAndHasPageSinceStSet, IsSlotClear, RecordsFaultsIfSt}
 use Rattle.hba_regs.specs.declared.reg.Reg.TheVariants.{Ghc, Px}
 use Rattle.adapter.specs.Rules.{HasPort, IsInMemoryNotOwnedByDevice, IsOn, MayWrite, IsStable}
-use Rattle.disk_page.specs.PageRequests.{IsSlot0CiOrPageMemoryAccess}
+use Rattle.disk_page.specs.PageRequests.{IsPxciOrSlot0PageMemoryAccess}
 use Rattle.refinement.specs.Driver.{IsOwnCommandPreparedInSlot0}
 use Rattle.block_machine.specs.Histories.{IsReachable}
 use Rattle.command_table.specs.TableStores.{IsHeaderOrTableStore, IsSlotStateFree}
@@ -42,8 +42,8 @@ pub data AccessPurpose : Type 0 where
   StoringTable : Port → AccessPurpose
 
 abbrev pub accesses_for : AccessPurpose → Access → Type 0
-accesses_for (Asking port) = IsSlot0CiOrPageMemoryAccess port
-accesses_for (AwaitingWithAnySlots port) = IsSlot0CiOrPageMemoryAccess port
+accesses_for (Asking port) = IsPxciOrSlot0PageMemoryAccess port
+accesses_for (AwaitingWithAnySlots port) = IsPxciOrSlot0PageMemoryAccess port
 accesses_for (StoringTable port) = IsHeaderOrTableStore port.0 0
 
 abbrev pub slot_uses_for : AccessPurpose → SlotStates → Type 0
@@ -81,15 +81,15 @@ pub record Laws : Type 0 where
       → RecordsFaultsIfSt old.tape (old.port port) port → RecordsFaultsIfSt new.tape (new.port port) port
   -- stores
   pub stores_spare_other_ports : (port : Port) (at slot : ℕ) (access : Access) → IsHeaderOrTableStore at slot access
-      → SparesOtherPorts port access
+      → AccessesNoOtherPort port access
   pub stores_write_no_register : (port slot : ℕ) (r : Reg) → NoneWrites (IsHeaderOrTableStore port slot) r
   pub other_ports_are_left : (port : Port) (q : ℕ) (old new : Device) → q ≢ port.0 → IsOn old
-      → IsDrivenBy (SparesOtherPorts port) old new
+      → IsDrivenBy (AccessesNoOtherPort port) old new
       → OnlyDeviceChangesPort (old.port q) (new.port q)
   pub accesses_keep_adapter : (old new : Device) → IsDrivenBy AnyAccess old new → SameAdapter old new
   pub accesses_extend_tape : (old new : Device) → IsDrivenBy AnyAccess old new → (gained : List Entry)
       × (new.tape ≡ old.tape ++ gained)
-  pub accesses_of_port_spare_ghc : (port : Port) (access : Access) → SparesOtherPorts port access
+  pub accesses_of_port_spare_ghc : (port : Port) (access : Access) → AccessesNoOtherPort port access
       → DoesNotWrite Ghc access
   -- the page
   pub issuing_page_command_is_permitted : (uses : SlotStates) (m : Machine) (d : Device) → IsReachable m

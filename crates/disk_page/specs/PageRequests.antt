@@ -55,11 +55,11 @@ SameButCiNotes old new = new ≡ record old { last_ci = new.last_ci; slot0_issue
 
 -- It stores slot 0's header, with PRDBC zero, or its table, reads PxCI, writes it with bit 0 alone, or loads the page
 -- from the scratch frame.
-abbrev pub IsSlot0CiOrPageMemoryAccess : Port → Access → Type 0
-IsSlot0CiOrPageMemoryAccess port (Reading r v) = r ≡ Px port Ci
-IsSlot0CiOrPageMemoryAccess port (Writing r v) = (r ≡ Px port Ci) × (v ≡ 1)
-IsSlot0CiOrPageMemoryAccess port (Loading at bytes) = (at ≡ scratch_frame_address port.0) × (length bytes ≡ 512)
-IsSlot0CiOrPageMemoryAccess port (Storing at bytes) = IsHeaderOrTableStore port.0 0 (Storing at bytes)
+abbrev pub IsPxciOrSlot0PageMemoryAccess : Port → Access → Type 0
+IsPxciOrSlot0PageMemoryAccess port (Reading r v) = r ≡ Px port Ci
+IsPxciOrSlot0PageMemoryAccess port (Writing r v) = (r ≡ Px port Ci) × (v ≡ 1)
+IsPxciOrSlot0PageMemoryAccess port (Loading at bytes) = (at ≡ scratch_frame_address port.0) × (length bytes ≡ 512)
+IsPxciOrSlot0PageMemoryAccess port (Storing at bytes) = IsHeaderOrTableStore port.0 0 (Storing at bytes)
 
 -- What asking leaves of the port: its controls and its addresses; every slot but slot 0, which has no command if it had
 -- none; all that readings noted but of PxCI; the bits of PxSACT that were clear; and the record of its faults since ST
@@ -106,9 +106,9 @@ pub record BringsLastPage (port : ℕ) (o : Operation) (since : ℕ) (bytes : Li
 -- command may be in slot 0 still.
 abbrev pub ReadsPageOrWaitsInVain : Port → Operation → Option (List ℕ) → Device → Device → Type 0
 ReadsPageOrWaitsInVain port o (Some bytes) old new = BringsLastPage port.0 o (length old.tape) bytes new
-    × IsSimulated (IsSlot0CiOrPageMemoryAccess port) (IsSlotStateFree port.0 0) old new
+    × IsSimulated (IsPxciOrSlot0PageMemoryAccess port) (IsSlotStateFree port.0 0) old new
 ReadsPageOrWaitsInVain port o None old new = ((new.port port.0).notes.slot0_issued_count ≡ MOST_READINGS)
-    × IsSimulatedAlongChangingUses (WaitsForSlot0InVain port) (IsSlot0CiOrPageMemoryAccess port)
+    × IsSimulatedAlongChangingUses (WaitsForSlot0InVain port) (IsPxciOrSlot0PageMemoryAccess port)
     (IsSlotStateFree port.0 0)
     (λ uses. set_slot_state uses port.0 0 (Own o)) old new
 

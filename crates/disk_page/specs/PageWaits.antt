@@ -10,7 +10,7 @@ use Rattle.refinement.specs.Fragments.{SomeMachineAgrees, IsSimulatedChangingUse
 use Rattle.refinement.specs.HaltRecovery.{PlainSlot0IsIssuedOrNotHalted}
 use Rattle.refinement.specs.Slots.{Free, Own, SlotStates, client_operation_of, set_slot_state}
 use Rattle.command_table.specs.TableStores.{IsSlotStateFree}
-use Rattle.disk_page.specs.PageRequests.{IsSlot0CiOrPageMemoryAccess, page_operation}
+use Rattle.disk_page.specs.PageRequests.{IsPxciOrSlot0PageMemoryAccess, page_operation}
 use Rattle.disk_page.specs.declared.Page.{Page}
 
 -- Slot 0 has the command, which was issued when the tape was so long; and some machine agrees. Where no other slot of
@@ -27,7 +27,7 @@ pub record IsPageAwaitedOrReceived (port : Port) (o : Operation) (since : ℕ) (
 
 -- The command that brings the page was issued in slot 0, as an access of asking: from then on it is waited for.
 pub record AsksForPage (port : Port) (page : Page) (old new : Device) : Type 0 where
-  pub followed : IsSimulatedChangingUses (IsSlot0CiOrPageMemoryAccess port) (IsSlotStateFree port.0 0)
+  pub followed : IsSimulatedChangingUses (IsPxciOrSlot0PageMemoryAccess port) (IsSlotStateFree port.0 0)
       (λ uses. set_slot_state uses port.0 0 (Own (page_operation page)))
       old new
   pub page_is_awaited : (uses : SlotStates) → IsSlotStateFree port.0 0 uses → SomeMachineAgrees uses old

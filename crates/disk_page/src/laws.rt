@@ -2,18 +2,19 @@
 ghost use Rattle.std.specs.Prelude.{ℕ, ◌++◌, List};
 ghost use Rattle.ata_types.specs.declared.Port.{Port};
 ghost use Rattle.adapter.specs.{Access.{Access}, Device.{Device}, OneCommand.{SlotHasNoCommand}, Rules.{IsOn}};
-ghost use Rattle.refinement.specs.Fragments.{NoCommandIsIssuedOrTaken, IsDrivenBy, SparesOtherPorts};
-ghost use Rattle.disk_page.specs.PageRequests.{IsSlot0CiOrPageMemoryAccess, LeavesPortWhileAsking, WaitsForSlot0InVain};
+ghost use Rattle.refinement.specs.Fragments.{NoCommandIsIssuedOrTaken, IsDrivenBy, AccessesNoOtherPort};
+ghost use Rattle.disk_page.specs.PageRequests.{IsPxciOrSlot0PageMemoryAccess, LeavesPortWhileAsking, WaitsForSlot0InVain};
 
 use super::prerequisites::law_prerequisites;
 
-/// Asking touches no register of another port; so what is said of such accesses (`SparesOtherPorts`) is so of it. And
-/// accesses of its kinds, in any order, leave the port running; one without a command has none once slot 0's is over.
+/// Asking touches no register of another port; so what is said of such accesses (`AccessesNoOtherPort`) is so of it.
+/// And accesses of its kinds, in any order, leave the port running; one without a command has none once slot 0's is
+/// over.
 pub fn law_page_request_spares_other_ports()
-    ensures spares_other_ports { (port : Port) (access : Access) → IsSlot0CiOrPageMemoryAccess port access
-        → SparesOtherPorts port access }
+    ensures spares_other_ports { (port : Port) (access : Access) → IsPxciOrSlot0PageMemoryAccess port access
+        → AccessesNoOtherPort port access }
     ensures leaves_running { (port : Port) (old new : Device) → IsOn old
-        → IsDrivenBy (IsSlot0CiOrPageMemoryAccess port) old new
+        → IsDrivenBy (IsPxciOrSlot0PageMemoryAccess port) old new
         → LeavesPortWhileAsking port.0 old new }
     ensures slots_stay_empty { (port : ℕ) (old new : Device) → LeavesPortWhileAsking port old new
         → NoCommandIsIssuedOrTaken (old.port port)

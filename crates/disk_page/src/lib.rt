@@ -8,7 +8,7 @@
 ghost use Rattle.std.specs.Prelude.{◌≡◌, ◌<◌, ◌+◌, ◌*◌, true, false, None, ℕ};
 ghost use Rattle.adapter.specs.{Commands.{command_of}, Device.{Device}, Rules.{IsOn, HasPort}, declared.command.Operation.{Operation}, AccessBounds.{MakesAtMost}};
 ghost use Rattle.refinement.specs.{Fragments.{AnySlotStates, IsSimulated, IsSimulatedAlong}, PortFacts.{IsSlotClear}, Slots.{SlotStates}};
-ghost use Rattle.disk_page.specs.{PageRequests.{AreSlot0IssuedReadings, GetsPageOrWaitsInVain, IsSlot0CiOrPageMemoryAccess, MayAwaitPage, MayGetPageInUnusedSlot0, page_operation}, PageWaits.{AsksForPage, IsPageAwaitedOrReceived}, Costs.{ASK_FOR_PAGE_ACCESSES, PAGE_ACCESSES}};
+ghost use Rattle.disk_page.specs.{PageRequests.{AreSlot0IssuedReadings, GetsPageOrWaitsInVain, IsPxciOrSlot0PageMemoryAccess, MayAwaitPage, MayGetPageInUnusedSlot0, page_operation}, PageWaits.{AsksForPage, IsPageAwaitedOrReceived}, Costs.{ASK_FOR_PAGE_ACCESSES, PAGE_ACCESSES}};
 
 pub mod laws;
 mod prerequisites;
@@ -70,7 +70,7 @@ fn ask<A: Adapter>(adapter: &mut A, port: Port, page: Page)
 /// Waits until the command in slot 0 isn't issued any more, for 64 readings of PxCI at most.
 fn wait<A: Adapter>(adapter: &mut A, port: Port) -> bool
     requires may { MayAwaitPage port (A.device adapter.old) }
-    ensures followed { IsSimulated (IsSlot0CiOrPageMemoryAccess port) AnySlotStates (A.device adapter.old)
+    ensures followed { IsSimulated (IsPxciOrSlot0PageMemoryAccess port) AnySlotStates (A.device adapter.old)
         (A.device adapter.new) }
     ensures adapter_is_on { IsOn (A.device adapter.new) }
     ensures waiting { (o : Operation) (since : ℕ) (uses : SlotStates) (start : Device)
@@ -81,7 +81,8 @@ fn wait<A: Adapter>(adapter: &mut A, port: Port) -> bool
         → IsSlotClear ((A.device adapter.new).port port.0) 0 }
     ensures vain { result ≡ false
         → (((A.device adapter.new).port port.0).notes.slot0_issued_count ≡ MOST_READINGS)
-        × IsSimulatedAlong (AreSlot0IssuedReadings port MOST_READINGS) (IsSlot0CiOrPageMemoryAccess port) AnySlotStates
+        × IsSimulatedAlong (AreSlot0IssuedReadings port MOST_READINGS) (IsPxciOrSlot0PageMemoryAccess port)
+        AnySlotStates
         (A.device adapter.old)
         (A.device adapter.new) }
     ensures cost { MakesAtMost MOST_READINGS (A.access_count adapter.old) (A.access_count adapter.new) }

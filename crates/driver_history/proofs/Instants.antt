@@ -22,7 +22,7 @@ use Rattle.driver_history.specs.PortInvariants.{DriverInvariant, PortStateInvari
 
 -- the ports of a history are fit
 pub history_fit : {D E : Type 0} (Begins : JointState D → Type 0) (Relation : JointState D → JointEvent D E → Type 0) (first : JointState D) (past : List (JointEvent D E))
-    → histories.IsHistory Begins Relation first past → PortsWellFormed (joint_state_after first past).abstract.ports
+    → histories.IsJointRun Begins Relation first past → PortsWellFormed (joint_state_after first past).abstract.ports
 history_fit Begins Relation first [] h = h.0.1
 history_fit Begins Relation first (x ∷ past) h = h.1.ports_are_well_formed
 

@@ -14,7 +14,7 @@ use Rattle.adapter.specs.declared.tape.Entry.{Entry}
 use Rattle.adapter.specs.declared.tape.Entry.TheVariants as entry
 use Rattle.adapter.specs.declared.tape.Fault as tape_fault
 use Rattle.adapter.specs.declared.command.Operation.TheVariants.{ReadLog}
-use Rattle.refinement.specs.Fragments.{IsDrivenBy, SparesOtherPorts, TapeGrows, OnlyDeviceChangesPort, GainsNoMove}
+use Rattle.refinement.specs.Fragments.{IsDrivenBy, AccessesNoOtherPort, TapeGrows, OnlyDeviceChangesPort, GainsNoMove}
 use Rattle.refinement.specs.Slots.{IsMove}
 use Rattle.refinement.specs.Errors.{LinkErrorsRiseByDisks, ErrorBitsRiseByErrors, IsFatalEntryOf}
 use Rattle.refinement.specs.PortFacts.{IsFaultOf}
@@ -126,7 +126,7 @@ module _ (laws : AccessLaws) (port : Port) where
 
   one_left : (access : Access) (old new : Device) → IsOn old → KeepsToAnotherPort port access → Does access old new → IsLeft old new
   one_left access old new on (other, apart, of) does =
-      let driven : IsDrivenBy (SparesOtherPorts other) old new = record { accesses = access ∷ []; all_are_done = (new, does, refl); accesses_are_of_kind = All-cons (SparesOtherPorts other) access [] of (All-nil (SparesOtherPorts other)) } in
+      let driven : IsDrivenBy (AccessesNoOtherPort other) old new = record { accesses = access ∷ []; all_are_done = (new, does, refl); accesses_are_of_kind = All-cons (AccessesNoOtherPort other) access [] of (All-nil (AccessesNoOtherPort other)) } in
       record {
         on = laws.one_port_keeps_adapter_on other old new on driven;
         leaves = laws.other_ports_are_left other port.0 old new apart on driven;

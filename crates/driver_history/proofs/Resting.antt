@@ -12,7 +12,7 @@ use Rattle.ata_types.specs.declared.request.Outcome.{Outcome}
 use Rattle.ata_types.specs.declared.request.Outcome.TheVariants as outcome
 use Rattle.adapter.specs.Device.{Device}
 use Rattle.adapter.specs.declared.access.DeviceStep.{DeviceStep}
-use Rattle.block_machine.specs.Events.{AbstractCall, Submit, StoreAt, LoadAt, Service, Tick, Reset, RevokeOf, State, StepDevice, AbstractCallResult, AbstractState, AnswersAndWaitsLawful, AllEnabled, AreStepsOfCall, Happens, IsByDevice, IsLawfulAnswer, IsByServer, abstract_after}
+use Rattle.block_machine.specs.Events.{AbstractCall, Submit, StoreAt, LoadAt, Service, Tick, Reset, RevokeOf, State, StepDevice, AbstractCallResult, AbstractState, AnswersLawfulAndWaitsOnStoppedPorts, AllEnabled, AreStepsOfCall, Happens, IsByDevice, IsLawfulAnswer, IsByServer, abstract_after}
 use Rattle.block_machine.specs.Histories.{JointState, JointEvent}
 use Rattle.block_machine.specs.Ports.{Ports, Evidence, PortsWellFormed}
 use Rattle.block_machine.specs.State.{Pending, Machine}
@@ -36,21 +36,21 @@ dead_at wanted i port fit (s, holds) dead = ⊎_elim
 
 -- ---- a step of a call
 
-lawful_rest : (old : AbstractState) (evidence : Evidence) (ports : Ports) (step : Step) (before : List Step) → AnswersAndWaitsLawful old evidence ports (step ∷ before) → AnswersAndWaitsLawful old evidence ports before
+lawful_rest : (old : AbstractState) (evidence : Evidence) (ports : Ports) (step : Step) (before : List Step) → AnswersLawfulAndWaitsOnStoppedPorts old evidence ports (step ∷ before) → AnswersLawfulAndWaitsOnStoppedPorts old evidence ports before
 lawful_rest old evidence ports (Answer e o) before l = l.0
 lawful_rest old evidence ports (WaitAgain e) before l = l.0
 lawful_rest old evidence ports _ before l = l
 
 -- each answer among lawful steps is lawful
-all_lawful : (old : AbstractState) (evidence : Evidence) (ports : Ports) (steps : List Step) → AnswersAndWaitsLawful old evidence ports steps
+all_lawful : (old : AbstractState) (evidence : Evidence) (ports : Ports) (steps : List Step) → AnswersLawfulAndWaitsOnStoppedPorts old evidence ports steps
     → All (λ step. (e : Pending) (o : Outcome) → step ≡ Answer e o → IsLawfulAnswer old evidence ports e o) steps
 all_lawful old evidence ports [] l = All-nil (λ step. (e : Pending) (o : Outcome) → step ≡ Answer e o → IsLawfulAnswer old evidence ports e o)
 all_lawful old evidence ports (step ∷ before) l =
     All-cons (λ step. (e : Pending) (o : Outcome) → step ≡ Answer e o → IsLawfulAnswer old evidence ports e o) step before
-    (λ e o same. let whole : AnswersAndWaitsLawful old evidence ports (Answer e o ∷ before) = subst (λ (x : Step). AnswersAndWaitsLawful old evidence ports (x ∷ before)) same l in whole.1)
+    (λ e o same. let whole : AnswersLawfulAndWaitsOnStoppedPorts old evidence ports (Answer e o ∷ before) = subst (λ (x : Step). AnswersLawfulAndWaitsOnStoppedPorts old evidence ports (x ∷ before)) same l in whole.1)
     (all_lawful old evidence ports before (lawful_rest old evidence ports step before l))
 
-lawful_of : (old : AbstractState) (evidence : Evidence) (ports : Ports) (steps : List Step) → AnswersAndWaitsLawful old evidence ports steps → (e : Pending) (o : Outcome)
+lawful_of : (old : AbstractState) (evidence : Evidence) (ports : Ports) (steps : List Step) → AnswersLawfulAndWaitsOnStoppedPorts old evidence ports steps → (e : Pending) (o : Outcome)
     → Contains steps (Answer e o) → IsLawfulAnswer old evidence ports e o
 lawful_of old evidence ports steps l e o h =
     All-contains (λ step. (e : Pending) (o : Outcome) → step ≡ Answer e o → IsLawfulAnswer old evidence ports e o) steps (Answer e o) (all_lawful old evidence ports steps l) h e o refl

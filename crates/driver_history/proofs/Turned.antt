@@ -24,8 +24,8 @@ use Rattle.error_recovery.specs.Evidence.{GainsSinceStart, ShowsFatal}
 use Rattle.driver_history.specs.Evidence.{TapeGainsEntry, ShowsLinkChange, ShowsFailure}
 use Rattle.driver_history.specs.Histories.{BootsAnewWhereRequired, IsForeignOrUnfit, HasOnlyTaskFileError, HasFirstFisOrNoDevice, LosesNoPortError, RunsWellAnew, IsServedAndNotDead, ProbesDisk}
 use Rattle.driver_history.specs.Laws.{AccessLaws}
-use Rattle.driver_history.specs.PortTurn.{ForeignOrUnfitShowingXEndsNoLinkDue, HasTurnIn, KeepsToAnotherPort, EvidenceAgreesOn, call_accesses}
-use Rattle.driver_history.specs.AccessTrace.{ResetsLink}
+use Rattle.driver_history.specs.PortTurn.{UnusableWithXEndsNotDueAbsentOrDeadIfNoneComes, HasTurnIn, KeepsToAnotherPort, EvidenceAgreesOn, call_accesses}
+use Rattle.driver_history.specs.AccessTrace.{LastSctlWritesResetLink}
 use Rattle.driver_history.proofs.Parting.{IsLeft, gains_within, grows_over, loss_then, others_leave, plugged_or_not}
 use Rattle.driver_history.proofs.Since.{calm_since, running_in_part}
 use Rattle.driver_history.proofs.Errors.{IsOne, Shows, Tells, TroubleKind, change_still, disks, failure_still, faults, fatals, in_parts, is_trouble, links, tells_still, told}
@@ -99,10 +99,10 @@ module _ (laws : AccessLaws) (port : Port) where
       spares_other : (accesses : List Access) → All (KeepsToAnotherPort port) accesses → All (DoesNotWrite (Px port Sctl)) accesses
       spares_other accesses of = All-weaker (KeepsToAnotherPort port) (DoesNotWrite (Px port Sctl)) (λ access x. laws.one_port_spares_registers x.0 port Sctl x.1 access x.2) accesses of
 
-      reset_in_call : ResetsLink port t.turn → ResetsLink port (call_accesses t)
+      reset_in_call : LastSctlWritesResetLink port t.turn → LastSctlWritesResetLink port (call_accesses t)
       reset_in_call r = reset_within port t.before t.turn t.later (spares_other t.later t.later_are_of_others) r
 
-      reset_in_turn : ResetsLink port (call_accesses t) → ResetsLink port t.turn
+      reset_in_turn : LastSctlWritesResetLink port (call_accesses t) → LastSctlWritesResetLink port t.turn
       reset_in_turn r = reset_before port t.turn t.later (spares_other t.later t.later_are_of_others) (reset_after port t.before (t.turn ++ t.later) (spares_other t.before t.earlier_are_of_others) r)
 
       pub boots_are_the_calls : (one other : AbstractCallResult) → (old.abstract.ports.state port ≡ Ready → (old.device.port port.0).link_due ≡ false) → SamePort old.abstract.ports begun.ports port → BootsAnewWhereRequired Service one t.turn began ended t.end port
@@ -125,7 +125,7 @@ module _ (laws : AccessLaws) (port : Port) where
             its.1,
       )
         where
-          booted : (ended.state port ≡ Dead) ⊎ ((ended.state port ≡ Absent) ⊎ ResetsLink port t.turn) → (ports.state port ≡ Dead) ⊎ ((ports.state port ≡ Absent) ⊎ ResetsLink port (call_accesses t))
+          booted : (ended.state port ≡ Dead) ⊎ ((ended.state port ≡ Absent) ⊎ LastSctlWritesResetLink port t.turn) → (ports.state port ≡ Dead) ⊎ ((ports.state port ≡ Absent) ⊎ LastSctlWritesResetLink port (call_accesses t))
           booted anew = ⊎_elim (λ dead. inl (stays.1 ∙ dead)) (λ rest. inr (⊎_elim (λ absent. inl (stays.1 ∙ absent)) (λ r. inr (reset_in_call r)) rest)) anew
 
       -- a disk that is tried
@@ -144,7 +144,7 @@ module _ (laws : AccessLaws) (port : Port) where
       x_then : (old.device.port port.0).serr_x ≡ true → (t.start.port port.0).serr_x ≡ true
       x_then x = (first.trouble_shown links).still x
 
-      pub linked_is_the_calls : SamePort old.abstract.ports begun.ports port → ForeignOrUnfitShowingXEndsNoLinkDue port began ended t.end → ForeignOrUnfitShowingXEndsNoLinkDue port old ports new
+      pub linked_is_the_calls : SamePort old.abstract.ports begun.ports port → UnusableWithXEndsNotDueAbsentOrDeadIfNoneComes port began ended t.end → UnusableWithXEndsNotDueAbsentOrDeadIfNoneComes port old ports new
       linked_is_the_calls was linked bad x none =
           let parts = comes none in
           ⊎_elim
@@ -156,7 +156,7 @@ module _ (laws : AccessLaws) (port : Port) where
       fresh_still : NoDiskComes port.0 t.end new → HasFirstFisOrNoDevice (t.end.port port.0) → HasFirstFisOrNoDevice (new.port port.0)
       fresh_still none fresh = fresh_or_gone (new.port port.0) (stays_over HasFirstFisIfDet3 (laws.first_fis_if_det_3_stays_if_no_disk_comes port) t.later t.end new t.leads_to_new none (fresh_if_shown (t.end.port port.0) fresh))
 
-      pub tries_are_the_calls : SamePort old.abstract.ports begun.ports port → (IsForeignOrUnfit old.abstract.ports port → HasDet3IfDiskPresent (old.device.port port.0)) → ForeignOrUnfitShowingXEndsNoLinkDue port began ended t.end
+      pub tries_are_the_calls : SamePort old.abstract.ports begun.ports port → (IsForeignOrUnfit old.abstract.ports port → HasDet3IfDiskPresent (old.device.port port.0)) → UnusableWithXEndsNotDueAbsentOrDeadIfNoneComes port began ended t.end
           → (NoDiskComes port.0 t.start t.end → ProbesDisk t.turn began ended t.end port) → NoDiskComes port.0 old.device new → ProbesDisk (call_accesses t) old ports new port
       tries_are_the_calls was there linked tried none = record {
         absent_with_device_is_booted_dead_or_has_plug_event = λ absent shows. ⊎_elim
@@ -294,14 +294,14 @@ module _ (laws : AccessLaws) (port : Port) where
             ready_shows_plug_event_since_start = came_since disks its.ready_shows_plug_event_since_start;
           }
 
-        pub well_is_the_calls : (ended.state port ≡ Ready → ((old.device.port port.0).link_due ≡ false) ⊎ ResetsLink port t.turn) → (ended.state port ≡ Ready → (t.end.port port.0).notes.st_set_at ≤ length t.end.tape) → RunsWellAnew turn t.turn began ended t.end port
+        pub well_is_the_calls : (ended.state port ≡ Ready → ((old.device.port port.0).link_due ≡ false) ⊎ LastSctlWritesResetLink port t.turn) → (ended.state port ≡ Ready → (t.end.port port.0).notes.st_set_at ≤ length t.end.tape) → RunsWellAnew turn t.turn began ended t.end port
             → RunsWellAnew call (call_accesses t) old ports new port
         well_is_the_calls linked known its i ready plugs unfailed unbroken how =
             let is_ready : ended.state port ≡ Ready = sym stays.1 ∙ ready in
             let same : (new.port port.0).notes.st_set_at ≡ (t.end.port port.0).notes.st_set_at = ap (λ n. n.st_set_at) last.leaves.notes in
             let small = known is_ready in
             let parts = plug_parts plugs in
-            let up : ResetsLink port t.turn ⊎ ((t.start.port port.0).fresh ≡ true) = ⊎_elim (λ r. inl (reset_in_turn r)) (λ fresh. ⊎_elim (λ undue. inr (first.fresh undue parts.0 ∙ fresh)) (λ r. inl r) (linked is_ready)) how in
+            let up : LastSctlWritesResetLink port t.turn ⊎ ((t.start.port port.0).fresh ≡ true) = ⊎_elim (λ r. inl (reset_in_turn r)) (λ fresh. ⊎_elim (λ undue. inr (first.fresh undue parts.0 ∙ fresh)) (λ r. inl r) (linked is_ready)) how in
             laws.stays_well_if_undisturbed port.0 t.end new
             (laws.runs_on_after_accesses port t.later t.end new on_then t.leads_to_new
             (All-weaker (KeepsToAnotherPort port) (DoesNotWrite Ghc) (λ access x. laws.one_port_spares_ghc x.0 access x.2) t.later t.later_are_of_others)

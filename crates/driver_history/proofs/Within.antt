@@ -16,7 +16,7 @@ use Rattle.refinement.specs.Relation.{port_at}
 use Rattle.refinement.specs.PreservedParts.{DoesNotWrite}
 use Rattle.port_control.specs.Engines.{Stops}
 use Rattle.driver_history.specs.Laws.{AccessLaws}
-use Rattle.driver_history.specs.AccessTrace.{ResetsLink}
+use Rattle.driver_history.specs.AccessTrace.{LastSctlWritesResetLink}
 
 -- ---- lists
 
@@ -45,7 +45,7 @@ module _ (port : Port) where
       All-contains Spares (before ++ Writing (Px port Sctl) v ∷ rest) (Writing (Px port Sctl) v) (subst (All Spares) is all)
       (Contains-append_right before (Writing (Px port Sctl) v ∷ rest) (Writing (Px port Sctl) v) (0, omega arith, refl)) refl
 
-  pub reset_after : (xs ys : List Access) → All Spares xs → ResetsLink port (xs ++ ys) → ResetsLink port ys
+  pub reset_after : (xs ys : List Access) → All Spares xs → LastSctlWritesResetLink port (xs ++ ys) → LastSctlWritesResetLink port ys
   reset_after xs ys all r = ⊎_elim
       (λ (i : (rest : List Access) × (xs ≡ r.before ++ Writing (Px port Sctl) r.comreset_value ∷ rest) × (r.between ++ Writing (Px port Sctl) r.end_of_comreset_value ∷ r.later ≡ rest ++ ys)).
       absurd (spared xs r.before i.0 r.comreset_value all i.1))
@@ -57,7 +57,7 @@ module _ (port : Port) where
   front [] ys all = All-nil Spares
   front (x ∷ xs) ys all = All-cons Spares x xs (All-head Spares x (xs ++ ys) all) (front xs ys (All-tail Spares x (xs ++ ys) all))
 
-  pub reset_before : (ys zs : List Access) → All Spares zs → ResetsLink port (ys ++ zs) → ResetsLink port ys
+  pub reset_before : (ys zs : List Access) → All Spares zs → LastSctlWritesResetLink port (ys ++ zs) → LastSctlWritesResetLink port ys
   reset_before ys zs all r = ⊎_elim
       (λ (i : (rest : List Access) × (ys ≡ r.before ++ Writing (Px port Sctl) r.comreset_value ∷ rest) × (r.between ++ Writing (Px port Sctl) r.end_of_comreset_value ∷ r.later ≡ rest ++ zs)).
       ⊎_elim
@@ -80,7 +80,7 @@ module _ (port : Port) where
       absurd (spared zs o.0 (r.between ++ Writing (Px port Sctl) r.end_of_comreset_value ∷ r.later) r.comreset_value all o.2))
       (parts_at ys zs r.before (r.between ++ Writing (Px port Sctl) r.end_of_comreset_value ∷ r.later) (Writing (Px port Sctl) r.comreset_value) r.accesses_are_split)
 
-  pub reset_within : (xs ys zs : List Access) → All Spares zs → ResetsLink port ys → ResetsLink port (xs ++ (ys ++ zs))
+  pub reset_within : (xs ys zs : List Access) → All Spares zs → LastSctlWritesResetLink port ys → LastSctlWritesResetLink port (xs ++ (ys ++ zs))
   reset_within xs ys zs all r = record {
     before = xs ++ r.before;
     between = r.between;
@@ -209,7 +209,7 @@ module _ (laws : AccessLaws) (port : Port) where
       written_among least before rest v mid new (on_more access (before ++ Writing (Px port Sctl) v ∷ rest) old mid on host does) (All-tail (DoesNotWrite Ghc) access (before ++ Writing (Px port Sctl) v ∷ rest) host)
       spares (longer least access old mid long does) more
 
-  pub reset_noted : (accesses : List Access) (old new : Device) → IsOn old → All (DoesNotWrite Ghc) accesses → DoesAll accesses old new → ResetsLink port accesses
+  pub reset_noted : (accesses : List Access) (old new : Device) → IsOn old → All (DoesNotWrite Ghc) accesses → DoesAll accesses old new → LastSctlWritesResetLink port accesses
       → length old.tape ≤ (new.port port.0).notes.sctl_written_at
   reset_noted accesses old new on host does resets =
       let first : List Access = resets.before ++ Writing (Px port Sctl) resets.comreset_value ∷ resets.between in

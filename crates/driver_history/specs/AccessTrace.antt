@@ -53,7 +53,7 @@ pub record ReadsMasksBeforeCmdWrite (port : Port) (ci sact : ℕ) (accesses : Li
 
 -- The port's link was reset by COMRESET: DET of PxSCTL was set to one, and then to zero, and PxSCTL wasn't written
 -- again (AHCI 1.3.1, 10.4.2).
-pub record ResetsLink (port : Port) (accesses : List Access) : Type 0 where
+pub record LastSctlWritesResetLink (port : Port) (accesses : List Access) : Type 0 where
   pub before : List Access
   pub between : List Access
   pub later : List Access

@@ -11,27 +11,27 @@ use Rattle.block_machine.specs.State.{Pending}
 use Rattle.block_machine.specs.Steps.{Step, WaitAgain, Answer}
 
 -- requests wait again, are aborted, are told Revoked, or have a fault told of them, on ports that failed
-abbrev pub OnlyFailedPortsRequeueAbortRevokeOrFault : Evidence → List Step → Type 0
-OnlyFailedPortsRequeueAbortRevokeOrFault evidence [] = Unit {0}
-OnlyFailedPortsRequeueAbortRevokeOrFault evidence
-    (WaitAgain e ∷ before) = OnlyFailedPortsRequeueAbortRevokeOrFault evidence before
+abbrev pub OnlyPortsShowingErrorRequeueAbortRevokeFault : Evidence → List Step → Type 0
+OnlyPortsShowingErrorRequeueAbortRevokeFault evidence [] = Unit {0}
+OnlyPortsShowingErrorRequeueAbortRevokeFault evidence
+    (WaitAgain e ∷ before) = OnlyPortsShowingErrorRequeueAbortRevokeFault evidence before
     × Contains evidence.showing_error e.request.port
-OnlyFailedPortsRequeueAbortRevokeOrFault evidence
-    (Answer e outcome.Aborted ∷ before) = OnlyFailedPortsRequeueAbortRevokeOrFault evidence
+OnlyPortsShowingErrorRequeueAbortRevokeFault evidence
+    (Answer e outcome.Aborted ∷ before) = OnlyPortsShowingErrorRequeueAbortRevokeFault evidence
     before
     × Contains evidence.showing_error e.request.port
-OnlyFailedPortsRequeueAbortRevokeOrFault evidence
-    (Answer e outcome.Revoked ∷ before) = OnlyFailedPortsRequeueAbortRevokeOrFault evidence
+OnlyPortsShowingErrorRequeueAbortRevokeFault evidence
+    (Answer e outcome.Revoked ∷ before) = OnlyPortsShowingErrorRequeueAbortRevokeFault evidence
     before
     × Contains evidence.showing_error e.request.port
-OnlyFailedPortsRequeueAbortRevokeOrFault evidence (Answer e (outcome.DeviceError status error) ∷ before) =
-    OnlyFailedPortsRequeueAbortRevokeOrFault evidence before × Contains evidence.showing_error e.request.port
-OnlyFailedPortsRequeueAbortRevokeOrFault evidence
-    (step ∷ before) = OnlyFailedPortsRequeueAbortRevokeOrFault evidence before
+OnlyPortsShowingErrorRequeueAbortRevokeFault evidence (Answer e (outcome.DeviceError status error) ∷ before) =
+    OnlyPortsShowingErrorRequeueAbortRevokeFault evidence before × Contains evidence.showing_error e.request.port
+OnlyPortsShowingErrorRequeueAbortRevokeFault evidence
+    (step ∷ before) = OnlyPortsShowingErrorRequeueAbortRevokeFault evidence before
 
 -- so they are in a service
 abbrev pub OnlyFailedPortsRequeueIfService : {D : Type 0} → AbstractCall D → Evidence → List Step → Type 0
-OnlyFailedPortsRequeueIfService Service evidence steps = OnlyFailedPortsRequeueAbortRevokeOrFault evidence steps
+OnlyFailedPortsRequeueIfService Service evidence steps = OnlyPortsShowingErrorRequeueAbortRevokeFault evidence steps
 OnlyFailedPortsRequeueIfService ask evidence steps = Unit {0}
 
 -- each answer to a request of the port is Ok, or this one
@@ -62,7 +62,7 @@ pub record IsLeftAlone (old : Ports) (evidence : Evidence) (steps : List Step) (
 -- Where that is so, or it failed, the port is stopped, or gets stuck. Where it failed or was stopped, what is
 -- issued then was issued in the call. One fault is told at most, and none where an error was fatal, which is a failure,
 -- too. It shows a disk after the call only where one was in. And where nothing disturbs it, the port is left alone.
--- (That it is what it was unless it was stopped or got stuck, `IsServiced` has of each port.)
+-- (That it is what it was unless it was stopped or got stuck, `ChangesOnlyIfStoppedOrStuck` has of each port.)
 pub record ServicesReadyPort (old : AbstractState) (evidence : Evidence) (steps : List Step) (new : AbstractState)
     (port : Port) : Type 0 where
   pub answers_ok_what_had_ended : AnswersOkWhatHadEnded old.machine steps port

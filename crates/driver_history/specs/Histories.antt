@@ -37,7 +37,7 @@ use Rattle.error_recovery.specs.Evidence.{GainsSinceStart, ShowsFatal}
 use Rattle.driver_history.specs.Evidence.{TapeGainsEntry, ShowsLinkChange, ShowsFailure, ShowedLinkChangeOrNoDeviceAndNoneCame, IsEvidenced}
 use Rattle.driver_history.specs.EvidenceHandling.{ServicesOrOnlyTickOrResetStops, OnlyFailedPortsRequeueIfService}
 use Rattle.driver_history.specs.PortInvariants.{DriverInvariant}
-use Rattle.driver_history.specs.AccessTrace.{ReadsMasksBeforeCmdWrite, ResetsLink, UsesPortsAndNotGhc, StaysInDriverFrames, UsesPortRegistersOf}
+use Rattle.driver_history.specs.AccessTrace.{ReadsMasksBeforeCmdWrite, LastSctlWritesResetLink, UsesPortsAndNotGhc, StaysInDriverFrames, UsesPortRegistersOf}
 
 -- ---- how a call came from the one device to the other
 
@@ -200,7 +200,8 @@ pub record ProbesDisk (accesses : List Access) (old : JointState Device) (ports 
     (port : Port) : Type 0 where
   pub absent_with_device_is_booted_dead_or_has_plug_event : old.abstract.ports.state port ≡ Absent
       → (old.device.port port.0).ssts_det ≡ 3
-      → (ports.state port ≡ Dead) ⊎ (ResetsLink port accesses ⊎ TapeGainsEntry (IsPlugEvent port.0) old.device new)
+      → (ports.state port ≡ Dead) ⊎ (LastSctlWritesResetLink port accesses ⊎ TapeGainsEntry (IsPlugEvent port.0)
+      old.device new)
   pub absent_gets_first_fis_or_dead_or_no_device : old.abstract.ports.state port ≡ Absent
       → (old.device.port port.0).ssts_det ≡ 3
       → (old.device.port port.0).fresh ≡ false → (ports.state port ≡ Dead) ⊎ HasFirstFisOrNoDevice (new.port port.0)
@@ -208,12 +209,14 @@ pub record ProbesDisk (accesses : List Access) (old : JointState Device) (ports 
       → (old.device.port port.0).ssts_det ≢ 3 → (ports.state port ≡ Absent) ⊎ (ports.state port ≡ Dead)
   pub changed_disk_is_booted_or_absent_or_dead : IsForeignOrUnfit old.abstract.ports port
       → (old.device.port port.0).serr_x ≡ true → (ports.state port ≡ Absent) ⊎ ((ports.state port ≡ Dead)
-      ⊎ (ResetsLink port accesses × ((new.port port.0).serr_x ≡ false) × HasFirstFisOrNoDevice (new.port port.0)))
+      ⊎ (LastSctlWritesResetLink port accesses × ((new.port port.0).serr_x ≡ false)
+      × HasFirstFisOrNoDevice (new.port port.0)))
 
-abbrev pub ProbesInCall : AbstractCall DeviceStep → List Access → JointState Device → Ports → Device → Port → Type 0
-ProbesInCall Service accesses old ports new port =
+abbrev pub ProbesServedPortInServiceIfNoneComes : AbstractCall DeviceStep → List Access → JointState Device → Ports
+    → Device → Port → Type 0
+ProbesServedPortInServiceIfNoneComes Service accesses old ports new port =
     old.abstract.ports.served port ≡ true → NoDiskComes port.0 old.device new → ProbesDisk accesses old ports new port
-ProbesInCall ask accesses old ports new port = Unit {0}
+ProbesServedPortInServiceIfNoneComes ask accesses old ports new port = Unit {0}
 
 -- ---- boots are made anew
 
@@ -223,15 +226,15 @@ ProbesInCall ask accesses old ports new port = Unit {0}
 abbrev pub BootsAnewWhereRequired : AbstractCall DeviceStep → AbstractCallResult → List Access → JointState Device
     → Ports → Device → Port → Type 0
 BootsAnewWhereRequired Reset (WasReset (Some replies)) accesses old ports new port =
-    old.abstract.ports.served port ≡ true → (ports.state port ≡ Dead) ⊎ ResetsLink port accesses
+    old.abstract.ports.served port ≡ true → (ports.state port ≡ Dead) ⊎ LastSctlWritesResetLink port accesses
 BootsAnewWhereRequired Tick said accesses old ports new port =
-    TimesOutAtTick old.abstract port → (ports.state port ≡ Dead) ⊎ ResetsLink port accesses
+    TimesOutAtTick old.abstract port → (ports.state port ≡ Dead) ⊎ LastSctlWritesResetLink port accesses
 BootsAnewWhereRequired Service said accesses old ports new port =
     (old.abstract.ports.state port ≡ Ready → ShowsFatal (old.device.port port.0)
     ⊎ ShowedLinkChangeOrNoDeviceAndNoneCame port old.device new
-    → (ports.state port ≡ Dead) ⊎ ((ports.state port ≡ Absent) ⊎ ResetsLink port accesses))
+    → (ports.state port ≡ Dead) ⊎ ((ports.state port ≡ Absent) ⊎ LastSctlWritesResetLink port accesses))
     × (SamePort old.abstract.ports ports port
-    ⊎ ((ports.state port ≡ Dead) ⊎ ((ports.state port ≡ Absent) ⊎ ResetsLink port accesses)))
+    ⊎ ((ports.state port ≡ Dead) ⊎ ((ports.state port ≡ Absent) ⊎ LastSctlWritesResetLink port accesses)))
 BootsAnewWhereRequired ask said accesses old ports new port = Unit {0}
 
 -- ---- trouble is heeded, or shown still
@@ -264,7 +267,7 @@ abbrev pub RunsWellAnew : Evidence → List Access → JointState Device → Por
 RunsWellAnew evidence accesses old ports new port =
     IsStoppedOrStuck evidence port → ports.state port ≡ Ready → NoPlugEvents port.0 old.device new
     → (GainsSinceStart (IsFaultOf port.0) port.0 old.device new → ⊥)
-    → (GainsSinceStart (IsFatalEntryOf port.0) port.0 old.device new → ⊥) → ResetsLink port accesses
+    → (GainsSinceStart (IsFatalEntryOf port.0) port.0 old.device new → ⊥) → LastSctlWritesResetLink port accesses
     ⊎ ((old.device.port port.0).fresh ≡ true) → RunsWell (new.port port.0)
 
 -- ---- one port's part in a call, and the whole
@@ -276,7 +279,7 @@ pub record PortCorresponds (old : JointState Device) (h : JointEvent Device Devi
   pub finds_done : FindsDoneInServiceOrTick h.event.call accesses old h.event.steps port
   pub lone_plain_faults_are_told_unless_dead : TellsLonePlainFaultsUnlessDead h.event.call old h.event.ports h.device
       h.event.steps port
-  pub probes_disk : ProbesInCall h.event.call accesses old h.event.ports h.device port
+  pub probes_disk : ProbesServedPortInServiceIfNoneComes h.event.call accesses old h.event.ports h.device port
   pub boots_anew : BootsAnewWhereRequired h.event.call h.event.result accesses old h.event.ports h.device port
   pub loses_no_error : LosesNoPortError h.event.evidence old h.event.ports h.device port
   pub runs_well_anew : RunsWellAnew h.event.evidence accesses old h.event.ports h.device port
@@ -311,7 +314,7 @@ HasDriverInvariantAeAndIe wanted first = DriverInvariant wanted first × HasAeAn
 -- calls one after another, from what a new server left
 abbrev pub IsDriverHistory : List Wanted → JointState Device → List (JointEvent Device DeviceStep) → Type 0
 IsDriverHistory wanted first past =
-    histories.IsHistory (HasDriverInvariantAeAndIe wanted) (CallCorresponds wanted) first past
+    histories.IsJointRun (HasDriverInvariantAeAndIe wanted) (CallCorresponds wanted) first past
 
 -- Of each call of a history and each port it holds of these four: the state before the call, the call, the state after
 -- it, and the port.

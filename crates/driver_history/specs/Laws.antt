@@ -11,7 +11,7 @@ use Rattle.adapter.specs.KeptBySteps.{KeepsOverSteps}
 use Rattle.adapter.specs.Rules.{IsOn}
 use Rattle.adapter.specs.Steps.{Steps}
 use Rattle.refinement.specs.Laws.{TapeLaws}
-use Rattle.refinement.specs.Fragments.{IsDrivenBy, SparesOtherPorts, OnlyDeviceChangesPort}
+use Rattle.refinement.specs.Fragments.{IsDrivenBy, AccessesNoOtherPort, OnlyDeviceChangesPort}
 use Rattle.refinement.specs.Errors.{ErrorBitsRiseByErrors, KeepsSetBitsOfPxisAndSerrNX, NoDiskComes, NoFaults, NoFatalErrors}
 use Rattle.refinement.specs.PortFacts.{RunsWell, Undisturbed}
 use Rattle.refinement.specs.PreservedParts.{ControlsChangeOnlyByTheirWrites, LinkIsSameOrComesUp, NoPlugEvents, DoesNotWrite}
@@ -29,16 +29,16 @@ use Rattle.block_machine.specs.Steps.{IsInBookOrKept, Step, Touch}
 
 pub record AccessLaws : Type 0 where
   pub other_ports_are_left : (port : Port) (q : ℕ) (old new : Device) → q ≢ port.0 → IsOn old
-      → IsDrivenBy (SparesOtherPorts port) old new
+      → IsDrivenBy (AccessesNoOtherPort port) old new
       → OnlyDeviceChangesPort (old.port q) (new.port q)
   pub leaves_port_is_reflexive : (p : DevicePort) → OnlyDeviceChangesPort p p
   pub leaves_port_is_transitive : (old mid new : DevicePort) → OnlyDeviceChangesPort old mid
       → OnlyDeviceChangesPort mid new → OnlyDeviceChangesPort old new
   pub one_port_spares_registers : (port q : Port) (r : PortReg) → q.0 ≢ port.0 → (access : Access)
-      → SparesOtherPorts port access
+      → AccessesNoOtherPort port access
       → DoesNotWrite (Px q r) access
   pub one_port_keeps_adapter_on : (port : Port) (old new : Device) → IsOn old
-      → IsDrivenBy (SparesOtherPorts port) old new → IsOn new
+      → IsDrivenBy (AccessesNoOtherPort port) old new → IsOn new
   pub tape : TapeLaws
   pub access_changes_by_errors : (port : Port) (access : Access) (old new : Device) → Does access old new
       → ErrorBitsRiseByErrors port.0 old new
@@ -64,7 +64,7 @@ pub record AccessLaws : Type 0 where
   pub accesses_keep_adapter_on : (accesses : List Access) (old new : Device) → IsOn old
       → All (DoesNotWrite Ghc) accesses
       → DoesAll accesses old new → IsOn new
-  pub one_port_spares_ghc : (port : Port) (access : Access) → SparesOtherPorts port access → DoesNotWrite Ghc access
+  pub one_port_spares_ghc : (port : Port) (access : Access) → AccessesNoOtherPort port access → DoesNotWrite Ghc access
   pub steps_end_tfes_clear_no_fault : (port : ℕ) (old new : Device) → old.hr ≡ false → Steps old new
       → (new.port port).is 30 ≡ false
       → ((old.port port).is 30 ≡ false) × NoFaults port old new

@@ -21,7 +21,7 @@ use Rattle.block_machine.specs.Ports.{Ports}
 use Rattle.block_machine.specs.State.{Pending, Machine}
 use Rattle.block_machine.specs.Steps.{NoneKept}
 use Rattle.block_machine.specs.declared.due.QueueMode.{QueueMode}
-use Rattle.host_boot.specs.TakeOver.{wanted_of, FoundUnusableDevice, IsServed}
+use Rattle.host_boot.specs.TakeOver.{wanted_of, FoundUnusableDevice, IsWantedAndImplemented}
 use Rattle.identify.specs.Wanted.{serial_of}
 use Rattle.identify.specs.declared.DiskInfo.{DiskInfo}
 use Rattle.identify.specs.declared.wanted.Wanted.{Wanted}
@@ -147,7 +147,7 @@ PortStateInvariant wanted s i port true (Unfit cause) = IsStoppedAt wanted s i p
 pub record DriverInvariantWith (wanted : List Wanted) (s : DriverSlots) (i : JointState Device) : Type 0 where
   pub driver_relation : DriverRelation i.abstract.machine (driver_state_of_slots s i.device)
   pub served_iff_wanted_and_there : (port : Port) → port.0 < 4 → (i.abstract.ports.served port ≡ true)
-      ↔ IsServed (wanted_of wanted port.0) port.0 i.device
+      ↔ IsWantedAndImplemented (wanted_of wanted port.0) port.0 i.device
   pub is_on_or_served_are_dead : IsOn i.device ⊎ ((port : Port) → i.abstract.ports.served port ≡ true
       → i.abstract.ports.state port ≡ Dead)
   pub ports_hold : (port : Port) → port.0 < 4

@@ -4,7 +4,7 @@ use Rattle.ata_types.specs.declared.Port.{Port}
 use Rattle.ata_types.specs.declared.PortState.TheVariants.{Absent, Dead}
 use Rattle.adapter.specs.Access.{Access, DoesAll}
 use Rattle.adapter.specs.Device.{Device}
-use Rattle.refinement.specs.Fragments.{SparesOtherPorts}
+use Rattle.refinement.specs.Fragments.{AccessesNoOtherPort}
 use Rattle.refinement.specs.Errors.{NoDiskComes}
 use Rattle.block_machine.specs.Histories.{JointState}
 use Rattle.block_machine.specs.Ports.{Evidence, Ports}
@@ -12,7 +12,7 @@ use Rattle.driver_history.specs.Histories.{IsForeignOrUnfit}
 
 -- the access keeps to another port: of ports' registers it touches that one's alone, and of IS that one's bit
 abbrev pub KeepsToAnotherPort : Port → Access → Type 0
-KeepsToAnotherPort port access = (other : Port) × (port.0 ≢ other.0) × SparesOtherPorts other access
+KeepsToAnotherPort port access = (other : Port) × (port.0 ≢ other.0) × AccessesNoOtherPort other access
 
 -- A call's accesses are those before the port's turn, those of the turn, and those after it. But for the turn's, they
 -- are of other ports.
@@ -43,7 +43,7 @@ pub record EvidenceAgreesOn (port : Port) (one other : Evidence) : Type 0 where
 
 -- Where a port with a disk that isn't served showed X, and no disk of it came since, no link of it is due any more,
 -- unless it is absent or dead. (While one is due, X rises when it comes up, and the tape tells of no disk.)
-abbrev pub ForeignOrUnfitShowingXEndsNoLinkDue : Port → JointState Device → Ports → Device → Type 0
-ForeignOrUnfitShowingXEndsNoLinkDue port old ports new = IsForeignOrUnfit old.abstract.ports port
+abbrev pub UnusableWithXEndsNotDueAbsentOrDeadIfNoneComes : Port → JointState Device → Ports → Device → Type 0
+UnusableWithXEndsNotDueAbsentOrDeadIfNoneComes port old ports new = IsForeignOrUnfit old.abstract.ports port
     → (old.device.port port.0).serr_x ≡ true → NoDiskComes port.0 old.device new → (ports.state port ≡ Absent)
     ⊎ ((ports.state port ≡ Dead) ⊎ ((new.port port.0).link_due ≡ false))

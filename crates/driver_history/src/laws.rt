@@ -113,7 +113,7 @@ pub fn law_services_leave_healthy_ports_alone()
 
 /// A port that is ready and stays healthy in a call runs well after it, unless the call is a reset, or a tick that
 /// brings a request of the port to its age of three.
-pub fn law_healthy_calls_leave_ports_well()
+pub fn law_healthy_calls_leave_ports_running_well()
     ensures { OfPortsInCalls (λ old h new port. old.abstract.ports.state port ≡ Ready → h.event.call ≢ Reset
         → (h.event.call ≡ Tick → TimesOutAtTick old.abstract port → ⊥)
         → StaysHealthy port.0 old.device h.device → RunsWell (h.device.port port.0)) }

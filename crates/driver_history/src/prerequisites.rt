@@ -14,10 +14,10 @@ use error_recovery::laws::law_fatal_bits_are_all_clear_or_shown;
 use port_boot::laws::law_undisturbed_port_runs_on_if_controls_stay;
 use port_control::laws::law_engine_evidence_shows_in_longer_traces;
 use refinement::disks::law_vacancy_stays_where_no_disk_comes;
-use refinement::fragments::{law_other_ports_are_untouched, law_tape_prerequisites};
+use refinement::fragments::{law_other_ports_are_untouched, law_tapes_satisfy_tape_laws};
 use refinement::laws::law_device_and_faithful_step_lists_compose;
 use refinement::port_facts::{
-    law_adapter_stays_the_same_and_switched_on, law_clear_error_bits_stay_clear,
+    law_adapter_stays_same_and_on_until_ghc_write, law_clear_error_bits_stay_clear,
     law_clear_pxis_error_bits_mean_no_error, law_link_is_same_or_comes_up_without_plugs,
     law_port_controls_stay_until_written, law_serr_n_clear_means_no_plug_event,
     law_set_pxis_serr_nx_bits_stay_until_written, law_writes_set_port_controls,
@@ -30,7 +30,7 @@ pub fn law_prerequisites()
     law_accesses_compose();
     law_step_lists_keep_what_steps_keep();
     law_port_access_is_steps_then_port_effect();
-    law_adapter_stays_the_same_and_switched_on();
+    law_adapter_stays_same_and_on_until_ghc_write();
     law_clear_error_bits_stay_clear();
     law_writes_set_port_controls();
     law_port_controls_stay_until_written();
@@ -40,7 +40,7 @@ pub fn law_prerequisites()
     law_link_is_same_or_comes_up_without_plugs();
     law_serr_n_clear_means_no_plug_event();
     law_other_ports_are_untouched();
-    law_tape_prerequisites();
+    law_tapes_satisfy_tape_laws();
     law_vacancy_stays_where_no_disk_comes();
     law_undisturbed_port_runs_on_if_controls_stay();
     law_engine_evidence_shows_in_longer_traces();

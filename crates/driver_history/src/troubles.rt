@@ -7,7 +7,7 @@ ghost use Rattle.adapter.specs.{Access.{Access, DoesAll}, Device.{Device}, Rules
 ghost use Rattle.refinement.specs.{Fragments.{TapeGrows}, Errors.{IsFatalEntryOf, NoDiskComes}, PortFacts.{IsFaultOf, Undisturbed}, PreservedParts.{HasDet3IfDiskPresent, NoPlugEvents, DoesNotWrite}};
 ghost use Rattle.block_machine.specs.{Events.{AbstractState, AbstractCallResult, Service}, Histories.{JointEvent, JointState, joint_state_after}, Ports.{Evidence, IsStoppedOrStuck, Ports, SamePort}};
 ghost use Rattle.error_recovery.specs.Evidence.{GainsSinceStart};
-ghost use Rattle.driver_history.specs.{Claims.{HandlesShownFailure, HandlesShownLoss}, Evidence.{ShowsLinkChange, ShowsFailure, ShowedLinkChangeOrNoDeviceAndNoneCame}, Histories.{BootsAnewWhereRequired, IsForeignOrUnfit, HasOnlyTaskFileError, LosesNoPortError, OfPortsInCalls, RunsWellAnew, ProbesDisk}, PortTurn.{ForeignOrUnfitShowingXEndsNoLinkDue, HasTurnIn, EvidenceAgreesOn, call_accesses}, AccessTrace.{WritesOneToNoTroubleBit, ResetsLink}};
+ghost use Rattle.driver_history.specs.{Claims.{HandlesShownFailure, HandlesShownLoss}, Evidence.{ShowsLinkChange, ShowsFailure, ShowedLinkChangeOrNoDeviceAndNoneCame}, Histories.{BootsAnewWhereRequired, IsForeignOrUnfit, HasOnlyTaskFileError, LosesNoPortError, OfPortsInCalls, RunsWellAnew, ProbesDisk}, PortTurn.{UnusableWithXEndsNotDueAbsentOrDeadIfNoneComes, HasTurnIn, EvidenceAgreesOn, call_accesses}, AccessTrace.{WritesOneToNoTroubleBit, LastSctlWritesResetLink}};
 ghost use Rattle.identify.specs.declared.wanted.Wanted.{Wanted};
 ghost use Rattle.port_control.specs.Engines.{Stops};
 
@@ -33,7 +33,7 @@ pub fn law_services_heed_shown_losses()
 /// Accesses that leave the adapter on, and clear no bit that tells of a port's trouble, lose none of it; nor does the
 /// device by itself: a fault, a fatal error, or a change of the link that was shown is shown still, and so is one that
 /// came, and a disk that went or came.
-pub fn law_ordinary_accesses_lose_no_error()
+pub fn law_errors_stay_unless_cleared_or_ghc_written()
     ensures accesses { (port : Port) (old : JointState Device) (new : Device) (accesses : List Access)
         (evidence : Evidence) (ports : Ports)
         → IsOn old.device → DoesAll accesses old.device new → All (DoesNotWrite Ghc) accesses
@@ -60,7 +60,7 @@ pub fn law_a_fault_alone_in_a_call_is_alone_in_a_turn()
 /// showed a failure, or a change of its link, when it began, and was ready then, or is at its end. So it is with boots,
 /// where no link of a ready port is due when the call begins; and with a port that runs well anew, where ST of one that
 /// is left ready was set by the turn's end, and no link of it was due when the call began, or the turn reset it.
-pub fn law_turn_error_handling_holds_for_call()
+pub fn law_turn_error_and_boot_duties_hold_for_call()
     ensures loses_no_error { (port : Port) (old : JointState Device) (begun : AbstractState) (ended ports : Ports)
         (new : Device)
         (turn call : Evidence) → IsOn old.device
@@ -85,7 +85,7 @@ pub fn law_turn_error_handling_holds_for_call()
         (new : Device)
         (turn call : Evidence) → IsOn old.device
         → (t : HasTurnIn port old.device new) → IsOn t.end
-        → (ended.state port ≡ Ready → ((old.device.port port.0).link_due ≡ false) ⊎ ResetsLink port t.turn)
+        → (ended.state port ≡ Ready → ((old.device.port port.0).link_due ≡ false) ⊎ LastSctlWritesResetLink port t.turn)
         → SamePort ended ports port → EvidenceAgreesOn port turn call
         → (ended.state port ≡ Ready → (t.end.port port.0).notes.st_set_at ≤ length t.end.tape)
         → RunsWellAnew turn t.turn (record { device = t.start; abstract = begun }) ended t.end port
@@ -95,15 +95,16 @@ pub fn law_turn_error_handling_holds_for_call()
 }
 
 /// Where a port's turn in a call probes its disk, the call does, if no disk was in a port with one that isn't served
-/// when the call began, or a device showed; and if no link is due at the turn's end of one that showed X. That is so at
-/// the call's end, too.
+/// when the call began, or a device showed; and if no link is due at the turn's end of one that showed X, unless it is
+/// absent or dead then. That is so at the call's end, too.
 pub fn law_turn_disk_probe_holds_for_call()
     ensures probes { (port : Port) (old : JointState Device) (begun : AbstractState) (ended ports : Ports)
         (new : Device)
         → IsOn old.device → (t : HasTurnIn port old.device new) → IsOn t.end → SamePort ended ports port
         → SamePort old.abstract.ports begun.ports port
         → (IsForeignOrUnfit old.abstract.ports port → HasDet3IfDiskPresent (old.device.port port.0))
-        → ForeignOrUnfitShowingXEndsNoLinkDue port (record { device = t.start; abstract = begun }) ended t.end
+        → UnusableWithXEndsNotDueAbsentOrDeadIfNoneComes port (record { device = t.start; abstract = begun }) ended
+        t.end
         → (NoDiskComes port.0 t.start t.end
         → ProbesDisk t.turn (record { device = t.start; abstract = begun }) ended t.end
         port)
@@ -112,15 +113,15 @@ pub fn law_turn_disk_probe_holds_for_call()
         (new : Device)
         → IsOn old.device → (t : HasTurnIn port old.device new) → IsOn t.end → SamePort ended ports port
         → SamePort old.abstract.ports begun.ports port
-        → ForeignOrUnfitShowingXEndsNoLinkDue port (record { device = t.start; abstract = begun })
-        ended t.end → ForeignOrUnfitShowingXEndsNoLinkDue port old ports new }
+        → UnusableWithXEndsNotDueAbsentOrDeadIfNoneComes port (record { device = t.start; abstract = begun })
+        ended t.end → UnusableWithXEndsNotDueAbsentOrDeadIfNoneComes port old ports new }
 {
     law_prerequisites();
 }
 
 /// Where no disk of a port went or came, and no fault and no fatal error came since its ST was last set, nothing went
 /// wrong on it after any moment that ST was set before.
-pub fn law_untroubled_since_st_is_undisturbed()
+pub fn law_no_plug_or_error_since_st_is_undisturbed()
     ensures { (port : ℕ) (old mid new : Device) → TapeGrows old mid → TapeGrows mid new
         → (new.port port).notes.st_set_at
         ≤ length mid.tape
@@ -151,7 +152,7 @@ pub fn law_st_after_a_stop_was_set_since()
 /// has grown since PxSCTL was written, no service passes over a device that an absent port shows (`ProbesDisk`).
 pub fn law_link_reset_sets_sctl_written_at()
     ensures { (port : Port) (accesses : List Access) (old new : Device) → IsOn old → All (DoesNotWrite Ghc) accesses
-        → DoesAll accesses old new → ResetsLink port accesses
+        → DoesAll accesses old new → LastSctlWritesResetLink port accesses
         → length old.tape ≤ (new.port port.0).notes.sctl_written_at }
 {
     law_prerequisites();

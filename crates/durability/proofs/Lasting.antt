@@ -8,9 +8,9 @@ use Rattle.ata_types.specs.declared.request.Op.TheVariants.{Flush}
 use Rattle.ata_types.specs.declared.request.Outcome.TheVariants.{Ok, DeviceError}
 use Rattle.block_machine.specs.State.{Block, DiskBytes, Accepted, Pending, Machine, sector_of, block_written}
 use Rattle.block_machine.specs.DueRequests.{is_flush, changes_sectors}
-use Rattle.block_machine.specs.Steps.{Step, Accept, Issue, Touch, End, Age, WaitAgain, Answer, Release, Revoke, Unplug, PlugDisk, Store, Load, IsEnabled, MayStillMove, after_step, update_pending, newly_issued, touch, mark_ended, requeued, aged_pending, newly_accepted, put_sector, SameBytes, HoldsOrHeldSinceFlush}
+use Rattle.block_machine.specs.Steps.{Step, Accept, Issue, Touch, End, Age, WaitAgain, Answer, Release, Revoke, Unplug, PlugDisk, Store, Load, IsEnabled, IsIssuedOrKept, after_step, update_pending, newly_issued, touch, mark_ended, requeued, aged_pending, newly_accepted, put_sector, SameBytes, HoldsOrHeldSinceFlush}
 use Rattle.block_machine.specs.Expected.{after, IsInitial, IsAccept, IsTouch, HasTouched, plug_count}
-use Rattle.durability.specs.Durable.{AnswersOk, unplugs_disk_of, plugs_other_disk, WriteAcceptedSinceLastUnplug, WriteOkSinceLastUnplug, FlushAcceptedAfterOkWrite, FlushOkAfterOkWriteOnSameDisk, IsWrittenByOrAfterOnAnyDisk, ReplugFindsFlushedOrLater, EveryReplugFindsFlushedOrLater}
+use Rattle.durability.specs.Durable.{AnswersOk, unplugs_disk_of, plugs_other_disk, WriteAcceptedSinceLastUnplug, WriteOkSinceLastUnplug, FlushAcceptedAfterOkWriteSinceLastUnplug, FlushOkAfterOkWriteOnSameDisk, IsWrittenByOrAfterOnAnyDisk, ReplugFindsFlushedOrLater, EveryReplugFindsFlushedOrLater}
 use Rattle.block_machine.proofs.Members.{map_in, at_cases, without_in, append_in}
 use Rattle.block_machine.proofs.Sound.{Sound}
 use Rattle.block_machine.proofs.Keeps.{older_keeps, older_touched}
@@ -53,7 +53,7 @@ IsReplace _ port id size disk = ⊥
 -- what a step does to a sector: nothing, a writer's touch, or another disk
 record IsWritten (m : Machine) (step : Step) (port : Port) (k : ℕ) : Type 0 where
   entry : Pending
-  runs : MayStillMove m entry
+  runs : IsIssuedOrKept m entry
   writes : changes_sectors entry.request.asked.op ≡ true
   here : entry.request.port ≡ port
   touched : IsTouch step entry.request k
@@ -76,7 +76,7 @@ record IsIdle (m : Machine) (step : Step) (port : Port) (k : ℕ) : Type 0 where
 abbrev Effect : Machine → Step → Port → ℕ → Type 0
 Effect m step port k = IsIdle m step port k ⊎ (IsWritten m step port k ⊎ IsReplaced m step port)
 
-effect_touch : (m : Machine) (e : Pending) (i : ℕ) (block : Block) (port : Port) (k : ℕ) → MayStillMove m e → i < e.request.asked.count → Effect m (Touch e i block) port k
+effect_touch : (m : Machine) (e : Pending) (i : ℕ) (block : Block) (port : Port) (k : ℕ) → IsIssuedOrKept m e → i < e.request.asked.count → Effect m (Touch e i block) port k
 effect_touch m e i block port k r lt = by_op (changes_sectors e.request.asked.op) refl
   where
     by_place : changes_sectors e.request.asked.op ≡ true → (after_step m (Touch e i block)).disk_bytes port k ≡ put_sector e.request.port (e.request.asked.first.0 + i) (block_written e.request.asked.op e.request.blocks_at_acceptance i) m.disk_bytes port k
@@ -252,7 +252,7 @@ came_at m step id f x i hx kj kt t =
     (λ p. inl (r.0, r.1, ap (λ (y : Pending). y.request) (r.2 ∙ p.1), subst (λ (y : Pending). y.touched i ≡ true) (r.2 ∙ p.1) t))
     (at_cases id f r.0)
 
-came_touch : (m : Machine) → Sound m → (e : Pending) (n : ℕ) (block : Block) (x : Pending) (i : ℕ) → MayStillMove m e → Contains (map (update_pending e.request.id (touch n)) m.book) x → x.touched i ≡ true → Came m (Touch e n block) x i
+came_touch : (m : Machine) → Sound m → (e : Pending) (n : ℕ) (block : Block) (x : Pending) (i : ℕ) → IsIssuedOrKept m e → Contains (map (update_pending e.request.id (touch n)) m.book) x → x.touched i ≡ true → Came m (Touch e n block) x i
 came_touch m s e n block x i run hx t =
     let r = map_in (update_pending e.request.id (touch n)) m.book x hx in
     ⊎_elim
@@ -354,7 +354,7 @@ stored_stage start (step ∷ past) w s enabled whole writes (inl a) i lt =
     (accepted_stage start past w s enabled.0 writes a.1 e.0 e.1 e.2 i (e.3 i lt))
 stored_stage start (step ∷ past) w s enabled whole writes (inr a) i lt = stage_step start step past w (w.asked.first.0 + i) s enabled writes a.0 (stored_stage start past w s enabled.0 whole.0 writes a.1 i lt)
 
-asked_stage : (start : Machine) (h : List Step) (w flush : Accepted) → IsInitial start → AllEnabled start h → AllWhole h → changes_sectors w.asked.op ≡ true → FlushAcceptedAfterOkWrite w flush h → (i : ℕ) → i < w.asked.count → Stage start h w (w.asked.first.0 + i)
+asked_stage : (start : Machine) (h : List Step) (w flush : Accepted) → IsInitial start → AllEnabled start h → AllWhole h → changes_sectors w.asked.op ≡ true → FlushAcceptedAfterOkWriteSinceLastUnplug w flush h → (i : ℕ) → i < w.asked.count → Stage start h w (w.asked.first.0 + i)
 asked_stage start [] w flush s enabled whole writes a i lt = absurd a
 asked_stage start (step ∷ past) w flush s enabled whole writes (inl a) i lt = stage_step start step past w (w.asked.first.0 + i) s enabled writes (accept_out w.port step flush a.0) (stored_stage start past w s enabled.0 whole.0 writes a.1 i lt)
 asked_stage start (step ∷ past) w flush s enabled whole writes (inr a) i lt = stage_step start step past w (w.asked.first.0 + i) s enabled writes a.0 (asked_stage start past w flush s enabled.0 whole.0 writes a.1 i lt)
@@ -421,7 +421,7 @@ ended_at m step id f x hx kj kt t =
     (λ p. inl (r.0, r.1, ap (λ (y : Pending). y.request) (r.2 ∙ p.1), subst (λ (y : Pending). y.ended ≡ true) (r.2 ∙ p.1) t))
     (at_cases id f r.0)
 
-ended_end : (m : Machine) → Sound m → (e : Pending) (x : Pending) → MayStillMove m e → Contains (map (update_pending e.request.id mark_ended) m.book) x → x.ended ≡ true → Ended m (End e) x
+ended_end : (m : Machine) → Sound m → (e : Pending) (x : Pending) → IsIssuedOrKept m e → Contains (map (update_pending e.request.id mark_ended) m.book) x → x.ended ≡ true → Ended m (End e) x
 ended_end m s e x run hx t =
     let r = map_in (update_pending e.request.id mark_ended) m.book x hx in
     ⊎_elim
@@ -463,7 +463,7 @@ lasts_end start (End e) past w flush k port op t g = record {
 lasts_end start _ past w flush k port op t g = absurd t
 
 asked_lasts : (start : Machine) (h : List Step) (w flush : Accepted) → IsInitial start → AllEnabled start h → AllWhole h → IsVolatile start h → changes_sectors w.asked.op ≡ true → flush.port ≡ w.port → flush.asked.op ≡ Flush
-    → FlushAcceptedAfterOkWrite w flush h → (x : Pending) → Contains (after start h).book x → x.request ≡ flush → x.ended ≡ true → (i : ℕ) → i < w.asked.count → Lasts start h w (w.asked.first.0 + i)
+    → FlushAcceptedAfterOkWriteSinceLastUnplug w flush h → (x : Pending) → Contains (after start h).book x → x.request ≡ flush → x.ended ≡ true → (i : ℕ) → i < w.asked.count → Lasts start h w (w.asked.first.0 + i)
 asked_lasts start [] w flush s enabled whole back writes port op a x hx same t i lt = absurd a
 asked_lasts start (step ∷ past) w flush s enabled whole back writes port op (inl a) x hx same t i lt =
     let p = new_entry (after start past) step flush enabled.1 (traced start past s enabled.0).sound a.0 x hx same in

@@ -36,17 +36,17 @@ WriteOkSinceLastUnplug w (step ∷ past) = (AnswersOk step w × WriteAcceptedSin
     ⊎ ((unplugs_disk_of w.port step ≡ false) × WriteOkSinceLastUnplug w past)
 
 -- and then this flush was accepted
-abbrev pub FlushAcceptedAfterOkWrite : Accepted → Accepted → List Step → Type 0
-FlushAcceptedAfterOkWrite w flush [] = ⊥
-FlushAcceptedAfterOkWrite w flush (step ∷ past) =
+abbrev pub FlushAcceptedAfterOkWriteSinceLastUnplug : Accepted → Accepted → List Step → Type 0
+FlushAcceptedAfterOkWriteSinceLastUnplug w flush [] = ⊥
+FlushAcceptedAfterOkWriteSinceLastUnplug w flush (step ∷ past) =
     (IsAccept step flush × WriteOkSinceLastUnplug w past)
-    ⊎ ((unplugs_disk_of w.port step ≡ false) × FlushAcceptedAfterOkWrite w flush past)
+    ⊎ ((unplugs_disk_of w.port step ≡ false) × FlushAcceptedAfterOkWriteSinceLastUnplug w flush past)
 
 -- and then it was answered Ok, and no other disk was put in since
 abbrev pub FlushOkAfterOkWriteOnSameDisk : Machine → Accepted → Accepted → List Step → Type 0
 FlushOkAfterOkWriteOnSameDisk start w flush [] = ⊥
 FlushOkAfterOkWriteOnSameDisk start w flush (step ∷ past) =
-    (AnswersOk step flush × FlushAcceptedAfterOkWrite w flush past)
+    (AnswersOk step flush × FlushAcceptedAfterOkWriteSinceLastUnplug w flush past)
     ⊎ ((plugs_other_disk (after start past) w.port step ≡ false) × FlushOkAfterOkWriteOnSameDisk start w flush past)
 
 -- the write or trim was answered Ok before the flush of its port was accepted, and the flush was answered Ok, all on

@@ -17,7 +17,7 @@ use Rattle.adapter.specs.declared.command.Operation.TheVariants.{Identify, ReadL
 use Rattle.refinement.specs.Fragments.{SomeMachineAgreesWith, AnySlotStates, SomeMachineAgrees, ReadsPortOrWrites, IsDrivenBy, IsSimulated, IsSimulatedChangingUses, IsSimulatedAlongChangingUses, GainsNoMove}
 use Rattle.refinement.specs.Driver.{AllFree}
 use Rattle.refinement.specs.Slots.{Free, IsMove, Own, SlotStates, set_slot_state, client_operation_of}
-use Rattle.disk_page.specs.PageRequests.{BringsLastPage, IsSlot0CiOrPageMemoryAccess, LeavesPortWhileAsking, WaitsForSlot0InVain}
+use Rattle.disk_page.specs.PageRequests.{BringsLastPage, IsPxciOrSlot0PageMemoryAccess, LeavesPortWhileAsking, WaitsForSlot0InVain}
 use Rattle.command_table.specs.TableStores.{IsSlotStateFree}
 use Rattle.identify.specs.ErrorLog.{NamesNoQueuedCommand}
 use Rattle.identify.specs.declared.error_log.FailedSlot.{FailedSlot}
@@ -34,7 +34,7 @@ use Rattle.error_recovery.specs.Laws.SlotCondition.{AnyUses, PortUnused}
 use Rattle.error_recovery.specs.Laws.RegisterSet.{AllButCi, CommandRegister}
 use Rattle.error_recovery.specs.Laws.AccessPurpose.{Asking, Controlling, Recovering}
 use Rattle.error_recovery.specs.RecoveryParts.{StopGetsStuck, StartsAgain, IsOnWithPortAndDriverMemory, MayStartAgain, ReadsLog, IsStoppedAndCleared}
-use Rattle.error_recovery.specs.Recovery.{EndsAsNext, IsRecoveryAccess, IsLeftByRecovery, IsSimulatedWithSlotsParkedUnlessDead, PortMayRecover, RecoversOrStops, NamesSlotNotOutstanding, SplitsOutstanding, Recovers, BacksFailure, StopsThenWaits}
+use Rattle.error_recovery.specs.Recovery.{EndsAsNext, IsRecoveryAccess, IsLeftByRecovery, IsSimulatedWithSlotsSurelyParkedUnlessDead, PortMayRecover, RecoversOrStops, NamesSlotNotOutstanding, SplitsOutstanding, Recovers, BacksFailure, StopsThenWaits}
 use Rattle.error_recovery.proofs.Going.{Asks, Goes, asks_over, goes_over}
 use Rattle.error_recovery.proofs.Quieting.{commands_silent, starting_silent}
 use Rattle.error_recovery.proofs.Resting.{IsTold, brings_log}
@@ -88,8 +88,8 @@ recovers_at port at outstanding queued is result old new names same r =
 module _ (laws : Laws) where
   -- the log was read, and named none
   pub log_room : (port : Port) (outstanding : ℕ) (start log : Device) → IsOn log → ReadsLog port outstanding None start log → IsOnWithPortAndDriverMemory port.0 start → IsOnWithPortAndDriverMemory port.0 log
-  log_room port outstanding start log on (inl (count, a)) room = room_after laws (IsSlot0CiOrPageMemoryAccess port) port.0 start log a.is_simulated.is_driven on room
-  log_room port outstanding start log on (inr (page, (brings, a), why)) room = room_after laws (IsSlot0CiOrPageMemoryAccess port) port.0 start log a.is_driven on room
+  log_room port outstanding start log on (inl (count, a)) room = room_after laws (IsPxciOrSlot0PageMemoryAccess port) port.0 start log a.is_simulated.is_driven on room
+  log_room port outstanding start log on (inr (page, (brings, a), why)) room = room_after laws (IsPxciOrSlot0PageMemoryAccess port) port.0 start log a.is_driven on room
 
   -- ---- the port wasn't even stopped
 
@@ -219,19 +219,19 @@ module _ (laws : Laws) where
         silent_now : SomeMachineAgreesWith (λ uses. uses port.0 0 ≡ Own Identify → ⊥) old → GainsNoMove port.0 Identify old log
         silent_now a = laws.no_moves_compose port.0 Identify old start log (silent_start a) silent_log
 
-        b_log : IsSimulated (IsSlot0CiOrPageMemoryAccess port) (IsSlotStateFree port.0 0) start log → IsSimulated (IsRecoveryAccess port) (λ uses. AllFree uses port.0) r.stops_and_clears.stopped log
+        b_log : IsSimulated (IsPxciOrSlot0PageMemoryAccess port) (IsSlotStateFree port.0 0) start log → IsSimulated (IsRecoveryAccess port) (λ uses. AllFree uses port.0) r.stops_and_clears.stopped log
         b_log a = (asked laws port outstanding queued before after old d r (λ made. Unit {0}) (λ early late is. is) (λ uses. uses) start log s (record { is_simulated = a; accesses_are_such = tt })).is_simulated
 
-        b_vain : IsSimulatedAlongChangingUses (WaitsForSlot0InVain port) (IsSlot0CiOrPageMemoryAccess port) (IsSlotStateFree port.0 0) (λ uses. set_slot_state uses port.0 0 (Own ReadLog)) start log →
+        b_vain : IsSimulatedAlongChangingUses (WaitsForSlot0InVain port) (IsPxciOrSlot0PageMemoryAccess port) (IsSlotStateFree port.0 0) (λ uses. set_slot_state uses port.0 0 (Own ReadLog)) start log →
             IsSimulatedAlongChangingUses (WaitsForSlot0InVain port) (IsRecoveryAccess port) (λ uses. AllFree uses port.0) (λ uses. set_slot_state uses port.0 0 (Own ReadLog)) r.stops_and_clears.stopped log
         b_vain a = asked laws port outstanding queued before after old d r (WaitsForSlot0InVain port) (λ early late is. laws.vain_with_earlier_accesses port early late is) (λ uses. set_slot_state uses port.0 0 (Own ReadLog)) start log s a
 
-        asking : (next : SlotStates → SlotStates) → IsSimulatedChangingUses (IsSlot0CiOrPageMemoryAccess port) (IsSlotStateFree port.0 0) next start log → Asks port start log
+        asking : (next : SlotStates → SlotStates) → IsSimulatedChangingUses (IsPxciOrSlot0PageMemoryAccess port) (IsSlotStateFree port.0 0) next start log → Asks port start log
         asking next a = asks_over laws port a.is_driven.accesses start log goes_start.on a.is_driven.accesses_are_of_kind a.is_driven.all_are_done
 
-        recovers_asked : (next : SlotStates → SlotStates) → IsSimulatedChangingUses (IsSlot0CiOrPageMemoryAccess port) (IsSlotStateFree port.0 0) next start log → Goes port start log
+        recovers_asked : (next : SlotStates → SlotStates) → IsSimulatedChangingUses (IsPxciOrSlot0PageMemoryAccess port) (IsSlotStateFree port.0 0) next start log → Goes port start log
         recovers_asked next a =
-            goes_over laws port a.is_driven.accesses start log goes_start.on (All-weaker (IsSlot0CiOrPageMemoryAccess port) (IsRecoveryAccess port) (λ access is. inr is) a.is_driven.accesses a.is_driven.accesses_are_of_kind) a.is_driven.all_are_done
+            goes_over laws port a.is_driven.accesses start log goes_start.on (All-weaker (IsPxciOrSlot0PageMemoryAccess port) (IsRecoveryAccess port) (λ access is. inr is) a.is_driven.accesses a.is_driven.accesses_are_of_kind) a.is_driven.all_are_done
 
         -- and names one
         pub names_one : (failed : FailedSlot) (again : ℕ) (token : running_token.Running) → token.port ≡ port → (log.port port.0).halt ≡ NotHalted → ReadsLog port outstanding (Some failed) start log →
@@ -277,7 +277,7 @@ module _ (laws : Laws) where
         -- ---- or none, and the port was to stop
 
         module _ (new : Device) where
-          page_free : IsSimulated (IsSlot0CiOrPageMemoryAccess port) (IsSlotStateFree port.0 0) start log → SomeMachineAgreesWith (λ uses. AllFree uses port.0) log
+          page_free : IsSimulated (IsPxciOrSlot0PageMemoryAccess port) (IsSlotStateFree port.0 0) start log → SomeMachineAgreesWith (λ uses. AllFree uses port.0) log
           page_free a = let g = s.machine_is_related in (g.0, g.1, laws.fragments.some_machine_agrees (Asking port) (λ uses. uses) g.0 start log (g.1 0) a g.2)
 
           -- no page of IDENTIFY DEVICE comes meanwhile
@@ -285,11 +285,11 @@ module _ (laws : Laws) where
               SomeMachineAgreesWith (λ uses. uses port.0 0 ≡ Own Identify → ⊥) old → GainsNoMove port.0 Identify old new
           stop_silent uses agreed none a o = laws.no_moves_compose port.0 Identify old log new (silent_now o) (commands_silent laws port uses log new a agreed none)
 
-          page_silent : IsSimulated (IsSlot0CiOrPageMemoryAccess port) (IsSlotStateFree port.0 0) start log → IsSimulated (ReadsPortOrWrites IsCommandRegister port) AnySlotStates log new →
+          page_silent : IsSimulated (IsPxciOrSlot0PageMemoryAccess port) (IsSlotStateFree port.0 0) start log → IsSimulated (ReadsPortOrWrites IsCommandRegister port) AnySlotStates log new →
               SomeMachineAgreesWith (λ uses. uses port.0 0 ≡ Own Identify → ⊥) old → GainsNoMove port.0 Identify old new
           page_silent a c = let g = page_free a in stop_silent g.0 g.2 (λ own. let e : Free ≡ Own Identify = sym (g.1 0) ∙ own in absurd cc) c
 
-          vain_silent : IsSimulatedChangingUses (IsSlot0CiOrPageMemoryAccess port) (IsSlotStateFree port.0 0) (λ uses. set_slot_state uses port.0 0 (Own ReadLog)) start log → IsSimulated (ReadsPortOrWrites IsCommandRegister port) AnySlotStates log new →
+          vain_silent : IsSimulatedChangingUses (IsPxciOrSlot0PageMemoryAccess port) (IsSlotStateFree port.0 0) (λ uses. set_slot_state uses port.0 0 (Own ReadLog)) start log → IsSimulated (ReadsPortOrWrites IsCommandRegister port) AnySlotStates log new →
               SomeMachineAgreesWith (λ uses. uses port.0 0 ≡ Own Identify → ⊥) old → GainsNoMove port.0 Identify old new
           vain_silent a c =
               let g = s.machine_is_related in
@@ -297,7 +297,7 @@ module _ (laws : Laws) where
               stop_silent (set_slot_state g.0 port.0 0 (Own ReadLog)) agreed (λ own. let e : Own ReadLog ≡ Own Identify = sym (laws.slot_has_state_set g.0 port.0 0 ReadLog) ∙ own in absurd cc) c
 
           -- the page that came is the last one still
-          still_last : (page : List ℕ) → BringsLastPage port.0 ReadLog (length start.tape) page log → IsSimulated (IsSlot0CiOrPageMemoryAccess port) (IsSlotStateFree port.0 0) start log → IsDrivenBy (ReadsPortOrWrites IsCommandRegister port) log new →
+          still_last : (page : List ℕ) → BringsLastPage port.0 ReadLog (length start.tape) page log → IsSimulated (IsPxciOrSlot0PageMemoryAccess port) (IsSlotStateFree port.0 0) start log → IsDrivenBy (ReadsPortOrWrites IsCommandRegister port) log new →
               BringsLastLogPage port old new page
           still_last page brings a c =
               let w = goes laws port outstanding queued before after old d r (λ uses. uses) log (b_log a) in
@@ -368,7 +368,7 @@ module _ (laws : Laws) where
                 (Controlling CommandRegister AnyUses port) next (λ uses. uses) (commands_recover laws port) (λ uses free. tt) r.stops_and_clears.stopped log new t fails.is_simulated
 
             stuck : (next : SlotStates → SlotStates) (t : IsSimulatedAlongChangingUses (EngineSticks port) (IsRecoveryAccess port) (λ uses. AllFree uses port.0) next r.stops_and_clears.stopped new) →
-                IsSimulatedWithSlotsParkedUnlessDead port.0 Dead (total laws port outstanding queued before after old d r next new t.is_simulated) old new →
+                IsSimulatedWithSlotsSurelyParkedUnlessDead port.0 Dead (total laws port outstanding queued before after old d r next new t.is_simulated) old new →
                 (SomeMachineAgreesWith (λ uses. uses port.0 0 ≡ Own Identify → ⊥) old → GainsNoMove port.0 Identify old new) →
                 Recovers port outstanding queued (record { failed = None; again = outstanding; next = Dead }) old new
             stuck next t slots silent = record {

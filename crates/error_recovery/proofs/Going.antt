@@ -11,12 +11,12 @@ use Rattle.adapter.specs.Access.{Access, Does, DoesAll}
 use Rattle.adapter.specs.Access.Access.{Reading, Writing, Loading, Storing}
 use Rattle.adapter.specs.Device.{Device, DevicePort}
 use Rattle.adapter.specs.Rules.{IsOn}
-use Rattle.refinement.specs.Fragments.{TapeGrows, SparesOtherPorts}
+use Rattle.refinement.specs.Fragments.{TapeGrows, AccessesNoOtherPort}
 use Rattle.refinement.specs.Errors.{LinkErrorsRiseByDisks, NoFaults, NoFatalErrors}
 use Rattle.refinement.specs.PreservedParts.{NoPlugEvents, DoesNotWrite}
 use Rattle.refinement.specs.HaltRecovery.{IsLinked, RunsLinked}
 use Rattle.refinement.specs.StartedPort.{WritesCmdOnlyWithStSet}
-use Rattle.disk_page.specs.PageRequests.{IsSlot0CiOrPageMemoryAccess}
+use Rattle.disk_page.specs.PageRequests.{IsPxciOrSlot0PageMemoryAccess}
 use Rattle.error_recovery.specs.Laws.{Laws}
 use Rattle.error_recovery.specs.Laws.RegisterSet.{RecoveryRegisters}
 use Rattle.error_recovery.specs.Recovery.{IsCmdSerrOrIs, IsRecoveryAccess}
@@ -24,7 +24,7 @@ use Rattle.error_recovery.specs.Recovery.{IsCmdSerrOrIs, IsRecoveryAccess}
 -- ---- which registers are spared
 
 -- of the registers that are asked by, PxCI alone is written
-asking_spares : (port : Port) (r : PortReg) → r ≢ Ci → (access : Access) → IsSlot0CiOrPageMemoryAccess port access → DoesNotWrite (Px port r) access
+asking_spares : (port : Port) (r : PortReg) → r ≢ Ci → (access : Access) → IsPxciOrSlot0PageMemoryAccess port access → DoesNotWrite (Px port r) access
 asking_spares port r other (Reading q v) is = tt
 asking_spares port r other (Writing q v) is = λ (e : q ≡ Px port r). let both : Px port r ≡ Px port Ci = sym e ∙ is.0 in let same : r ≡ Ci = cc in other same
 asking_spares port r other (Loading at bytes) is = tt
@@ -88,7 +88,7 @@ module _ (laws : Laws) where
   recovering_spares port r not_written other access (inl is) = laws.control_spares_other_registers RecoveryRegisters port r not_written access is
   recovering_spares port r not_written other access (inr is) = asking_spares port r other access is
 
-  pub recovering_is_of : (port : Port) (access : Access) → IsRecoveryAccess port access → SparesOtherPorts port access
+  pub recovering_is_of : (port : Port) (access : Access) → IsRecoveryAccess port access → AccessesNoOtherPort port access
   recovering_is_of port access (inl is) = laws.control_spares_other_ports RecoveryRegisters port access is
   recovering_is_of port access (inr is) = laws.asking_spares_other_ports port access is
 
@@ -105,7 +105,7 @@ module _ (laws : Laws) where
   spares_active port = recovering_spares port Sact not_active (λ e. absurd (let k : Sact ≡ Ci = e in cc))
 
   -- an adapter that is on stays on
-  on_after : (port : Port) (access : Access) (old new : Device) → IsOn old → SparesOtherPorts port access → Does access old new → IsOn new
+  on_after : (port : Port) (access : Access) (old new : Device) → IsOn old → AccessesNoOtherPort port access → Does access old new → IsOn new
   on_after port access old new on is does = laws.access_keeps_on access old new on (λ v e. absurd (subst (DoesNotWrite Ghc) e (laws.accesses_of_port_spare_ghc port access is) refl)) does
 
   pub plugs_in_parts : (port : ℕ) (old mid new : Device) → TapeGrows old mid → TapeGrows mid new → NoPlugEvents port old new → NoPlugEvents port old mid × NoPlugEvents port mid new
@@ -185,7 +185,7 @@ module _ (laws : Laws) where
         y.runs n.1 m.1 (x.runs n.0 m.0 h);
   }
 
-  access_asks : (port : Port) (access : Access) (old new : Device) → IsOn old → IsSlot0CiOrPageMemoryAccess port access → Does access old new → Asks port old new
+  access_asks : (port : Port) (access : Access) (old new : Device) → IsOn old → IsPxciOrSlot0PageMemoryAccess port access → Does access old new → Asks port old new
   access_asks port access old new on is does =
       let link = asking_spares port Sctl (λ e. absurd (let k : Sctl ≡ Ci = e in cc)) access is in
       let causes = asking_spares port Is (λ e. absurd (let k : Is ≡ Ci = e in cc)) access is in
@@ -201,9 +201,9 @@ module _ (laws : Laws) where
         runs = λ none calm h. laws.access_runs_linked port access old new on.no_reset starts link none calm does h;
       }
 
-  pub asks_over : (port : Port) (accesses : List Access) (old new : Device) → IsOn old → All (IsSlot0CiOrPageMemoryAccess port) accesses → DoesAll accesses old new → Asks port old new
+  pub asks_over : (port : Port) (accesses : List Access) (old new : Device) → IsOn old → All (IsPxciOrSlot0PageMemoryAccess port) accesses → DoesAll accesses old new → Asks port old new
   asks_over port [] old new on all is = subst (Asks port old) (sym is) (asks_none port old)
   asks_over port (access ∷ accesses) old new on all (mid, does, rest) =
-      let kind = All-head (IsSlot0CiOrPageMemoryAccess port) access accesses all in
+      let kind = All-head (IsPxciOrSlot0PageMemoryAccess port) access accesses all in
       let later = on_after port access old mid on (laws.asking_spares_other_ports port access kind) does in
-      asks_more port old mid new (access_asks port access old mid on kind does) (asks_over port accesses mid new later (All-tail (IsSlot0CiOrPageMemoryAccess port) access accesses all) rest)
+      asks_more port old mid new (access_asks port access old mid on kind does) (asks_over port accesses mid new later (All-tail (IsPxciOrSlot0PageMemoryAccess port) access accesses all) rest)

@@ -14,7 +14,7 @@ use Rattle.refinement.specs.Fragments.{driver_state_of, SomeMachineAgreesWith, I
 use Rattle.refinement.specs.Driver.{AllFree, DriverState}
 use Rattle.refinement.specs.GivingUp.{slots_with_all_parked, with_all_parked}
 use Rattle.refinement.specs.Slots.{Own, SlotState, SlotStates, client_operation_of}
-use Rattle.disk_page.specs.PageRequests.{IsSlot0CiOrPageMemoryAccess}
+use Rattle.disk_page.specs.PageRequests.{IsPxciOrSlot0PageMemoryAccess}
 use Rattle.command_table.specs.TableStores.{IsSlotStateFree}
 use Rattle.port_control.specs.Engines.{Stops}
 use Rattle.error_recovery.specs.Laws.{Laws}
@@ -50,7 +50,7 @@ module _ (laws : Laws) (port : Port) (outstanding : ℕ) (queued : Bool) (before
 
   -- and asked for the log
   pub asked : (Tells : List Access → Type 0) → ((early late : List Access) → Tells late → Tells (early ++ late)) → (next : SlotStates → SlotStates) (start new : Device) → StartsAgain port d start →
-      IsSimulatedAlongChangingUses Tells (IsSlot0CiOrPageMemoryAccess port) (IsSlotStateFree port.0 0) next start new → IsSimulatedAlongChangingUses Tells (IsRecoveryAccess port) (λ uses. AllFree uses port.0) next r.stops_and_clears.stopped new
+      IsSimulatedAlongChangingUses Tells (IsPxciOrSlot0PageMemoryAccess port) (IsSlotStateFree port.0 0) next start new → IsSimulatedAlongChangingUses Tells (IsRecoveryAccess port) (λ uses. AllFree uses port.0) next r.stops_and_clears.stopped new
   asked Tells since next start new s a =
       told_both laws (λ made. Unit {0}) Tells Tells (λ early late any is. since early late is) (Recovering PortUnused port) (Recovering PortUnused port) (λ uses. uses) next
       (λ access is. is) (λ uses free. free) r.stops_and_clears.stopped start new (record { is_simulated = started start s; accesses_are_such = tt })

@@ -17,7 +17,7 @@ use Rattle.adapter.specs.declared.tape.Entry.{Entry}
 use Rattle.block_machine.specs.State.{Machine}
 use Rattle.refinement.specs.Laws.{FragmentLaws, TapeLaws}
 use Rattle.refinement.specs.Relation.{StateRelation}
-use Rattle.refinement.specs.Fragments.{AnyAccess, AnySlotStates, NoCommandIsIssuedOrTaken, ReadsPortOrWrites, IsDrivenBy, SparesOtherPorts, GainsNoMove}
+use Rattle.refinement.specs.Fragments.{AnyAccess, AnySlotStates, NoCommandIsIssuedOrTaken, ReadsPortOrWrites, IsDrivenBy, AccessesNoOtherPort, GainsNoMove}
 use Rattle.refinement.specs.Driver.{AllFree, DriverState, DriverRelation}
 use Rattle.refinement.specs.Errors.{ErrorBitsRiseByErrors, NoFaults, NoFatalErrors}
 use Rattle.refinement.specs.PortFacts.{IsHaltedPlainOrQueued, IsEngineStopped, RecordsFaultsIfSt, RunsWell, ShowsFault, ShowsNoTrouble}
@@ -29,7 +29,7 @@ use Rattle.adapter.specs.OneCommand.{SlotHasNoCommand}
 use Rattle.refinement.specs.Slots.{Free, Own, SlotStates, set_slot_state}
 use Rattle.refinement.specs.StartedPort.{WritesCmdOnlyWithStSet, IsStarted, IsUpForStart}
 use Rattle.command_table.specs.TableStores.{IsSlotStateFree}
-use Rattle.disk_page.specs.PageRequests.{IsSlot0CiOrPageMemoryAccess, LeavesPortWhileAsking, WaitsForSlot0InVain}
+use Rattle.disk_page.specs.PageRequests.{IsPxciOrSlot0PageMemoryAccess, LeavesPortWhileAsking, WaitsForSlot0InVain}
 use Rattle.port_control.specs.Engines.{FailsToStop, EngineFalls, EngineSticks}
 use Rattle.port_control.specs.Ports.{IsSerrOrIs, IsCommandRegister}
 use Rattle.error_recovery.specs.Recovery.{IsCmdSerrOrIs, IsRecoveryAccess}
@@ -66,7 +66,7 @@ pub data AccessPurpose : Type 0 where
 
 abbrev pub accesses_for : AccessPurpose → Access → Type 0
 accesses_for (Controlling set fitting port) = ReadsPortOrWrites (registers_of set) port
-accesses_for (Asking port) = IsSlot0CiOrPageMemoryAccess port
+accesses_for (Asking port) = IsPxciOrSlot0PageMemoryAccess port
 accesses_for (Recovering fitting port) = IsRecoveryAccess port
 
 abbrev pub slot_uses_for : AccessPurpose → SlotStates → Type 0
@@ -143,13 +143,13 @@ pub record Laws : Type 0 where
       ≡ Own o
   -- fragments
   pub accesses_keep_adapter : (old new : Device) → IsDrivenBy AnyAccess old new → SameAdapter old new
-  pub accesses_of_port_spare_ghc : (port : Port) (access : Access) → SparesOtherPorts port access
+  pub accesses_of_port_spare_ghc : (port : Port) (access : Access) → AccessesNoOtherPort port access
       → DoesNotWrite Ghc access
   pub accesses_of_port_spare_others : (port q : Port) (r : PortReg) → q.0 ≢ port.0 → (access : Access)
-      → SparesOtherPorts port access
+      → AccessesNoOtherPort port access
       → DoesNotWrite (Px q r) access
-  pub asking_spares_other_ports : (port : Port) (access : Access) → IsSlot0CiOrPageMemoryAccess port access
-      → SparesOtherPorts port access
+  pub asking_spares_other_ports : (port : Port) (access : Access) → IsPxciOrSlot0PageMemoryAccess port access
+      → AccessesNoOtherPort port access
   pub asking_leaves_no_command : (port : ℕ) (old new : Device) → LeavesPortWhileAsking port old new
       → NoCommandIsIssuedOrTaken (old.port port)
       → SlotHasNoCommand (new.port port) 0 → NoCommandIsIssuedOrTaken (new.port port)
@@ -170,7 +170,7 @@ pub record Laws : Type 0 where
   -- this crate's kinds of accesses
   pub control_spares_other_ports : (set : RegisterSet) (port : Port) (access : Access)
       → ReadsPortOrWrites (registers_of set) port access
-      → SparesOtherPorts port access
+      → AccessesNoOtherPort port access
   pub control_spares_other_registers : (set : RegisterSet) (port : Port) (r : PortReg) → (registers_of set r → ⊥)
       → (access : Access)
       → ReadsPortOrWrites (registers_of set) port access → DoesNotWrite (Px port r) access

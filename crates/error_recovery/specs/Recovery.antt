@@ -22,7 +22,7 @@ use Rattle.refinement.specs.GivingUp.{slots_with_all_parked}
 use Rattle.refinement.specs.PreservedParts.{NoPlugEvents, DoesNotWrite}
 use Rattle.refinement.specs.HaltRecovery.{IsLinked, WorksOnUnqueuedCommandsOnly}
 use Rattle.refinement.specs.Slots.{Free, Own, SlotStates, client_operation_of, set_slot_state}
-use Rattle.disk_page.specs.PageRequests.{IsSlot0CiOrPageMemoryAccess, WaitsForSlot0InVain}
+use Rattle.disk_page.specs.PageRequests.{IsPxciOrSlot0PageMemoryAccess, WaitsForSlot0InVain}
 use Rattle.identify.specs.ErrorLog.{NamesQueuedCommand, NamesNoQueuedCommand}
 use Rattle.identify.specs.declared.error_log.FailedSlot.{FailedSlot}
 use Rattle.port_control.specs.Engines.{EngineSticks, Stops}
@@ -75,7 +75,7 @@ IsCmdSerrOrIs r = IsCommandRegister r ⊎ IsSerrOrIs r
 -- it reads a register of the port, writes one of these three, or asks for the log: by slot 0's header and table, bit 0
 -- of PxCI, and a load of the scratch frame
 abbrev pub IsRecoveryAccess : Port → Access → Type 0
-IsRecoveryAccess port access = ReadsPortOrWrites IsCmdSerrOrIs port access ⊎ IsSlot0CiOrPageMemoryAccess port access
+IsRecoveryAccess port access = ReadsPortOrWrites IsCmdSerrOrIs port access ⊎ IsPxciOrSlot0PageMemoryAccess port access
 
 -- slot 0 has a command of the driver's own
 abbrev pub with_own_command_in_slot_0 : ℕ → Operation → DriverSlots → DriverSlots
@@ -83,13 +83,13 @@ with_own_command_in_slot_0 port o s = record s { slot_states = set_slot_state s.
 
 -- Each slot of the port was given up once the port had stopped, and the requests that they served are parked; the
 -- device alone made steps. Of a dead port the slots are as they were, or READ LOG EXT may be in slot 0 still.
-abbrev pub IsSimulatedWithSlotsParkedUnlessDead : ℕ → Next → List Access → Device → Device → Type 0
-IsSimulatedWithSlotsParkedUnlessDead port Dead accesses old new =
+abbrev pub IsSimulatedWithSlotsSurelyParkedUnlessDead : ℕ → Next → List Access → Device → Device → Type 0
+IsSimulatedWithSlotsSurelyParkedUnlessDead port Dead accesses old new =
     AccessesAreSimulatedByActs accesses AnySlots (λ s. s) ActsByDeviceAlone old new
     ⊎ (AccessesAreSimulatedByActs accesses AnySlots (slots_with_all_parked port) ActsByDeviceAlone old new
     ⊎ AccessesAreSimulatedByActs accesses AnySlots (λ s. with_own_command_in_slot_0 port ReadLog
     (slots_with_all_parked port s)) ActsByDeviceAlone old new)
-IsSimulatedWithSlotsParkedUnlessDead port _ accesses old new =
+IsSimulatedWithSlotsSurelyParkedUnlessDead port _ accesses old new =
     AccessesAreSimulatedByActs accesses AnySlots (slots_with_all_parked port) ActsByDeviceAlone old new
 
 -- the accesses tell that the port was stopped; or that its engine is stuck
@@ -205,7 +205,7 @@ EndsAsNext queued port Dead old new = ((new.port port.0).st ≡ false) × BacksF
 -- What recovery does: its accesses are of its kind; what becomes of the slots; and what is told of the port's engine.
 pub record DoesRecovery (port : Port) (result : Recovered) (accesses : List Access) (old new : Device) : Type 0 where
   pub accesses_are_recovery : All (IsRecoveryAccess port) accesses
-  pub slots_after : IsSimulatedWithSlotsParkedUnlessDead port.0 result.next accesses old new
+  pub slots_after : IsSimulatedWithSlotsSurelyParkedUnlessDead port.0 result.next accesses old new
   pub tells_engine_outcome : TellsEngineOutcome port result.next accesses
 
 -- What is told of the commands that were outstanding: who failed, on what that rests, and who goes again. Where the

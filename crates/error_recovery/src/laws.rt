@@ -3,7 +3,7 @@ ghost use Rattle.std.specs.Prelude.{ℕ, true, false, ◌≡◌, ◌+◌, ◌<�
 ghost use Rattle.ata_types.specs.{declared.Port.{Port}, declared.memory.TheConstants.{DRIVER_BYTES}};
 ghost use Rattle.hba_regs.specs.{declared.reg.PortReg.TheVariants.{Cmd, Ie, Sact, Sctl}, declared.reg.Reg.TheVariants.{Ghc, Px}};
 ghost use Rattle.adapter.specs.{Access.{Access, DoesAll}, Access.Access.{Loading, Storing}, Device.{Device, DevicePort}, Rules.{IsOn}, declared.command.Operation.TheVariants.{ReadLog}, declared.tape.Fault.{Fault}};
-ghost use Rattle.refinement.specs.{Fragments.{TapeGrows, SparesOtherPorts, GainsNoMove}, PreservedParts.{DoesNotWrite}};
+ghost use Rattle.refinement.specs.{Fragments.{TapeGrows, AccessesNoOtherPort, GainsNoMove}, PreservedParts.{DoesNotWrite}};
 ghost use Rattle.error_recovery.specs.{Evidence.{BringsLastLogPage, HasFailed, ShowsFatal}, Recovery.{IsRecoveryAccess}, Witness.{MayRecoverWitness, StopWitness}};
 
 use super::prerequisites::law_prerequisites;
@@ -15,12 +15,12 @@ use refinement::laws::{
 use refinement::recovery_witnesses::law_a_command_may_have_failed;
 
 /// Recovery touches no register of another port, nor another port's bit of IS: so what is said of such accesses
-/// (`SparesOtherPorts`) is so of each of its own. They write no register of the adapter's own, and of the port's none
-/// but PxCMD, PxSERR, PxIS and PxCI: neither PxSCTL nor PxIE nor PxSACT. What they load and store lies in the driver's
-/// frames.
+/// (`AccessesNoOtherPort`) is so of each of its own. They write no register of the adapter's own, and of the port's
+/// none but PxCMD, PxSERR, PxIS and PxCI: neither PxSCTL nor PxIE nor PxSACT. What they load and store lies in the
+/// driver's frames.
 pub fn law_recovery_accesses_spare_others()
     ensures spares_other_ports { (port : Port) (access : Access) → IsRecoveryAccess port access
-        → SparesOtherPorts port access }
+        → AccessesNoOtherPort port access }
     ensures ghc_is_unwritten { (port : Port) (access : Access) → IsRecoveryAccess port access
         → DoesNotWrite Ghc access }
     ensures sctl_is_unwritten { (port : Port) (access : Access) → IsRecoveryAccess port access

@@ -7,17 +7,18 @@ use disk_page::laws::{
 };
 use port_control::laws::law_engine_evidence_shows_in_longer_traces;
 use refinement::access_kinds::{
-    law_fragment_prerequisites, law_port_register_accesses_are_of_port,
+    law_access_kinds_satisfy_fragment_laws, law_port_register_accesses_are_of_port,
 };
 use refinement::fragments::{
-    law_other_ports_are_untouched, law_port_without_command_gains_no_move, law_tape_prerequisites,
+    law_other_ports_are_untouched, law_port_without_command_gains_no_move,
+    law_tapes_satisfy_tape_laws,
 };
 use refinement::giving_up::{
     law_giving_up_stopped_port_slots_agrees, law_slot_in_use_or_faulted_is_outstanding,
 };
 use refinement::laws::law_setting_changes_one_slot;
 use refinement::port_facts::{
-    law_adapter_stays_the_same_and_switched_on, law_clear_error_bits_stay_clear,
+    law_adapter_stays_same_and_on_until_ghc_write, law_clear_error_bits_stay_clear,
     law_clear_pxis_error_bits_mean_no_error, law_noted_reads_change_only_by_read_or_sctl,
     law_port_controls_stay_until_written, law_serr_n_clear_means_no_plug_event,
     law_started_port_without_trouble_runs_well, law_tape_and_tfd_keep_faults_since_st,
@@ -34,7 +35,7 @@ pub fn law_prerequisites()
     ensures { Laws }
 {
     law_port_access_is_steps_then_port_effect();
-    law_adapter_stays_the_same_and_switched_on();
+    law_adapter_stays_same_and_on_until_ghc_write();
     law_clear_error_bits_stay_clear();
     law_port_controls_stay_until_written();
     law_clear_pxis_error_bits_mean_no_error();
@@ -45,7 +46,7 @@ pub fn law_prerequisites()
     law_started_port_without_trouble_runs_well();
     law_slot_in_use_or_faulted_is_outstanding();
     law_giving_up_stopped_port_slots_agrees();
-    law_fragment_prerequisites::<Brand>();
+    law_access_kinds_satisfy_fragment_laws::<Brand>();
     law_port_register_accesses_are_of_port::<Brand>();
     law_setting_changes_one_slot();
     law_port_stays_unqueued_until_sact_written();
@@ -53,7 +54,7 @@ pub fn law_prerequisites()
     law_link_stays_online();
     law_port_runs_on_without_fatal_or_plug();
     law_other_ports_are_untouched();
-    law_tape_prerequisites();
+    law_tapes_satisfy_tape_laws();
     law_port_without_command_gains_no_move();
     law_page_request_spares_other_ports();
     law_slot_0_wait_in_vain_shows_in_longer_trace();

@@ -14,7 +14,7 @@ use Rattle.refinement.specs.Fragments.{OnlyDeviceChangesPort, GainsNoMove}
 use Rattle.refinement.specs.PreservedParts.{SameAdapter}
 use Rattle.identify.specs.Wanted.{serial_of}
 use Rattle.identify.specs.declared.wanted.Wanted.{Wanted}
-use Rattle.host_boot.specs.TakeOver.{IsServed, KeepsWhatBacksProbeResult, BacksProbeResult, StillBacksProbeResult, WroteSctlUnlessUnservedOrDead}
+use Rattle.host_boot.specs.TakeOver.{IsWantedAndImplemented, KeepsWhatBacksProbeResult, BacksProbeResult, StillBacksProbeResult, WroteSctlUnlessUnservedOrDead}
 use Rattle.host_boot.specs.declared.ProbeResult.{ProbeResult}
 use Rattle.host_boot.specs.declared.ProbeResult.TheVariants.{Unserved, Ready, Unready}
 use Rattle.host_boot.specs.Laws.{ProbeResultLaws, Laws}
@@ -32,14 +32,14 @@ module _ (old new : device.DevicePort) (l : OnlyDeviceChangesPort old new) where
   }
 
 module _ (port : ℕ) (old new : Device) (same : SameAdapter old new) (wanted : Wanted) where
-  served_on : IsServed wanted port old → IsServed wanted port new
+  served_on : IsWantedAndImplemented wanted port old → IsWantedAndImplemented wanted port new
   served_on (is, there) = (is, ap (λ (pi : ℕ). bit pi port) same.pi ∙ there)
 
-  served_back : IsServed wanted port new → IsServed wanted port old
+  served_back : IsWantedAndImplemented wanted port new → IsWantedAndImplemented wanted port old
   served_back (is, there) = (is, ap (λ (pi : ℕ). bit pi port) (sym same.pi) ∙ there)
 
 -- a port of which a boot found anything is served
-pub is_served : (wanted : Wanted) (port : ℕ) (d : Device) (found : ProbeResult) → found ≢ Unserved → BacksProbeResult wanted found port d → IsServed wanted port d
+pub is_served : (wanted : Wanted) (port : ℕ) (d : Device) (found : ProbeResult) → found ≢ Unserved → BacksProbeResult wanted found port d → IsWantedAndImplemented wanted port d
 is_served wanted port d Unserved other h = absurd (other refl)
 is_served wanted port d (Ready info) other h = h.0
 is_served wanted port d (Unready state) other h = h.0

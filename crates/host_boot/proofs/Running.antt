@@ -11,7 +11,7 @@ use Rattle.adapter.specs.Device.{Device}
 use Rattle.adapter.specs.Idle.{IsIdle}
 use Rattle.adapter.specs.Rules.{IsOn}
 use Rattle.refinement.specs.Relation.{port_at}
-use Rattle.refinement.specs.Fragments.{IsDrivenBy, SparesOtherPorts, NoneWrites}
+use Rattle.refinement.specs.Fragments.{IsDrivenBy, AccessesNoOtherPort, NoneWrites}
 use Rattle.refinement.specs.PortFacts.{RecordsFaultsIfSt, RunsWell, Undisturbed}
 use Rattle.refinement.specs.Fragments.{TapeGrows}
 use Rattle.identify.specs.declared.DiskInfo.{DiskInfo}
@@ -27,11 +27,11 @@ use Rattle.refinement.specs.PreservedParts.{DoesNotWrite}
 
 -- it is of a port with this number, or one above it
 abbrev IsOfFrom : ℕ → Access → Type 0
-IsOfFrom n access = (port : Port) × (n ≤ port.0) × SparesOtherPorts port access
+IsOfFrom n access = (port : Port) × (n ≤ port.0) × AccessesNoOtherPort port access
 
 -- it is of another port than this one
 abbrev pub IsOfOther : ℕ → Access → Type 0
-IsOfOther q access = (port : Port) × (q ≢ port.0) × SparesOtherPorts port access
+IsOfOther q access = (port : Port) × (q ≢ port.0) × AccessesNoOtherPort port access
 
 survey_spares_ghc : NoneWrites ReadsCapOrPi Ghc
 survey_spares_ghc (Reading r v) is = tt
@@ -51,27 +51,27 @@ module _ (laws : Laws) where
   pub others_well : (port : Port) (old new : Device) → IsOn old → IsDrivenBy (IsOfOther port.0) old new → Undisturbed port.0 old new → RunsWell (old.port port.0) → RunsWell (new.port port.0)
   others_well port old new on driven = laws.stays_well_if_undisturbed port.0 old new (others_run port old new on driven)
 
-  pub other_well : (port at : Port) (old new : Device) → port.0 ≢ at.0 → IsOn old → IsDrivenBy (SparesOtherPorts at) old new → Undisturbed port.0 old new → RunsWell (old.port port.0) → RunsWell (new.port port.0)
-  other_well port at old new other on driven = others_well port old new on (driven_as (SparesOtherPorts at) (IsOfOther port.0) old new (λ access is. (at, other, is)) driven)
+  pub other_well : (port at : Port) (old new : Device) → port.0 ≢ at.0 → IsOn old → IsDrivenBy (AccessesNoOtherPort at) old new → Undisturbed port.0 old new → RunsWell (old.port port.0) → RunsWell (new.port port.0)
+  other_well port at old new other on driven = others_well port old new on (driven_as (AccessesNoOtherPort at) (IsOfOther port.0) old new (λ access is. (at, other, is)) driven)
 
   -- ---- the way of a port
 
-  through_driven : (port : Port) (found : ProbeResult) (old new : Device) → StopsAndBootsOrDoesNothing port found old new → IsDrivenBy (SparesOtherPorts port) old new
-  through_driven port Unserved old new same = subst (λ (d : Device). IsDrivenBy (SparesOtherPorts port) old d) (sym same) (by_none (SparesOtherPorts port) old)
+  through_driven : (port : Port) (found : ProbeResult) (old new : Device) → StopsAndBootsOrDoesNothing port found old new → IsDrivenBy (AccessesNoOtherPort port) old new
+  through_driven port Unserved old new same = subst (λ (d : Device). IsDrivenBy (AccessesNoOtherPort port) old d) (sym same) (by_none (AccessesNoOtherPort port) old)
   through_driven port (Ready info) old new (stopped, stop, boot, ready, news) =
-      by_then laws (stop_driven laws port old stopped stop) (driven_as (IsBootAccess port) (SparesOtherPorts port) stopped new (laws.boot_access_is_of_port port) boot)
+      by_then laws (stop_driven laws port old stopped stop) (driven_as (IsBootAccess port) (AccessesNoOtherPort port) stopped new (laws.boot_access_is_of_port port) boot)
   through_driven port (Unready state) old new (stopped, stop, boot, early, late, sticks) =
-      by_then laws (stop_driven laws port old stopped stop) (driven_as (IsBootAccess port) (SparesOtherPorts port) stopped new (laws.boot_access_is_of_port port) boot)
+      by_then laws (stop_driven laws port old stopped stop) (driven_as (IsBootAccess port) (AccessesNoOtherPort port) stopped new (laws.boot_access_is_of_port port) boot)
 
   through_well : (port : Port) (info : DiskInfo) (old new : Device) → StopsAndBootsOrDoesNothing port (Ready info) old new → Undisturbed port.0 old new → RunsWell (new.port port.0)
   through_well port info old new (stopped, stop, boot, ready, news) calm =
-      news.runs_well_if_undisturbed (calm_in_parts laws port.0 old stopped new (tape_over laws (SparesOtherPorts port) old stopped (stop_driven laws port old stopped stop)) (tape_over laws (IsBootAccess port) stopped new boot) calm).1
+      news.runs_well_if_undisturbed (calm_in_parts laws port.0 old stopped new (tape_over laws (AccessesNoOtherPort port) old stopped (stop_driven laws port old stopped stop)) (tape_over laws (IsBootAccess port) stopped new boot) calm).1
 
   -- of ports one after another
   go_driven : (n first : ℕ) (ports : List ProbeResult) (old new : Device) → n ≤ first → BootsEachServedPortOrSticks first ports old new → IsDrivenBy (IsOfFrom n) old new
   go_driven n first [] old new less same = subst (λ (d : Device). IsDrivenBy (IsOfFrom n) old d) (sym same) (by_none (IsOfFrom n) old)
   go_driven n first (found ∷ rest) old new less (mid, way, more) =
-      by_then laws (driven_as (SparesOtherPorts (port_at first)) (IsOfFrom n) old mid (λ access is. (port_at first, less, is)) (through_driven (port_at first) found old mid way))
+      by_then laws (driven_as (AccessesNoOtherPort (port_at first)) (IsOfFrom n) old mid (λ access is. (port_at first, less, is)) (through_driven (port_at first) found old mid way))
       (go_driven n (first + 1) rest mid new (omega (arith, less)) more)
 
   from_spares_ghc : (n : ℕ) → NoneWrites (IsOfFrom n) Ghc
@@ -86,15 +86,15 @@ module _ (laws : Laws) where
       let its : StopsAndBootsOrDoesNothing port (Ready info) old mid = subst (λ (p : Port). StopsAndBootsOrDoesNothing p (Ready info) old mid) same (subst (λ (f : ProbeResult). StopsAndBootsOrDoesNothing (port_at first) f old mid) is way) in
       let early = through_driven (port_at first) found old mid way in
       let late = go_driven (first + 1) (first + 1) rest mid new (omega arith) more in
-      let parts = calm_in_parts laws port.0 old mid new (tape_over laws (SparesOtherPorts (port_at first)) old mid early) (tape_over laws (IsOfFrom (first + 1)) mid new late) calm in
-      others_well port mid new (on_over laws (SparesOtherPorts (port_at first)) old mid early (laws.one_port_spares_ghc (port_at first)) on)
+      let parts = calm_in_parts laws port.0 old mid new (tape_over laws (AccessesNoOtherPort (port_at first)) old mid early) (tape_over laws (IsOfFrom (first + 1)) mid new late) calm in
+      others_well port mid new (on_over laws (AccessesNoOtherPort (port_at first)) old mid early (laws.one_port_spares_ghc (port_at first)) on)
       (driven_as (IsOfFrom (first + 1)) (IsOfOther port.0) mid new (λ access (q, above, its). (q, λ (e : port.0 ≡ q.0). absurd (omega (arith, at, above, e)), its)) late)
       parts.1 (through_well port info old mid its parts.0)
   go_well port info first (found ∷ rest) (suc k) old new at is on (mid, way, more) calm =
       let early = through_driven (port_at first) found old mid way in
       let late = go_driven (first + 1) (first + 1) rest mid new (omega arith) more in
-      let parts = calm_in_parts laws port.0 old mid new (tape_over laws (SparesOtherPorts (port_at first)) old mid early) (tape_over laws (IsOfFrom (first + 1)) mid new late) calm in
-      go_well port info (first + 1) rest k mid new (omega (arith, at)) is (on_over laws (SparesOtherPorts (port_at first)) old mid early (laws.one_port_spares_ghc (port_at first)) on) more parts.1
+      let parts = calm_in_parts laws port.0 old mid new (tape_over laws (AccessesNoOtherPort (port_at first)) old mid early) (tape_over laws (IsOfFrom (first + 1)) mid new late) calm in
+      go_well port info (first + 1) rest k mid new (omega (arith, at)) is (on_over laws (AccessesNoOtherPort (port_at first)) old mid early (laws.one_port_spares_ghc (port_at first)) on) more parts.1
 
   -- ---- what lasts, whatever goes wrong
 
@@ -108,12 +108,12 @@ module _ (laws : Laws) where
       let own : StopsAndBootsOrDoesNothing port its old mid = subst (λ (p : Port). StopsAndBootsOrDoesNothing p its old mid) same (subst (λ (f : ProbeResult). StopsAndBootsOrDoesNothing (port_at first) f old mid) is way) in
       let early = through_driven (port_at first) found old mid way in
       let late = go_driven (first + 1) (first + 1) rest mid new (omega arith) more in
-      lasting mid new (on_over laws (SparesOtherPorts (port_at first)) old mid early (laws.one_port_spares_ghc (port_at first)) on)
+      lasting mid new (on_over laws (AccessesNoOtherPort (port_at first)) old mid early (laws.one_port_spares_ghc (port_at first)) on)
       (driven_as (IsOfFrom (first + 1)) (IsOfOther port.0) mid new (λ access (q, above, of_q). (q, λ (e : port.0 ≡ q.0). absurd (omega (arith, at, above, e)), of_q)) late)
       (through old mid on own)
   go_last P port its served through lasting first (found ∷ rest) (suc k) old new at is on (mid, way, more) =
       let early = through_driven (port_at first) found old mid way in
-      go_last P port its served through lasting (first + 1) rest k mid new (omega (arith, at)) is (on_over laws (SparesOtherPorts (port_at first)) old mid early (laws.one_port_spares_ghc (port_at first)) on) more
+      go_last P port its served through lasting (first + 1) rest k mid new (omega (arith, at)) is (on_over laws (AccessesNoOtherPort (port_at first)) old mid early (laws.one_port_spares_ghc (port_at first)) on) more
 
   pub taken_well : (port : Port) (info : DiskInfo) (ports : List ProbeResult) (old new : Device) → IsIdle old → probe_result_of ports port.0 ≡ Ready info → SwitchesOnBootsAndEnablesInterrupts ports old new → Undisturbed port.0 old new → RunsWell (new.port port.0)
   taken_well port info ports old new idle is way calm =

@@ -13,9 +13,9 @@ use Rattle.adapter.specs.Access.Access.{Reading, Writing, Loading, Storing}
 use Rattle.adapter.specs.Device.{Device}
 use Rattle.adapter.specs.Idle.{IsIdle}
 use Rattle.adapter.specs.Rules.{IsOn}
-use Rattle.refinement.specs.Fragments.{ReadsPortOrWrites, IsDrivenBy, SparesOtherPorts}
+use Rattle.refinement.specs.Fragments.{ReadsPortOrWrites, IsDrivenBy, AccessesNoOtherPort}
 use Rattle.refinement.specs.PreservedParts.{HasDet3IfDiskPresent, DoesNotWrite}
-use Rattle.disk_page.specs.PageRequests.{IsSlot0CiOrPageMemoryAccess}
+use Rattle.disk_page.specs.PageRequests.{IsPxciOrSlot0PageMemoryAccess}
 use Rattle.port_control.specs.Ports.{FindsLinkAndClearsErrors, FindsSignature, HasLink, IsCmdOrBaseRegister, SeesResetFault, IsVainReading, ReadsUntil, ReadsInVain, ShowsIdle, SendsComresetThen, IsCommandRegister}
 use Rattle.port_control.specs.declared.PortFault.{PortFault}
 use Rattle.port_control.specs.declared.PortFault.TheVariants.{NoDevice, Busy, EngineStuck, NotAta}
@@ -101,12 +101,12 @@ module _ (laws : Laws) where
     -- COMRESET itself resets no adapter
     reset_on : (Then : Device → Device → Type 0) (old new : Device) → IsOn old → (w : SendsComresetThen port Then old new) → IsOn w.ended
     reset_on Then old new on w =
-        on_over laws (SparesOtherPorts port) old w.ended
-        (by_then laws (by_one (SparesOtherPorts port) (Writing (Px port Sctl) 1) old w.sent refl w.sends) (by_one (SparesOtherPorts port) (Writing (Px port Sctl) 0) w.sent w.ended refl w.ends))
+        on_over laws (AccessesNoOtherPort port) old w.ended
+        (by_then laws (by_one (AccessesNoOtherPort port) (Writing (Px port Sctl) 1) old w.sent refl w.sends) (by_one (AccessesNoOtherPort port) (Writing (Px port Sctl) 0) w.sent w.ended refl w.ends))
         (laws.one_port_spares_ghc port) on
 
     placing_on : (old new : Device) → IsOn old → IsDrivenBy (ReadsPortOrWrites IsCmdOrBaseRegister port) old new → IsOn new
-    placing_on old new on driven = on_over laws (SparesOtherPorts port) old new (placing_driven laws port old new driven) (laws.one_port_spares_ghc port) on
+    placing_on old new on driven = on_over laws (AccessesNoOtherPort port) old new (placing_driven laws port old new driven) (laws.one_port_spares_ghc port) on
 
     early_shown : (state : PortState) (old new : Device) → state ≢ Absent → IsOn old → EndsBeforeStart port state old new → Shown new
     early_shown state old new other on e =
@@ -118,7 +118,7 @@ module _ (laws : Laws) where
         driven_as (ReadsPortOrWrites IsCommandRegister port) (IsGentle port) old new
         (λ access is. let c = laws.cmd_access_is_of_port port access is in (laws.one_port_spares_ghc port access c.0, c.1)) driven
 
-    asking_gentle : (access : Access) → IsSlot0CiOrPageMemoryAccess port access → IsGentle port access
+    asking_gentle : (access : Access) → IsPxciOrSlot0PageMemoryAccess port access → IsGentle port access
     asking_gentle (Reading r v) is = (tt, tt)
     asking_gentle (Writing r v) is =
         ((λ e. absurd (let z : Px port Ci ≡ Ghc = sym is.0 ∙ e in cc)), (λ e. absurd (let z : Px port Ci ≡ Px port Sctl = sym is.0 ∙ e in cc)))
@@ -132,7 +132,7 @@ module _ (laws : Laws) where
         let found : IsOn up.found = signature_on up.resets.ended up.found ended up.resets.does_rest in
         gently up.found new found
         (by_then laws (stop_gentle up.found e.up up.starts)
-        (by_then laws (driven_as (IsSlot0CiOrPageMemoryAccess port) (IsGentle port) e.up e.asks_then_stops.asked asking_gentle e.asks_then_stops.asks) (stop_gentle e.asks_then_stops.asked new e.asks_then_stops.stops)))
+        (by_then laws (driven_as (IsPxciOrSlot0PageMemoryAccess port) (IsGentle port) e.up e.asks_then_stops.asked asking_gentle e.asks_then_stops.asks) (stop_gentle e.asks_then_stops.asked new e.asks_then_stops.stops)))
         (signature_shown 0x101 up.resets.ended up.found ended up.resets.does_rest)
       where
         signature_on : (a b : Device) → IsOn a → FindsSignature port 0x101 a b → IsOn b
@@ -143,7 +143,7 @@ module _ (laws : Laws) where
     -- where a disk was found that isn't served, its way ends so
     pub way_shown : (state : PortState) (old new : Device) → FoundUnusableDevice state → IsOn old → StopsAndBootsOrDoesNothing port (Unready state) old new → Shown new
     way_shown Foreign old new bad on (stopped, stop, boot, early, late, sticks) =
-        late_shown stopped new (on_over laws (SparesOtherPorts port) old stopped (stop_driven laws port old stopped stop) (laws.one_port_spares_ghc port) on) (late tt)
+        late_shown stopped new (on_over laws (AccessesNoOtherPort port) old stopped (stop_driven laws port old stopped stop) (laws.one_port_spares_ghc port) on) (late tt)
     way_shown (Unfit n) old new bad on (stopped, stop, boot, early, late, sticks) = ⊎_elim
         (λ (seven : n ≡ 7). early_shown (Unfit n) stopped new (λ e. let z : Unfit n ≡ Absent = e in absurd cc) begun (early (inl seven)))
         (λ (a : n ≢ 7). ⊎_elim
@@ -153,7 +153,7 @@ module _ (laws : Laws) where
         (cases_eq n 7)
       where
         begun : IsOn stopped
-        begun = on_over laws (SparesOtherPorts port) old stopped (stop_driven laws port old stopped stop) (laws.one_port_spares_ghc port) on
+        begun = on_over laws (AccessesNoOtherPort port) old stopped (stop_driven laws port old stopped stop) (laws.one_port_spares_ghc port) on
     way_shown Absent old new bad on way = absurd bad
     way_shown Ready old new bad on way = absurd bad
     way_shown Dead old new bad on way = absurd bad

@@ -6,7 +6,7 @@ use Rattle.hba_regs.specs.declared.reg.Reg.TheVariants.{Ghc}
 use Rattle.adapter.specs.Access.{Access, Does}
 use Rattle.adapter.specs.Device.{Device}
 use Rattle.adapter.specs.Rules.{IsOn}
-use Rattle.refinement.specs.Fragments.{AnyAccess, TapeGrows, ReadsPortOrWrites, IsDrivenBy, SparesOtherPorts, IsSimulatedAlongChangingUses, NoneWrites}
+use Rattle.refinement.specs.Fragments.{AnyAccess, TapeGrows, ReadsPortOrWrites, IsDrivenBy, AccessesNoOtherPort, IsSimulatedAlongChangingUses, NoneWrites}
 use Rattle.refinement.specs.PortFacts.{Undisturbed}
 use Rattle.refinement.specs.PreservedParts.{SameAdapter, DoesNotWrite}
 use Rattle.refinement.specs.Slots.{SlotStates}
@@ -58,11 +58,11 @@ module _ (laws : Laws) where
   calm_in_parts port old mid new early late calm = laws.tape.undisturbed_in_parts port old mid new early.0 late.0 early.1 late.1 calm
 
   -- those that stop a port, or put its areas into their places, are of the port
-  pub stop_driven : (port : Port) (old new : Device) → IsDrivenBy (ReadsPortOrWrites IsCommandRegister port) old new → IsDrivenBy (SparesOtherPorts port) old new
-  stop_driven port old new = driven_as (ReadsPortOrWrites IsCommandRegister port) (SparesOtherPorts port) old new (λ access is. (laws.cmd_access_is_of_port port access is).0)
+  pub stop_driven : (port : Port) (old new : Device) → IsDrivenBy (ReadsPortOrWrites IsCommandRegister port) old new → IsDrivenBy (AccessesNoOtherPort port) old new
+  stop_driven port old new = driven_as (ReadsPortOrWrites IsCommandRegister port) (AccessesNoOtherPort port) old new (λ access is. (laws.cmd_access_is_of_port port access is).0)
 
-  pub placing_driven : (port : Port) (old new : Device) → IsDrivenBy (ReadsPortOrWrites IsCmdOrBaseRegister port) old new → IsDrivenBy (SparesOtherPorts port) old new
-  placing_driven port old new = driven_as (ReadsPortOrWrites IsCmdOrBaseRegister port) (SparesOtherPorts port) old new (λ access is. (laws.placing_access_is_of_port port access is).0)
+  pub placing_driven : (port : Port) (old new : Device) → IsDrivenBy (ReadsPortOrWrites IsCmdOrBaseRegister port) old new → IsDrivenBy (AccessesNoOtherPort port) old new
+  placing_driven port old new = driven_as (ReadsPortOrWrites IsCmdOrBaseRegister port) (AccessesNoOtherPort port) old new (λ access is. (laws.placing_access_is_of_port port access is).0)
 
   -- ---- stretches that are followed
 

@@ -20,7 +20,7 @@ use Rattle.adapter.specs.Rules.{IsOn}
 use Rattle.adapter.specs.declared.command.Operation.{Operation}
 use Rattle.adapter.specs.declared.command.Operation.TheVariants.{Identify}
 use Rattle.refinement.specs.Relation.{port_at}
-use Rattle.refinement.specs.Fragments.{AnySlotStates, SomeMachineAgrees, IsDrivenBy, IsSimulated, IsSimulatedChangingUses, SparesOtherPorts, IsSimulatedAlongChangingUses, SameSlotStates, OnlyDeviceChangesPort, NoneWrites, GainsNoMove, AreByDeviceAndKeepUnwrittenSlots}
+use Rattle.refinement.specs.Fragments.{AnySlotStates, SomeMachineAgrees, IsDrivenBy, IsSimulated, IsSimulatedChangingUses, AccessesNoOtherPort, IsSimulatedAlongChangingUses, SameSlotStates, OnlyDeviceChangesPort, NoneWrites, GainsNoMove, AreByDeviceAndKeepUnwrittenSlots}
 use Rattle.refinement.specs.Driver.{AllFree}
 use Rattle.refinement.specs.Halting.{HaltFitsTakenCommandsIfSt}
 use Rattle.refinement.specs.PreservedParts.{SameAdapter, DoesNotWrite}
@@ -132,7 +132,7 @@ module _ (laws : Laws) where
     module _ (driven : IsDrivenBy (IsBootAccess port) old new)
         (quiet : (q : Port) → q.0 ≢ port.0 → (u.uses q.0 0 ≡ Own Identify → ⊥) → GainsNoMove q.0 Identify old new) where
       alone : (q : ℕ) → q ≢ port.0 → OnlyDeviceChangesPort (old.port q) (new.port q)
-      alone q other = laws.other_ports_are_left port q old new other u.on (driven_as (IsBootAccess port) (SparesOtherPorts port) old new (laws.boot_access_is_of_port port) driven)
+      alone q other = laws.other_ports_are_left port q old new other u.on (driven_as (IsBootAccess port) (AccessesNoOtherPort port) old new (laws.boot_access_is_of_port port) driven)
 
       pub later_same : SameAdapter start new
       later_same = laws.same_adapter_is_transitive start old new u.same (same_over laws (IsBootAccess port) old new driven)

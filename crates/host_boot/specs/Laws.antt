@@ -5,7 +5,7 @@ use Rattle.ata_types.specs.declared.PortState.{PortState as ShownState}
 use Rattle.adapter.specs.Access.{Access, Does, DoesAll, Reads, Writes}
 use Rattle.refinement.specs.Laws.{FragmentLaws, TapeLaws}
 use Rattle.refinement.specs.Driver.{AllFree, DriverState, DriverRelation}
-use Rattle.refinement.specs.Fragments.{AnyAccess, AnySlotStates, SomeMachineAgrees, ReadsPortOrWrites, IsDrivenBy, SparesOtherPorts, SameSlotStates, OnlyDeviceChangesPort, GainsNoMove}
+use Rattle.refinement.specs.Fragments.{AnyAccess, AnySlotStates, SomeMachineAgrees, ReadsPortOrWrites, IsDrivenBy, AccessesNoOtherPort, SameSlotStates, OnlyDeviceChangesPort, GainsNoMove}
 use Rattle.hba_regs.specs.declared.reg.PortReg.TheVariants.{Cmd, Sctl, Ssts}
 use Rattle.ata_types.specs.declared.PortState.TheVariants.{Dead}
 use Rattle.adapter.specs.Device.{Device, DevicePort}
@@ -135,14 +135,14 @@ pub record Laws : Type 0 where
       → All (DoesNotWrite Ghc) accesses
       → DoesAll accesses old new → IsOn new
   pub other_ports_are_left : (port : Port) (q : ℕ) (old new : Device) → q ≢ port.0 → IsOn old
-      → IsDrivenBy (SparesOtherPorts port) old new
+      → IsDrivenBy (AccessesNoOtherPort port) old new
       → OnlyDeviceChangesPort (old.port q) (new.port q)
   pub leaves_port_is_transitive : (old mid new : DevicePort) → OnlyDeviceChangesPort old mid
       → OnlyDeviceChangesPort mid new → OnlyDeviceChangesPort old new
   pub one_port_spares_registers : (port q : Port) (r : PortReg) → q.0 ≢ port.0 → (access : Access)
-      → SparesOtherPorts port access
+      → AccessesNoOtherPort port access
       → DoesNotWrite (Px q r) access
-  pub one_port_spares_ghc : (port : Port) (access : Access) → SparesOtherPorts port access → DoesNotWrite Ghc access
+  pub one_port_spares_ghc : (port : Port) (access : Access) → AccessesNoOtherPort port access → DoesNotWrite Ghc access
   pub accesses_keep_adapter : (old new : Device) → IsDrivenBy AnyAccess old new → SameAdapter old new
   pub accesses_extend_tape : (old new : Device) → IsDrivenBy AnyAccess old new → (gained : List Entry)
       × (new.tape ≡ old.tape ++ gained)
@@ -156,10 +156,10 @@ pub record Laws : Type 0 where
       other_slot
   -- a port
   pub cmd_access_is_of_port : (port : Port) (access : Access) → ReadsPortOrWrites IsCommandRegister port access
-      → SparesOtherPorts port access
+      → AccessesNoOtherPort port access
       × DoesNotWrite (Px port Sctl) access
   pub placing_access_is_of_port : (port : Port) (access : Access) → ReadsPortOrWrites IsCmdOrBaseRegister port access
-      → SparesOtherPorts port access
+      → AccessesNoOtherPort port access
       × DoesNotWrite (Px port Sctl) access
   pub failed_stop_sticks : (port : Port) (accesses : List Access) → FailsToStop port accesses
       → EngineSticks port accesses
@@ -173,7 +173,8 @@ pub record Laws : Type 0 where
       → EngineSticks port (early ++ late)
   pub sticking_holds_with_earlier : (early late : List Access) (port : Port) → EngineSticks port late
       → EngineSticks port (early ++ late)
-  pub boot_access_is_of_port : (port : Port) (access : Access) → IsBootAccess port access → SparesOtherPorts port access
+  pub boot_access_is_of_port : (port : Port) (access : Access) → IsBootAccess port access
+      → AccessesNoOtherPort port access
   pub boot_on_way_is_driven : (port : Port) (state : ShownState) (old new : Device)
       → IsSimulatedBootTo (StopsReceivingAndStartedEngine port state) port state old new
       → IsDrivenBy (IsBootAccess port) old new

@@ -41,8 +41,8 @@ abbrev pub probe_result_of : List ProbeResult → ℕ → ProbeResult
 probe_result_of ports port = slice_index_or ports port Unserved
 
 -- a disk is wanted in the port, and the adapter has it
-abbrev pub IsServed : Wanted → ℕ → Device → Type 0
-IsServed wanted port d = (wanted ≢ Nothing) × (bit d.pi port ≡ true)
+abbrev pub IsWantedAndImplemented : Wanted → ℕ → Device → Type 0
+IsWantedAndImplemented wanted port d = (wanted ≢ Nothing) × (bit d.pi port ≡ true)
 
 -- in the port a disk was found that isn't served
 abbrev pub FoundUnusableDevice : ShownState → Type 0
@@ -53,14 +53,16 @@ FoundUnusableDevice _ = ⊥
 -- What stands behind what a port was found to be. One that isn't served is as idle as it was; what stands behind the
 -- others is what their boot found.
 abbrev pub BacksProbeResult : Wanted → ProbeResult → ℕ → Device → Type 0
-BacksProbeResult wanted Unserved port d = (IsServed wanted port d → ⊥) × IsIdlePort (d.port port)
-BacksProbeResult wanted (Ready info) port d = IsServed wanted port d × IsReadyAfterBoot (serial_of wanted) port d info
-BacksProbeResult wanted (Unready state) port d = IsServed wanted port d × BacksState (serial_of wanted) state port d
+BacksProbeResult wanted Unserved port d = (IsWantedAndImplemented wanted port d → ⊥) × IsIdlePort (d.port port)
+BacksProbeResult wanted (Ready info) port d = IsWantedAndImplemented wanted port d
+    × IsReadyAfterBoot (serial_of wanted) port d info
+BacksProbeResult wanted (Unready state) port d = IsWantedAndImplemented wanted port d
+    × BacksState (serial_of wanted) state port d
 
 -- What still stands behind it as long as the port isn't booted anew: behind a ready port, which takes commands, a disk
 -- that fits.
 abbrev pub StillBacksProbeResult : Wanted → ProbeResult → ℕ → Device → Type 0
-StillBacksProbeResult wanted (Ready info) port d = IsServed wanted port d
+StillBacksProbeResult wanted (Ready info) port d = IsWantedAndImplemented wanted port d
     × HasFitDiskAndInterrupts (serial_of wanted) port d info
 StillBacksProbeResult wanted found port d = BacksProbeResult wanted found port d
 

@@ -11,7 +11,7 @@ use Rattle.ata_types.specs.declared.request.RequestId.{RequestId}
 use Rattle.block_machine.specs.Ports.{Evidence, Ports}
 use Rattle.block_machine.specs.Rules.{HasRow, IsSameGrantName, is_same_grant_name}
 use Rattle.block_machine.specs.State.{Accepted, Pending, Machine}
-use Rattle.block_machine.specs.Steps.{Step, Accept, Issue, Touch, End, Age, WaitAgain, Answer, Revoke, HasGrant, IsEnabled, MayStillMove, after_step, update_pending, newly_issued, touch, mark_ended, requeued, aged_pending, newly_accepted}
+use Rattle.block_machine.specs.Steps.{Step, Accept, Issue, Touch, End, Age, WaitAgain, Answer, Revoke, HasGrant, IsEnabled, IsIssuedOrKept, after_step, update_pending, newly_issued, touch, mark_ended, requeued, aged_pending, newly_accepted}
 use Rattle.block_machine.specs.Expected.{after}
 use Rattle.block_machine.specs.Events.{AbstractState, AbstractCall, RevokeOf, AbstractCallResult, WasRevoked, CallRecord, AllEnabled, AreStepsOfCall, ResultMatchesSteps, IsByDevice, IsRun, IsByServer, abstract_after_all, steps_of}
 use Rattle.block_machine.proofs.Accepts.{law_accepted_is_granted}
@@ -40,7 +40,7 @@ changed_or_was m step id f e h changed =
     ⊎_elim (λ c. changed r.0 r.1 c.0 (r.2 ∙ c.1)) (λ c. inl (subst (λ (y : Pending). Contains m.book y) (sym (r.2 ∙ c.1)) r.1)) (at_cases id f r.0)
 
 -- a request that moves is issued
-is_issued : (m : Machine) → Sound m → (p o : Pending) → MayStillMove m p → Contains m.book o → o.request.id.0 ≡ p.request.id.0 → o.issued ≡ true
+is_issued : (m : Machine) → Sound m → (p o : Pending) → IsIssuedOrKept m p → Contains m.book o → o.request.id.0 ≡ p.request.id.0 → o.issued ≡ true
 is_issued m s p o (inl moves) here same = ap (λ (y : Pending). y.issued) (s.one o p here moves.0 same) ∙ moves.1
 is_issued m s p o (inr kept) here same = absurd (s.apart o p here kept same)
 

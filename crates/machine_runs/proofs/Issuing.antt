@@ -13,7 +13,7 @@ use Rattle.block_machine.specs.State.{Accepted, Pending, Machine}
 use Rattle.block_machine.specs.Steps.{Step, Accept, Issue, Touch, End, Age, WaitAgain, Answer, Release, Revoke, Unplug, PlugDisk, Store, Load, IsEnabled, after_step, update_pending, newly_issued, touch, mark_ended, requeued, aged_pending}
 use Rattle.block_machine.specs.Expected.{after, IsInitial}
 use Rattle.block_machine.specs.Confinement.{KeepsLimitsAndHoldsOwnFrames}
-use Rattle.block_machine.specs.Events.{AbstractState, CallRecord, AnswersAndWaitsLawful, EveryReadHoldsExpected, IsLawfulAnswer, IsRun, issues_id, abstract_after_all, steps_of, AllEnabled}
+use Rattle.block_machine.specs.Events.{AbstractState, CallRecord, AnswersLawfulAndWaitsOnStoppedPorts, EveryReadHoldsExpected, IsLawfulAnswer, IsRun, issues_id, abstract_after_all, steps_of, AllEnabled}
 use Rattle.block_machine.proofs.Members.{contains_none, contains_here, contains_there, contains_cases, map_in, into_map, at_cases, without_in, append_in}
 use Rattle.block_machine.proofs.Keeps.{older_keeps, older_issued}
 use Rattle.block_machine.proofs.Limits.{law_request_limits_hold_and_frames_are_lent, older_issues}
@@ -31,12 +31,12 @@ abbrev IsLawfulStep : AbstractState → Evidence → Ports → Step → Type 0
 IsLawfulStep old evidence ports (Answer e o) = IsLawfulAnswer old evidence ports e o
 IsLawfulStep old evidence ports step = Unit {0}
 
-lawful_first : (old : AbstractState) (evidence : Evidence) (ports : Ports) (step : Step) (before : List Step) → AnswersAndWaitsLawful old evidence ports (step ∷ before) → AnswersAndWaitsLawful old evidence ports before × IsLawfulStep old evidence ports step
+lawful_first : (old : AbstractState) (evidence : Evidence) (ports : Ports) (step : Step) (before : List Step) → AnswersLawfulAndWaitsOnStoppedPorts old evidence ports (step ∷ before) → AnswersLawfulAndWaitsOnStoppedPorts old evidence ports before × IsLawfulStep old evidence ports step
 lawful_first old evidence ports (Answer e o) before l = l
 lawful_first old evidence ports (WaitAgain e) before l = (l.0, tt)
 lawful_first old evidence ports _ before l = (l, tt)
 
-lawful_in : (old : AbstractState) (evidence : Evidence) (ports : Ports) (steps : List Step) → AnswersAndWaitsLawful old evidence ports steps → (step : Step) → Contains steps step → IsLawfulStep old evidence ports step
+lawful_in : (old : AbstractState) (evidence : Evidence) (ports : Ports) (steps : List Step) → AnswersLawfulAndWaitsOnStoppedPorts old evidence ports steps → (step : Step) → Contains steps step → IsLawfulStep old evidence ports step
 lawful_in old evidence ports [] l step h = absurd (contains_none step h)
 lawful_in old evidence ports (x ∷ before) l step h =
     let first = lawful_first old evidence ports x before l in
@@ -257,9 +257,9 @@ balanced start (step ∷ past) id s enabled =
     (subst (λ (n : ℕ). IsBalanced (after start (step ∷ past)) id n (cond (requeues_id id step) 1 0 + count_by (requeues_id id) past)) (sym (count_cons (issues_id id) step past))
     (balanced_step (after start past) step id (count_by (issues_id id) past) (count_by (requeues_id id) past) enabled.1 (traced start past s enabled.0).sound (balanced start past id s enabled.0)))
 
-pub law_issues_are_counted : (start : Machine) (history : List Step) (e : Pending) → IsInitial start → AllEnabled start history → Contains (after start history).book e
+pub law_book_issue_counts_match_history : (start : Machine) (history : List Step) (e : Pending) → IsInitial start → AllEnabled start history → Contains (after start history).book e
     → (count_by (issues_id e.request.id) history ≡ e.issue_count) × (count_by (issues_id e.request.id) history ≡ count_by (requeues_id e.request.id) history + cond e.issued 1 0)
-law_issues_are_counted start history e starts enabled here =
+law_book_issue_counts_match_history start history e starts enabled here =
     ((counted start history e.request.id starts enabled).here e here refl, (balanced start history e.request.id starts enabled).here e here refl)
 
 -- a step of a run is one of a call's
@@ -311,7 +311,7 @@ law_ok_was_served first past event e r holds h =
     let split : steps_of (event ∷ past) ≡ p.0 ++ Answer e Ok ∷ (p.1 ++ steps_of past) = ap (λ (xs : List Step). xs ++ steps_of past) p.2 ∙ append_assoc p.0 (Answer e Ok ∷ p.1) (steps_of past) in
     let u = step_of_run first (event ∷ past) p.0 (Answer e Ok) (p.1 ++ steps_of past) r split in
     let issued = (law_answers_are_lawful first past event e Ok r h).1 in
-    let counted = (law_issues_are_counted first.machine (p.1 ++ steps_of past) e (run_starts first (event ∷ past) r) u.0 u.1.0).1 in
+    let counted = (law_book_issue_counts_match_history first.machine (p.1 ++ steps_of past) e (run_starts first (event ∷ past) r) u.0 u.1.0).1 in
     let one : ◌≡◌ {A = ℕ} (cond e.issued 1 0) 1 = ap (λ (b : Bool). cond {A = ℕ} b 1 0) issued in
     record {
       late = p.0;

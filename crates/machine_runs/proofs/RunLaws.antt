@@ -13,11 +13,11 @@ use Rattle.ata_types.specs.declared.refusal.Refusal.TheVariants as refused
 use Rattle.ata_types.specs.declared.grant.GrantRow.{GrantRow}
 use Rattle.block_machine.specs.Rules.{IsNamed}
 use Rattle.block_machine.specs.Refusals.{IsAcceptable}
-use Rattle.block_machine.specs.Ports.{Ports, Evidence, MayBecome, SamePorts, PortsWellFormed, IsServiced, IsAfterStuckReset}
+use Rattle.block_machine.specs.Ports.{Ports, Evidence, MayBecome, SamePorts, PortsWellFormed, ChangesOnlyIfStoppedOrStuck, IsAfterStuckReset}
 use Rattle.block_machine.specs.State.{Accepted, Pending, Machine}
 use Rattle.block_machine.specs.Steps.{Step, Issue, Age, Touch, End, WaitAgain, Answer, Release, MayAccept, touch, mark_ended}
 use Rattle.block_machine.specs.Expected.{after}
-use Rattle.block_machine.specs.Events.{AbstractState, AbstractCall, AllEnabled, AreStepsOfCall, EmptyUnlessReady, Submit, StoreAt, LoadAt, Service, Tick, Reset, State, StepDevice, RevokeOf, AbstractCallResult, Submitted, Stored, Loaded, Replied, WasReset, WasRevoked, PortStateShown, Stepped, CallRecord, ResultMatchesSteps, Happens, AnswersAndWaitsLawful, AgesReadyPortsFirstAndOnce, RestartsTimedOut, ReleasesOnceBeforeServerSteps, IssueIsLastOfRequest, IsRun, LastServiceOrResetIsStuckReset, LastServiceOrResetIsStuckResetAfter, accepts_of, is_age, is_release, issues_id, issues_requeues_or_answers_id, abstract_after_all, admission_context_of, abstract_after}
+use Rattle.block_machine.specs.Events.{AbstractState, AbstractCall, AllEnabled, AreStepsOfCall, EmptyUnlessReady, Submit, StoreAt, LoadAt, Service, Tick, Reset, State, StepDevice, RevokeOf, AbstractCallResult, Submitted, Stored, Loaded, Replied, WasReset, WasRevoked, PortStateShown, Stepped, CallRecord, ResultMatchesSteps, Happens, AnswersLawfulAndWaitsOnStoppedPorts, AgesReadyPortsFirstAndOnce, RestartsTimedOut, ReleasesOnceBeforeServerSteps, IssueIsLastOfRequest, IsRun, LastServiceOrResetIsStuckReset, LastServiceOrResetIsStuckResetAfter, accepts_of, is_age, is_release, issues_id, issues_requeues_or_answers_id, abstract_after_all, admission_context_of, abstract_after}
 use Rattle.block_machine.proofs.Members.{contains_none, contains_cases, map_in}
 use Rattle.block_machine.proofs.Keeps.{at_keeps}
 use Rattle.block_machine.specs.Confinement.{IsGranted}
@@ -55,7 +55,7 @@ law_issued_at_most_once_a_call old event id h = (issued_once id event.steps h.is
 -- What a call that was answered may have done to ports and book. `was`: a reset was stuck before it, and is so still.
 data Kind {D : Type 0} (ask : AbstractCall D) (said : AbstractCallResult) (old : AbstractState) (evidence : Evidence) (steps : List Step) (new : AbstractState) (was : Type 0) : Type 0 where
   Leaves : is_tick ask ≡ false → is_reset ask ≡ false → SamePorts old.ports new.ports → (was → LastServiceOrResetIsStuckResetAfter ask said was) → Kind ask said old evidence steps new was
-  Serves : is_tick ask ≡ false → is_reset ask ≡ false → ((port : Port) → EmptyUnlessReady new port × IsServiced old.ports evidence new.ports port) → Kind ask said old evidence steps new was
+  Serves : is_tick ask ≡ false → is_reset ask ≡ false → ((port : Port) → EmptyUnlessReady new port × ChangesOnlyIfStoppedOrStuck old.ports evidence new.ports port) → Kind ask said old evidence steps new was
   Ticks : is_reset ask ≡ false → AgesReadyPortsFirstAndOnce old.ports steps → RestartsTimedOut old evidence steps new → ((port : Port) → old.ports.state port ≡ Ready → EmptyUnlessReady new port)
       → (was → LastServiceOrResetIsStuckResetAfter ask said was) → Kind ask said old evidence steps new was
   Resets : is_tick ask ≡ false → ReleasesOnceBeforeServerSteps steps → ((port : Port) → EmptyUnlessReady new port × MayBecome old.ports evidence new.ports port) → Kind ask said old evidence steps new was
@@ -265,12 +265,12 @@ young {D} ask said old evidence steps new e fit k here t all from = by k
     by (Resets still releases ports) = quiet still
     by (Sticks still ports keep) = quiet still
 
-pub law_ages_are_bounded : {D : Type 0} (first : AbstractState) (run : List (CallRecord D)) (e : Pending) → IsRun first run → Contains (abstract_after_all first run).machine.book e → e.issued ≡ true → e.age ≤ 2
-law_ages_are_bounded first [] e r h t = absurd (nobody first.machine r.0 e (inl h))
-law_ages_are_bounded first (event ∷ past) e r h t = young event.call event.result (abstract_after_all first past) event.evidence event.steps (abstract_after_all first (event ∷ past)) e
+pub law_issued_ages_are_at_most_two : {D : Type 0} (first : AbstractState) (run : List (CallRecord D)) (e : Pending) → IsRun first run → Contains (abstract_after_all first run).machine.book e → e.issued ≡ true → e.age ≤ 2
+law_issued_ages_are_at_most_two first [] e r h t = absurd (nobody first.machine r.0 e (inl h))
+law_issued_ages_are_at_most_two first (event ∷ past) e r h t = young event.call event.result (abstract_after_all first past) event.evidence event.steps (abstract_after_all first (event ∷ past)) e
     (all_fit event.call event.ports event.steps r.1.steps_are_of_call)
     (kind event.call event.result (abstract_after_all first past) event.evidence event.steps (abstract_after_all first (event ∷ past)) (Unit {0}) r.1.result_matches_steps)
-    h t (λ o i u. law_ages_are_bounded first past o r.0 i u) (since (abstract_after_all first past).machine event.steps e h)
+    h t (λ o i u. law_issued_ages_are_at_most_two first past o r.0 i u) (since (abstract_after_all first past).machine event.steps e h)
 
 -- A kept request is on a dead port.
 
@@ -284,7 +284,7 @@ moved_kept ports m step before e x same quiet (inl o) =
     inl (o.0, o.1, o.2 ∙ sym same, omega (arith, none, zero, count_cons is_release step before))
 moved_kept ports m step before e x same quiet (inr dead) = inr (ap (λ (r : Accepted). ports.state r.port) same ∙ dead)
 
-kept_from : (old : AbstractState) (evidence : Evidence) (ports : Ports) (m : Machine) (steps : List Step) → AnswersAndWaitsLawful old evidence ports steps → (e : Pending) → Contains (after m steps).kept e
+kept_from : (old : AbstractState) (evidence : Evidence) (ports : Ports) (m : Machine) (steps : List Step) → AnswersLawfulAndWaitsOnStoppedPorts old evidence ports steps → (e : Pending) → Contains (after m steps).kept e
     → ((o : Pending) × Contains m.kept o × (o.request ≡ e.request) × (count_by is_release steps ≡ 0)) ⊎ (ports.state e.request.port ≡ Dead)
 kept_from old evidence ports m [] l e h = inl (e, h, refl, refl)
 kept_from old evidence ports m (Touch p i block ∷ before) l e h =

@@ -5,8 +5,8 @@ use Rattle.std.proofs.lemmas.Bool.{or_cases, false≢true}
 use Rattle.std.specs.List.{Contains}
 use Rattle.ata_types.specs.declared.request.Outcome.TheVariants.{Ok}
 use Rattle.block_machine.specs.State.{Accepted, Pending, Machine, sector_of, newly_unanswered}
-use Rattle.block_machine.specs.Steps.{Step, Accept, Issue, Touch, End, Age, WaitAgain, Answer, Release, Revoke, Unplug, PlugDisk, Store, Load, IsInBookOrKept, IsEnabled, MayStillMove, after_step, newly_issued, touch, mark_ended, requeued, newly_accepted}
-use Rattle.block_machine.specs.DueRequests.{conflict_by_flush_or_overlap}
+use Rattle.block_machine.specs.Steps.{Step, Accept, Issue, Touch, End, Age, WaitAgain, Answer, Release, Revoke, Unplug, PlugDisk, Store, Load, IsInBookOrKept, IsEnabled, IsIssuedOrKept, after_step, newly_issued, touch, mark_ended, requeued, newly_accepted}
+use Rattle.block_machine.specs.DueRequests.{conflict_on_port_by_flush_or_overlap}
 use Rattle.block_machine.specs.Expected.{after, IsInitial, IsIssue, IsTouch, IsEnd, HasTouchedSinceIssue, HasEndedSinceIssue}
 use Rattle.block_machine.specs.Events.{AbstractState, CallRecord, IsRun, steps_of, AllEnabled}
 use Rattle.block_machine.proofs.Members.{map_in, at_cases, without_in, append_in}
@@ -146,6 +146,6 @@ law_ok_was_ended first run late early e r split =
     (traced_marks first.machine early (run_starts first run r) u.0 e u.1.0).ended u.2.1
 
 -- a request isn't moved while an earlier one that conflicts with it is there
-pub take_turns : (start : Machine) (history : List Step) (earlier later : Pending) → IsInitial start → AllEnabled start history → IsInBookOrKept (after start history) earlier → MayStillMove (after start history) later
-    → earlier.request.id.0 < later.request.id.0 → conflict_by_flush_or_overlap (newly_unanswered earlier.request) (newly_unanswered later.request) ≡ true → ⊥
+pub take_turns : (start : Machine) (history : List Step) (earlier later : Pending) → IsInitial start → AllEnabled start history → IsInBookOrKept (after start history) earlier → IsIssuedOrKept (after start history) later
+    → earlier.request.id.0 < later.request.id.0 → conflict_on_port_by_flush_or_overlap (newly_unanswered earlier.request) (newly_unanswered later.request) ≡ true → ⊥
 take_turns start history earlier later starts enabled living may before conflicts = (traced start history starts enabled).sound.order later earlier may living before conflicts

@@ -35,12 +35,12 @@ never_writes row none Trim may writes = false≢true (sym none.1 ∙ may)
 never_writes row none Flush may writes = false≢true writes
 
 -- so no write or trim touched a sector, and what is left came with the disk
-pub law_expected_is_plugged_if_no_write_or_trim : (start : Machine) (h : List Step) (read : Accepted) (k : ℕ) (block : Block) → IsInitial start → AllEnabled start h
+pub law_expected_is_plugged_if_no_write_trim_grants : (start : Machine) (h : List Step) (read : Accepted) (k : ℕ) (block : Block) → IsInitial start → AllEnabled start h
     → ((row : GrantRow) → Contains start.rows row → GrantsNoWriteOrTrim row)
     → IsExpectedBlock start h read k block → block ≡ bytes_when_plugged start read.port (disk_number_read read k h) h k
-law_expected_is_plugged_if_no_write_or_trim start h read k block s enabled none (inl last) =
+law_expected_is_plugged_if_no_write_trim_grants start h read k block s enabled none (inl last) =
     let writer = last.0 in
     let wrote = last.1 in
     let g = was_granted start h writer (toucher_accepted start h s enabled writer k _ wrote.touched) in
     absurd (never_writes g.row (none g.row g.is_named.0) writer.asked.op g.op_is_allowed wrote.op_changes_sectors)
-law_expected_is_plugged_if_no_write_or_trim start h read k block s enabled none (inr untouched) = untouched.1
+law_expected_is_plugged_if_no_write_trim_grants start h read k block s enabled none (inr untouched) = untouched.1

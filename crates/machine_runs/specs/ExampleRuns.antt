@@ -7,7 +7,7 @@ use Rattle.ata_types.specs.declared.request.Op.TheVariants.{Read, Write, Flush}
 use Rattle.ata_types.specs.declared.request.Outcome.TheVariants.{Ok, DeviceError, Aborted, Unplugged, PortDead}
 use Rattle.block_machine.specs.declared.due.QueueMode.{QueueMode}
 use Rattle.block_machine.specs.State.{DiskBytes, Memory, Accepted, Pending, Machine, block_of, sector_of, unanswered}
-use Rattle.block_machine.specs.DueRequests.{conflict_by_flush_or_overlap}
+use Rattle.block_machine.specs.DueRequests.{conflict_on_port_by_flush_or_overlap}
 use Rattle.block_machine.specs.Steps.{Step, Issue, WaitAgain, Answer, Unplug, PlugDisk, IsEnabled, AllTouched, SameBytes}
 use Rattle.block_machine.specs.Expected.{after, IsInitial, AllStepsFaithful, HoldsExpected, StepIsFaithful}
 use Rattle.durability.specs.Durable.{IsFlushed}
@@ -100,7 +100,7 @@ pub record WaitsItsTurn : Type 0 where
   pub book_has_both : (abstract_after_all initial_state early).machine.book ≡ issued ∷ waiter ∷ []
   pub is_issued : issued.issued ≡ true
   pub is_waiting : waiter.issued ≡ false
-  pub waiter_conflicts : conflict_by_flush_or_overlap (unanswered issued) (unanswered waiter) ≡ true
+  pub waiter_conflicts : conflict_on_port_by_flush_or_overlap (unanswered issued) (unanswered waiter) ≡ true
   pub done : Pending
   pub answers : Contains answering_call.steps (Answer done Ok)
   pub request_is : done.request ≡ issued.request

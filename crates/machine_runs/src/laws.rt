@@ -4,13 +4,13 @@
 
 ghost use Rattle.std.specs.Prelude.{◌≡◌, ◌≢◌, ◌⊎◌, ◌+◌, ◌<◌, ◌≤◌, ◌==◌, ℕ, false, true, List, ◌∷◌, ◌++◌, cond, count_by, Contains};
 ghost use Rattle.ata_types.specs.{declared.Port.{Port}, declared.PortState.TheVariants.{Ready, Dead}, declared.request.Frame.{Frame}, declared.request.RequestId.{RequestId}, declared.request.Op.TheVariants.{Flush}, declared.request.Outcome.{Outcome}, declared.request.Outcome.TheVariants.{Ok, Aborted}, declared.request.Reply.{Reply}, declared.grant.GrantRow.{GrantRow}};
-ghost use Rattle.block_machine.specs.{DueRequests.{conflict_by_flush_or_overlap}, State.{Block, Accepted, Pending, Machine, sector_of, newly_unanswered}, Steps.{Step, Answer, HasGrant, after_step, IsInBookOrKept, MayStillMove}, Expected.{IsInitial, HasTouched, HasTouchedSinceIssue, HasEndedSinceIssue, IsExpectedBlock, after, bytes_when_plugged, disk_number_read}, Confinement.{GrantsNoWriteOrTrim, WasAccepted, MayChangeByte, MayChangeSector}};
+ghost use Rattle.block_machine.specs.{DueRequests.{conflict_on_port_by_flush_or_overlap}, State.{Block, Accepted, Pending, Machine, sector_of, newly_unanswered}, Steps.{Step, Answer, HasGrant, after_step, IsInBookOrKept, IsIssuedOrKept}, Expected.{IsInitial, HasTouched, HasTouchedSinceIssue, HasEndedSinceIssue, IsExpectedBlock, after, bytes_when_plugged, disk_number_read}, Confinement.{GrantsNoWriteOrTrim, WasAccepted, MayChangeByte, MayChangeSector}};
 ghost use Rattle.block_machine.specs.Events.{AbstractState, AllEnabled, CallRecord, NoneDueWhereReady, Happens, EveryReadHoldsExpected, IsLawfulAnswer, IsRun, LastServiceOrResetIsStuckReset, accepts_id, answers_id, issues_id, gives_id, replies_of, all_replies, WasGivenId, abstract_after_all, steps_of};
 ghost use Rattle.machine_runs.specs.{AnswerOrigins.{SubmitsAndIsGivenId, WasUnansweredBefore, CallAnswersOk, WasSubmittedAndGivenId, requeues_id}, RevocationRuns.{RevokesWhileIssued}, ExampleRuns.{FindsFlushedOrLater, WaitsItsTurn, ResetReleasesFrameOfDeadPort, ServiceHandlesTwoFailedPorts, TickAnswersEnded, TickFindsUnplugged, ResetsReissueThenAbort, PortStuckInBootAnswersPortDead, ReadsWrongWithoutKeptRule}};
 
 /// Where no grant lets its client write or trim, what is left on a sector for a read is what the disk that it found
 /// there held when it was put in.
-pub fn law_expected_is_plugged_if_no_write_or_trim()
+pub fn law_expected_is_plugged_if_no_write_trim_grants()
     ensures { (start : Machine) (history : List Step) (read : Accepted) (sector : ℕ) (block : Block)
         → IsInitial start → AllEnabled start history
         → ((row : GrantRow) → Contains start.rows row → GrantsNoWriteOrTrim row)
@@ -163,7 +163,7 @@ pub fn law_ok_was_ended<D>()
 
 /// After every history an unanswered request was issued as often as it says: where it is issued, once more than it was
 /// made to wait again, and else as often.
-pub fn law_issues_are_counted()
+pub fn law_book_issue_counts_match_history()
     ensures { (start : Machine) (history : List Step) (e : Pending) → IsInitial start → AllEnabled start history
         → Contains (after start history).book e
         → (count_by (issues_id e.request.id) history ≡ e.issue_count)
@@ -185,7 +185,7 @@ pub fn law_none_due_where_ready_between_calls<D>()
 
 /// At each moment of a run the age of an issued request is two at most: the tick that would bring it to three restarts
 /// its port.
-pub fn law_ages_are_bounded<D>()
+pub fn law_issued_ages_are_at_most_two<D>()
     ensures { (first : AbstractState) (run : List (CallRecord D)) (e : Pending) → IsRun first run
         → Contains (abstract_after_all first run).machine.book e → e.issued ≡ true → e.age ≤ 2 }
 {}
@@ -233,12 +233,13 @@ pub fn law_sectors_change_by_touch_or_plug()
 /// Of two requests that conflict, the later one may be moved only once the earlier one is neither unanswered nor kept:
 /// so the device writes no sector for a request while an earlier trim of the sector may clear it, and clears none that
 /// a write accepted after the trim has written.
-pub fn law_conflicting_requests_take_turns()
+pub fn law_later_conflicting_waits_for_earlier()
     ensures { (start : Machine) (history : List Step) (earlier later : Pending) → IsInitial start
         → AllEnabled start history
-        → IsInBookOrKept (after start history) earlier → MayStillMove (after start history) later
+        → IsInBookOrKept (after start history) earlier → IsIssuedOrKept (after start history) later
         → earlier.request.id.0 < later.request.id.0
-        → conflict_by_flush_or_overlap (newly_unanswered earlier.request) (newly_unanswered later.request) ≡ true
+        → conflict_on_port_by_flush_or_overlap (newly_unanswered earlier.request) (newly_unanswered later.request)
+        ≡ true
         → ⊥ }
 {}
 

@@ -175,9 +175,9 @@ ended_by_stop stop.Unwritten = Unwritten
 -- What is so where a run stopped at its last line, of whether the adapter is starved and how much of that line's text
 -- was printed: where want of memory is told, nothing was; where an output that failed is told, the adapter isn't
 -- starved.
-abbrev pub StopCauseFitsStarvationAndOutput : Bool → ℕ → PlayError → Type 0
-StopCauseFitsStarvationAndOutput starved part stop.NoMemory = part ≡ 0
-StopCauseFitsStarvationAndOutput starved part stop.Unwritten = starved ≡ false
+abbrev pub NoMemoryPrintsNoneUnwrittenIsNotStarved : Bool → ℕ → PlayError → Type 0
+NoMemoryPrintsNoneUnwrittenIsNotStarved starved part stop.NoMemory = part ≡ 0
+NoMemoryPrintsNoneUnwrittenIsNotStarved starved part stop.Unwritten = starved ≡ false
 
 -- Why nothing is played: the configuration has a fault, or it has none and the script has a bad line, or memory was
 -- refused.

@@ -46,15 +46,15 @@ call_result_text (said.State state) = answer_line (answer.State state)
 call_result_text (said.Stepped done) = answer_line (answer.Stepped done)
 
 -- a flush that has ended has a line, and no other command has
-abbrev pub flush_end_text : Operation → Done → List ℕ
-flush_end_text Flush done = answer_line (answer.Flushed done)
-flush_end_text _ done = []
+abbrev pub line_of_ended_flush_else_empty : Operation → Done → List ℕ
+line_of_ended_flush_else_empty Flush done = answer_line (answer.Flushed done)
+line_of_ended_flush_else_empty _ done = []
 
 -- a move, a clear and the end of a flush have a line; nothing else on a tape has one
 abbrev pub entry_text : Entry → List ℕ
 entry_text (entry.Move moved) = answer_line (answer.Moved (as_reference moved))
 entry_text (entry.Clear cleared) = answer_line (answer.Cleared cleared)
-entry_text (entry.Done done) = flush_end_text done.operation done
+entry_text (entry.Done done) = line_of_ended_flush_else_empty done.operation done
 entry_text (entry.Fault fault) = []
 entry_text (entry.Fatal port) = []
 entry_text (entry.Unplug port) = []

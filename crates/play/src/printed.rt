@@ -1,7 +1,7 @@
 // What is printed of a call.
 ghost use Rattle.std.specs.{Prelude.{◌≡◌, ◌≢◌, ◌≤◌, ℕ, IfErr, OnOk, length, take}, Io.KnownBytes.{Appends}, declared.io.ErrorKind.TheVariants.{Interrupted}, List.{flat_map}};
 ghost use Rattle.block_server.specs.CallResults.{with_replies};
-ghost use Rattle.play.specs.PrintedText.{call_text, flush_end_text, entries_text, replies_text, done_and_replies_text, call_result_text, trace_text};
+ghost use Rattle.play.specs.PrintedText.{call_text, line_of_ended_flush_else_empty, entries_text, replies_text, done_and_replies_text, call_result_text, trace_text};
 ghost use Rattle.script.specs.Answer.{answer_line};
 
 use adapter::{Done, Entry, Operation};
@@ -79,7 +79,8 @@ fn print_said<W: io::Write>(out: &mut W, said: &CallResult<()>, replies: &[Reply
 
 /// Prints a line for a command that has ended, if it was a flush.
 fn print_end<W: io::Write>(out: &mut W, done: Done) -> io::Result<()>
-    ensures { OnOk result (Appends (W.contents out.old) (W.contents out.new) (flush_end_text done.operation done)) }
+    ensures { OnOk result (Appends (W.contents out.old) (W.contents out.new) (line_of_ended_flush_else_empty
+        done.operation done)) }
 {
     match done.operation {
         Operation::Flush => Answer::Flushed(done).print(out),

@@ -6,7 +6,7 @@ ghost use Rattle.block_server.specs.{CallResults.{with_replies}, InitialServer.{
 ghost use Rattle.configuration.specs.{Document.{TextReadsAsValidConfig}, Rules.{LacksEveryFault}};
 ghost use Rattle.script.specs.Script.{IsScript};
 ghost use Rattle.device_model.specs.ModelState.{device_at, is_starved};
-ghost use Rattle.play.specs.PlayedScript.{EndsPlay, IsWhyNothingIsPlayed, IsNewServerOfNewModel, RanWholeScript, StopCauseFitsStarvationAndOutput, PrintsAllOrBeginning, RanFirstLines};
+ghost use Rattle.play.specs.PlayedScript.{EndsPlay, IsWhyNothingIsPlayed, IsNewServerOfNewModel, RanWholeScript, NoMemoryPrintsNoneUnwrittenIsNotStarved, PrintsAllOrBeginning, RanFirstLines};
 
 use crate::model_setup::new_model;
 use crate::printed::{set_call_text, write_out};
@@ -188,7 +188,7 @@ fn play_line<A: TapedAdapter, W: io::Write>(
     ensures printed { (p : PrintsAllOrBeginning A.device A.ended trace shown call.now server.old server.new
         (W.contents out.old) (W.contents out.new))
         × OnOk result (length p.text ≤ p.part)
-        × IfErr result (StopCauseFitsStarvationAndOutput (A.ended server.new.adapter) p.part) }
+        × IfErr result (NoMemoryPrintsNoneUnwrittenIsNotStarved (A.ended server.new.adapter) p.part) }
     ensures fed { OnOk result (A.ended server.new.adapter ≡ false) }
     ensures shown { IfOk result (λ count. count ≡ length (A.device server.new.adapter).tape) }
 {
@@ -231,7 +231,7 @@ fn play_lines<A: TapedAdapter, W: io::Write>(
     ensures { (ran : RanFirstLines A.device A.ended trace script.now server.old server.new (W.contents out.old)
         (W.contents out.new))
         × OnOk result (RanWholeScript ran)
-        × IfErr result (StopCauseFitsStarvationAndOutput (A.ended server.new.adapter) ran.part) }
+        × IfErr result (NoMemoryPrintsNoneUnwrittenIsNotStarved (A.ended server.new.adapter) ran.part) }
 {
     law_lines_are_asked_in_turn();
     if server.adapter().is_exhausted() {
@@ -304,7 +304,7 @@ pub fn play_adapter<A: TapedAdapter + Drop, W: io::Write>(
         × (left ≡ last.adapter)
         × (ran : RanFirstLines A.device A.ended trace script.now server last (W.contents out.old) (W.contents out.new))
         × OnOk result.0 (RanWholeScript ran)
-        × IfErr result.0 (StopCauseFitsStarvationAndOutput (A.ended last.adapter) ran.part))) }
+        × IfErr result.0 (NoMemoryPrintsNoneUnwrittenIsNotStarved (A.ended last.adapter) ran.part))) }
     ensures no_adapter_means_no_memory { result.1 ≡ None → (result.0 ≡ Err PlayError.NoMemory)
         × (W.contents out.new ≡ W.contents out.old) }
 {

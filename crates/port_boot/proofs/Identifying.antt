@@ -25,7 +25,7 @@ use Rattle.refinement.specs.Driver.{AllFree}
 use Rattle.adapter.specs.OneCommand.{SlotHasNoCommand}
 use Rattle.refinement.specs.Slots.{Own, SlotStates, set_slot_state as used, IsMove}
 use Rattle.command_table.specs.TableStores.{IsSlotStateFree}
-use Rattle.disk_page.specs.PageRequests.{IsSlot0CiOrPageMemoryAccess, LeavesPortWhileAsking, BringsLastPage, ReadsPageOrWaitsInVain}
+use Rattle.disk_page.specs.PageRequests.{IsPxciOrSlot0PageMemoryAccess, LeavesPortWhileAsking, BringsLastPage, ReadsPageOrWaitsInVain}
 use Rattle.identify.specs.declared.DiskInfo.{DiskInfo}
 use Rattle.port_control.specs.Engines.{FailsToStop, FailsToStopReceiving, Stops, StopsReceiving, EngineSticks}
 use Rattle.port_control.specs.Ports.{IsCommandRegister, IsCmdOrBaseRegister, RunsInPlaceWithoutCommands, ClearsStAlone, SawDeviceSinceSctlWrite}
@@ -99,7 +99,7 @@ module _ (port : Port) (start old mid : Device) (up : IsBroughtUp port start old
 command_quiet : IsCommandRegister Ci → ⊥
 command_quiet e = absurd (let k : Ci ≡ Cmd = e in cc)
 
-asking : (port : Port) (access : Access) → IsSlot0CiOrPageMemoryAccess port access → IsBootAccess port access
+asking : (port : Port) (access : Access) → IsPxciOrSlot0PageMemoryAccess port access → IsBootAccess port access
 asking port access is = inr is
 
 controlling : (port : Port) (access : Access) → ReadsPortOrWrites IsWrittenInBootButCi port access → IsBootAccess port access
@@ -125,8 +125,8 @@ module _ (laws : Laws) where
   -- ---- kinds of accesses
 
   -- no access changes what the adapter is
-  pub asking_adapter : (port : Port) (old new : Device) → IsDrivenBy (IsSlot0CiOrPageMemoryAccess port) old new → SameAdapter old new
-  asking_adapter port = same_over laws (IsSlot0CiOrPageMemoryAccess port)
+  pub asking_adapter : (port : Port) (old new : Device) → IsDrivenBy (IsPxciOrSlot0PageMemoryAccess port) old new → SameAdapter old new
+  asking_adapter port = same_over laws (IsPxciOrSlot0PageMemoryAccess port)
 
   -- PxIE may be written
   pub enabling : (port : Port) (v : ℕ) (d : Device) → IsOnWithPortMemoryAndFreeSlots port d → IsStable (MayWrite (Px port Ie) v) d
@@ -138,7 +138,7 @@ module _ (laws : Laws) where
       (λ access may. inl (laws.control_of_larger_set CommandRegister BootRegisters port starting access may)) (λ uses is. is) f
 
   module _ (port : Port) (start old mid : Device) (up : IsBroughtUp port start old) (on : IsOn mid) (l : LeavesPortWhileAsking port.0 old mid) where
-    module _ (driven : IsDrivenBy (IsSlot0CiOrPageMemoryAccess port) old mid) where
+    module _ (driven : IsDrivenBy (IsPxciOrSlot0PageMemoryAccess port) old mid) where
       pub asked_there : HasPort mid port.0
       asked_there = there_after (asking_adapter port old mid driven) up.bootable.has_port
 

@@ -19,7 +19,7 @@ use Rattle.refinement.specs.PortFacts.{Undisturbed, ShowsNoTrouble}
 use Rattle.refinement.specs.PreservedParts.{NoPlugEvents, DoesNotWrite}
 use Rattle.refinement.specs.StartedPort.{IsStarted}
 use Rattle.refinement.specs.Fragments.{TapeGrows}
-use Rattle.disk_page.specs.PageRequests.{IsSlot0CiOrPageMemoryAccess, LeavesPortWhileAsking}
+use Rattle.disk_page.specs.PageRequests.{IsPxciOrSlot0PageMemoryAccess, LeavesPortWhileAsking}
 use Rattle.port_control.specs.Engines.{Stops}
 use Rattle.port_control.specs.Ports.{IsCommandRegister, SerrShowsOnlyNewPlugs}
 use Rattle.port_control.specs.declared.PortFault.{PortFault}
@@ -38,7 +38,7 @@ use Rattle.port_boot.proofs.Stretching.{driven_grows, calm_in_parts, comes_in_pa
 use Rattle.std.proofs.lemmas.List.Elements.{All-weaker}
 use Rattle.port_boot.specs.Laws.RegisterSet.{CommandRegister}
 
-asking_spares : (port : Port) (spared : Reg) → Px port Ci ≢ spared → (access : Access) → IsSlot0CiOrPageMemoryAccess port access → DoesNotWrite spared access
+asking_spares : (port : Port) (spared : Reg) → Px port Ci ≢ spared → (access : Access) → IsPxciOrSlot0PageMemoryAccess port access → DoesNotWrite spared access
 asking_spares port spared other (Reading r v) is = tt
 asking_spares port spared other (Writing r v) is = λ e. other (sym is.0 ∙ e)
 asking_spares port spared other (Loading at bytes) is = tt
@@ -99,10 +99,10 @@ handed_on P (Err s) state is h = subst P (sym is) h
 module _ (laws : Laws) where
   -- ---- while the disk is asked for its page
 
-  module _ (port : Port) (start old mid : Device) (up : IsBroughtUp port start old) (driven : IsDrivenBy (IsSlot0CiOrPageMemoryAccess port) old mid) where
+  module _ (port : Port) (start old mid : Device) (up : IsBroughtUp port start old) (driven : IsDrivenBy (IsPxciOrSlot0PageMemoryAccess port) old mid) where
     asked : Lasts port.0 old mid
     asked =
-        let spares = λ (r : Reg) (other : Px port Ci ≢ r). All-weaker (IsSlot0CiOrPageMemoryAccess port) (DoesNotWrite r) (asking_spares port r other) driven.accesses driven.accesses_are_of_kind in
+        let spares = λ (r : Reg) (other : Px port Ci ≢ r). All-weaker (IsPxciOrSlot0PageMemoryAccess port) (DoesNotWrite r) (asking_spares port r other) driven.accesses driven.accesses_are_of_kind in
         lasts laws port driven.accesses old mid up.bootable.adapter_is_on driven.all_are_done (spares Ghc (λ (e : Px port Ci ≡ Ghc). absurd (cc)))
         (spares (Px port Sctl) (λ (e : Px port Ci ≡ Px port Sctl). absurd (cc))) (spares (Px port Cmd) (λ (e : Px port Ci ≡ Px port Cmd). absurd (cc)))
 

@@ -8,7 +8,7 @@ use Rattle.adapter.specs.Access.{Access}
 use Rattle.adapter.specs.Device.{Notes, Device}
 use Rattle.adapter.specs.Device as device
 use Rattle.adapter.specs.declared.command.Operation.TheVariants.{Identify}
-use Rattle.refinement.specs.Fragments.{IsDrivenBy, SparesOtherPorts, OnlyDeviceChangesPort, GainsNoMove}
+use Rattle.refinement.specs.Fragments.{IsDrivenBy, AccessesNoOtherPort, OnlyDeviceChangesPort, GainsNoMove}
 use Rattle.identify.specs.declared.DiskInfo.{DiskInfo}
 use Rattle.port_control.specs.Ports.{IsStopped, RunsInPlaceWithoutCommands, SawDeviceSinceSctlWrite, BacksFault}
 use Rattle.port_control.specs.declared.PortFault.{PortFault}
@@ -88,6 +88,6 @@ boot_driven TapeTells port old new (Unfit n) b = b.is_simulated.is_driven
 module _ (laws : Laws) where
   -- ---- what the accesses of a boot are
 
-  pub of_boot : (port : Port) (access : Access) → IsBootAccess port access → SparesOtherPorts port access
+  pub of_boot : (port : Port) (access : Access) → IsBootAccess port access → AccessesNoOtherPort port access
   of_boot port access (inl control) = laws.control_spares_other_ports BootRegisters port access control
   of_boot port access (inr asking) = laws.asking_spares_other_ports port access asking

@@ -6,7 +6,7 @@ use Rattle.hba_regs.specs.Bits.{bit}
 use Rattle.adapter.specs.Access.{Access}
 use Rattle.adapter.specs.Device.{Device}
 use Rattle.adapter.specs.Rules.{IsOn, HasPort}
-use Rattle.refinement.specs.Fragments.{AnyAccess, TapeGrows, ReadsPortOrWrites, IsDrivenBy, IsSimulated, IsSimulatedChangingUses, SparesOtherPorts, IsSimulatedAlong, IsSimulatedAlongChangingUses}
+use Rattle.refinement.specs.Fragments.{AnyAccess, TapeGrows, ReadsPortOrWrites, IsDrivenBy, IsSimulated, IsSimulatedChangingUses, AccessesNoOtherPort, IsSimulatedAlong, IsSimulatedAlongChangingUses}
 use Rattle.refinement.specs.Errors.{NoDiskComes}
 use Rattle.refinement.specs.PortFacts.{Undisturbed}
 use Rattle.refinement.specs.PreservedParts.{NoPlugEvents, SameAdapter}
@@ -39,7 +39,7 @@ module _ (laws : Laws) where
     driven_grows = laws.accesses_extend_tape old new any
 
   pub stays_on : (set : RegisterSet) (port : Port) (old new : Device) → IsDrivenBy (ReadsPortOrWrites (registers_of set) port) old new → IsOn old → IsOn new
-  stays_on set port old new driven on = laws.accesses_of_port_keep_on port old new on (driven_as (ReadsPortOrWrites (registers_of set) port) (SparesOtherPorts port) old new (laws.control_spares_other_ports set port) driven)
+  stays_on set port old new driven on = laws.accesses_of_port_keep_on port old new on (driven_as (ReadsPortOrWrites (registers_of set) port) (AccessesNoOtherPort port) old new (laws.control_spares_other_ports set port) driven)
 
   -- ---- parts of a stretch
 

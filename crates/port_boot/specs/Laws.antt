@@ -4,7 +4,7 @@ use Rattle.ata_types.specs.declared.Port.{Port}
 use Rattle.adapter.specs.Access.{Access, Does, Writes}
 use Rattle.refinement.specs.Laws.{FragmentLaws, TapeLaws}
 use Rattle.refinement.specs.Driver.{AllFree}
-use Rattle.refinement.specs.Fragments.{AnyAccess, AnySlotStates, NoCommandIsIssuedOrTaken, ReadsPortOrWrites, IsDrivenBy, SparesOtherPorts, GainsNoMove}
+use Rattle.refinement.specs.Fragments.{AnyAccess, AnySlotStates, NoCommandIsIssuedOrTaken, ReadsPortOrWrites, IsDrivenBy, AccessesNoOtherPort, GainsNoMove}
 use Rattle.refinement.specs.Errors.{ErrorBitsRiseByErrors, NoFaults, NoFatalErrors}
 use Rattle.hba_regs.specs.declared.reg.PortReg.TheVariants.{Ci, Cmd, Sctl}
 use Rattle.refinement.specs.StartedPort.{WritesCmdOnlyWithStSet, IsStarted, IsUpForStart}
@@ -19,7 +19,7 @@ use Rattle.port_control.specs.Engines.{FailsToStop, FailsToStopReceiving, Engine
 use Rattle.adapter.specs.OneCommand.{SlotHasNoCommand}
 use Rattle.refinement.specs.Slots.{SlotStates}
 use Rattle.hba_regs.specs.declared.reg.Reg.TheVariants.{Ghc, Px}
-use Rattle.disk_page.specs.PageRequests.{IsSlot0CiOrPageMemoryAccess, LeavesPortWhileAsking}
+use Rattle.disk_page.specs.PageRequests.{IsPxciOrSlot0PageMemoryAccess, LeavesPortWhileAsking}
 use Rattle.port_boot.specs.States.{IsWrittenInBootButCi, IsBootAccess}
 use Rattle.adapter.specs.Rules.{IsOn, MayWrite, IsStable}
 use Rattle.port_control.specs.Ports.{IsCmdOrBaseRegister, IsSctlSerrOrIs, IsCommandRegister}
@@ -70,7 +70,7 @@ pub data AccessPurpose : Type 0 where
 abbrev pub accesses_for : AccessPurpose → Access → Type 0
 accesses_for (Controlling set fitting port) = ReadsPortOrWrites (registers_of set) port
 accesses_for (Booting fitting port) = IsBootAccess port
-accesses_for (Asking port) = IsSlot0CiOrPageMemoryAccess port
+accesses_for (Asking port) = IsPxciOrSlot0PageMemoryAccess port
 
 abbrev pub slot_uses_for : AccessPurpose → SlotStates → Type 0
 slot_uses_for (Controlling set fitting port) = slot_uses_meeting fitting port
@@ -126,14 +126,14 @@ pub record Laws : Type 0 where
   pub undisturbed_has_no_fault : (port : ℕ) (old new : Device) → Undisturbed port old new → NoFaults port old new
   -- fragments
   pub accesses_of_port_keep_on : (port : Port) (old new : Device) → IsOn old
-      → IsDrivenBy (SparesOtherPorts port) old new → IsOn new
+      → IsDrivenBy (AccessesNoOtherPort port) old new → IsOn new
   pub accesses_keep_adapter : (old new : Device) → IsDrivenBy AnyAccess old new → SameAdapter old new
   pub accesses_extend_tape : (old new : Device) → IsDrivenBy AnyAccess old new → (gained : List Entry)
       × (new.tape ≡ old.tape ++ gained)
-  pub accesses_of_port_spare_ghc : (port : Port) (access : Access) → SparesOtherPorts port access
+  pub accesses_of_port_spare_ghc : (port : Port) (access : Access) → AccessesNoOtherPort port access
       → DoesNotWrite Ghc access
-  pub asking_spares_other_ports : (port : Port) (access : Access) → IsSlot0CiOrPageMemoryAccess port access
-      → SparesOtherPorts port access
+  pub asking_spares_other_ports : (port : Port) (access : Access) → IsPxciOrSlot0PageMemoryAccess port access
+      → AccessesNoOtherPort port access
   pub asking_leaves_no_command : (port : ℕ) (old new : Device) → LeavesPortWhileAsking port old new
       → NoCommandIsIssuedOrTaken (old.port port)
       → SlotHasNoCommand (new.port port) 0 → NoCommandIsIssuedOrTaken (new.port port)
@@ -152,7 +152,7 @@ pub record Laws : Type 0 where
   -- this crate's kinds of accesses
   pub control_spares_other_ports : (set : RegisterSet) (port : Port) (access : Access)
       → ReadsPortOrWrites (registers_of set) port access
-      → SparesOtherPorts port access
+      → AccessesNoOtherPort port access
   pub control_spares_other_registers : (set : RegisterSet) (port : Port) (r : PortReg) → (registers_of set r → ⊥)
       → (access : Access)
       → ReadsPortOrWrites (registers_of set) port access → DoesNotWrite (Px port r) access

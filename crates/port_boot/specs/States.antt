@@ -23,7 +23,7 @@ use Rattle.refinement.specs.PortFacts.{RecordsFaultsIfSt, RunsWell, Undisturbed}
 use Rattle.refinement.specs.PreservedParts.{NoPlugEvents}
 use Rattle.refinement.specs.Slots.{Own, set_slot_state, IsMove}
 use Rattle.refinement.specs.StartedPort.{IsUpForStart, IsStoppedAndUpForStartIfDet3, IsStarted}
-use Rattle.disk_page.specs.PageRequests.{IsSlot0CiOrPageMemoryAccess}
+use Rattle.disk_page.specs.PageRequests.{IsPxciOrSlot0PageMemoryAccess}
 use Rattle.identify.specs.IdentityPage.{Describes, IsFitPage, IsFirstUnfit, IsSerial, unfit_number}
 use Rattle.identify.specs.declared.DiskInfo.{DiskInfo}
 use Rattle.identify.specs.declared.Unfit.{Unfit as Fault}
@@ -125,7 +125,8 @@ IsWrittenInBootButCi r = IsCmdOrBaseRegister r ⊎ (IsSctlSerrOrIs r ⊎ (r ≡ 
 
 -- it is one of these writes, a reading of a register of the port, or one of asking for the page
 abbrev pub IsBootAccess : Port → Access → Type 0
-IsBootAccess port access = ReadsPortOrWrites IsWrittenInBootButCi port access ⊎ IsSlot0CiOrPageMemoryAccess port access
+IsBootAccess port access = ReadsPortOrWrites IsWrittenInBootButCi port access ⊎ IsPxciOrSlot0PageMemoryAccess port
+    access
 
 -- What a boot is to each machine that agrees with a driver that uses no slot of the port: steps of the device alone,
 -- after which none is used; and so much is told of its accesses.
@@ -156,7 +157,7 @@ pub record BringsUpPort (port : Port) (old new : Device) : Type 0 where
 -- The disk was asked for its page; and last of all the port was made to tell of the causes of interrupts.
 pub record AsksDiskThenEnables (port : Port) (old new : Device) : Type 0 where
   pub asked : Device
-  pub asks : IsDrivenBy (IsSlot0CiOrPageMemoryAccess port) old asked
+  pub asks : IsDrivenBy (IsPxciOrSlot0PageMemoryAccess port) old asked
   pub enables_interrupts : Writes (Px port Ie) named_causes_mask asked new
 
 -- The whole way to a port that is ready. It runs well where no disk went or came on the way, and nothing went wrong
@@ -213,7 +214,7 @@ pub record ShowsOnlyGainedErrors (port : ℕ) (old new : Device) : Type 0 where
 -- The disk was asked for its page, and then the port was stopped: of registers PxCMD alone was written after it.
 pub record AsksThenStops (port : Port) (old new : Device) : Type 0 where
   pub asked : Device
-  pub asks : IsDrivenBy (IsSlot0CiOrPageMemoryAccess port) old asked
+  pub asks : IsDrivenBy (IsPxciOrSlot0PageMemoryAccess port) old asked
   pub stops : IsDrivenBy (ReadsPortOrWrites IsCommandRegister port) asked new
 
 -- A port that was started, asked, and stopped again: PxSERR tells no disk of before COMRESET; its link isn't due

@@ -3,14 +3,14 @@ ghost use Rattle.std.specs.Prelude.{ℕ, ◌≡◌, ◌≢◌, ◌++◌, true, f
 ghost use Rattle.ata_types.specs.{declared.Port.{Port}, declared.PortState.{PortState}, declared.PortState.TheVariants.{Dead}};
 ghost use Rattle.hba_regs.specs.{declared.reg.PortReg.TheVariants.{Cmd, Sctl}, declared.reg.Reg.TheVariants.{Ghc, Px}};
 ghost use Rattle.adapter.specs.{Access.{Access, Does, DoesAll, is_named_cause, is_ips_set, shown_interrupt}, Device.{Device}, PendingInterrupts.{LeavesIe, KeepsIsBit, SetsCause, interrupting_port}, Rules.{IsOn}, Steps.{Can, DeviceTransition, Steps, device_after}, declared.tape.Entry.{Entry}, declared.command.Operation.TheVariants.{Identify}};
-ghost use Rattle.refinement.specs.{Fragments.{ReadsPortOrWrites, IsDrivenBy, SparesOtherPorts, OnlyDeviceChangesPort, GainsNoMove}, PortFacts.{RunsWell, Undisturbed}, PreservedParts.{DoesNotWrite}};
+ghost use Rattle.refinement.specs.{Fragments.{ReadsPortOrWrites, IsDrivenBy, AccessesNoOtherPort, OnlyDeviceChangesPort, GainsNoMove}, PortFacts.{RunsWell, Undisturbed}, PreservedParts.{DoesNotWrite}};
 ghost use Rattle.identify.specs.declared.DiskInfo.{DiskInfo};
 ghost use Rattle.port_boot.specs.States.{BacksState, BringsReady, HasFitDiskAndInterrupts, HasLastIdentifyPage, IsSimulatedBootTo, IsBootAccess, IsReadyAfterBoot, StaysRunningIfUndisturbed, ShownDiskIsIn, StopsReceivingAndStartedEngine};
 ghost use Rattle.port_control.specs.{Engines.{StopsEachEngine}, Ports.{IsCommandRegister}};
 
 use super::prerequisites::law_prerequisites;
 use adapter::laws::{
-    law_interrupting_tape_events_leave_ips_set, law_set_cause_enabled_in_pxie_sets_ips,
+    law_interrupting_entries_set_ips_until_written, law_set_cause_enabled_in_pxie_sets_ips,
 };
 
 /// What a boot found of a port goes on as long as the port isn't booted anew. The last page is the last one still where
@@ -57,12 +57,12 @@ pub fn law_ready_port_causes_set_ips()
         → Contains gained entry → is_ips_set (new.port port) ≡ true }
 {
     law_set_cause_enabled_in_pxie_sets_ips();
-    law_interrupting_tape_events_leave_ips_set();
+    law_interrupting_entries_set_ips_until_written();
 }
 
 /// A boot touches no register of another port: its accesses are of its port.
 pub fn law_boot_accesses_spare_other_ports()
-    ensures { (port : Port) (access : Access) → IsBootAccess port access → SparesOtherPorts port access }
+    ensures { (port : Port) (access : Access) → IsBootAccess port access → AccessesNoOtherPort port access }
 {
     law_prerequisites();
 }

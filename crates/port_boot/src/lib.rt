@@ -9,7 +9,7 @@ ghost use Rattle.std.specs.Prelude.{Option, ◌≡◌, ◌↔◌, IsTrue, IfOk, 
 ghost use Rattle.adapter.specs.{Access.{named_causes_mask}, Device.{Device}, Rules.{IsOn, HasPort}, AccessBounds.{MakesAtMost}};
 ghost use Rattle.refinement.specs.Fragments.{SomeMachineAgreesWith, AnySlotStates};
 ghost use Rattle.port_control.specs.{Ports.{IsStopped, ClearsStAlone}, Costs.{STOP_ACCESSES}};
-ghost use Rattle.port_boot.specs.{Outcomes.{EndsReady, EndsUnready, FailsToIdentify, BootFailsToBringUp, Identifies, BootBringsUp}, States.{IsStateOfFault, SerialMatches, IsFitAndWanted, IsStateByPage, IsOnWithPortMemoryAndFreeSlots, IsBroughtUp, IsStoppedAsOrStuck}, Costs.{BOOT_ACCESSES, IDENTIFY_ACCESSES, BRING_UP_ACCESSES}};
+ghost use Rattle.port_boot.specs.{Outcomes.{EndsReady, EndsUnready, FailsToIdentify, BootFailsToBringUp, Identifies, BootBringsUp}, States.{IsStateOfFault, SerialMatches, IsFitAndWanted, IsStateByPage, IsOnWithPortMemoryAndFreeSlots, IsBroughtUp, IsStoppedAsOrStuck}, Costs.{BOOT_ACCESSES, IDENTIFY_ACCESSES, RECEIVE_COMRESET_AND_START_ACCESSES}};
 
 use adapter::Adapter;
 use ata_types::{Port, PortState};
@@ -79,7 +79,8 @@ fn bring_up<A: Adapter>(adapter: &mut A, stopped: Stopped) -> Result<Running, Po
     ensures rises { OnOk result (BootBringsUp stopped.port (A.device adapter.old) (A.device adapter.new)) }
     ensures fails { IfErr result (λ state. BootFailsToBringUp stopped.port state (A.device adapter.old)
         (A.device adapter.new)) }
-    ensures cost { MakesAtMost BRING_UP_ACCESSES (A.access_count adapter.old) (A.access_count adapter.new) }
+    ensures cost { MakesAtMost RECEIVE_COMRESET_AND_START_ACCESSES (A.access_count adapter.old) (A.access_count
+        adapter.new) }
 {
     law_prerequisites();
     let Ok(receiving) = receive(adapter, stopped) else {

@@ -13,7 +13,7 @@ use Rattle.adapter.specs.Device.{Notes, DevicePort, Device}
 use Rattle.adapter.specs.KeptBySteps.{PortBitsOnlyFallFreeSlotsStay, KeepsControlsFlagsRise}
 use Rattle.adapter.specs.Rules.{HasPort, MayWrite, IsStable, IsOn}
 use Rattle.adapter.specs.RegisterEffects.{PortRegisterRead, PortRegisterWritten}
-use Rattle.refinement.specs.Fragments.{AnySlotStates, SomeMachineAgrees, ReadsPortOrWrites, IsSimulated, AnyAccess, TapeGrows, IsDrivenBy, SparesOtherPorts}
+use Rattle.refinement.specs.Fragments.{AnySlotStates, SomeMachineAgrees, ReadsPortOrWrites, IsSimulated, AnyAccess, TapeGrows, IsDrivenBy, AccessesNoOtherPort}
 use Rattle.refinement.specs.PreservedParts.{SameAdapter}
 use Rattle.refinement.specs.Slots.{SlotStates}
 use Rattle.port_control.specs.Engines.{AwaitsEngineStop, FailsToStop, FailsToStopReceiving, EngineFalls, ShowsStillRunning, ReadsPortCmd, ShowsEngineStillRunning, EngineSticks}
@@ -153,7 +153,7 @@ module _ (laws : Laws) where
   module _ (set : RegisterSet) (port : Port) (old new : Device) where
     pub stays_on : IsDrivenBy (ReadsPortOrWrites (registers_of set) port) old new → IsOn old → IsOn new
     stays_on driven on = laws.accesses_of_port_keep_on port old new on
-        (record { accesses = driven.accesses; all_are_done = driven.all_are_done; accesses_are_of_kind = All-weaker (ReadsPortOrWrites (registers_of set) port) (SparesOtherPorts port) (laws.control_spares_other_ports set port) driven.accesses driven.accesses_are_of_kind })
+        (record { accesses = driven.accesses; all_are_done = driven.all_are_done; accesses_are_of_kind = All-weaker (ReadsPortOrWrites (registers_of set) port) (AccessesNoOtherPort port) (laws.control_spares_other_ports set port) driven.accesses driven.accesses_are_of_kind })
 
     any : IsDrivenBy (ReadsPortOrWrites (registers_of set) port) old new → IsDrivenBy AnyAccess old new
     any driven = record { accesses = driven.accesses; all_are_done = driven.all_are_done; accesses_are_of_kind = All-weaker (ReadsPortOrWrites (registers_of set) port) AnyAccess (λ access may. tt) driven.accesses driven.accesses_are_of_kind }

@@ -15,7 +15,7 @@ use Rattle.adapter.specs.Rules.{IsOn, MayWrite, IsStable}
 use Rattle.adapter.specs.RegisterEffects.{PortRegisterWritten}
 use Rattle.adapter.specs.Steps.{Steps}
 use Rattle.refinement.specs.Laws.{FragmentLaws, TapeLaws}
-use Rattle.refinement.specs.Fragments.{AnyAccess, AnySlotStates, IsDrivenBy, SparesOtherPorts, SameSlotStates, OnlyDeviceChangesPort}
+use Rattle.refinement.specs.Fragments.{AnyAccess, AnySlotStates, IsDrivenBy, AccessesNoOtherPort, SameSlotStates, OnlyDeviceChangesPort}
 use Rattle.refinement.specs.Errors.{ErrorBitsRiseByErrors, NoFaults, ErrorBitsStayClear}
 use Rattle.refinement.specs.PortFacts.{IsHaltedPlainOrQueued, RecordsFaultsIfSt, RunsWell, ShowsNoTrouble, PxisValueTellsNoTrouble, Undisturbed}
 use Rattle.refinement.specs.PreservedParts.{ControlsChangeOnlyByTheirWrites, LinkIsSameOrComesUp, NoPlugEvents, SameAdapter, DoesNotWrite}
@@ -147,7 +147,7 @@ pub record Laws : Type 0 where
       → NotesChangeOnlyByReadOrSctlWrite access port (old.port port.0).notes (new.port port.0).notes
   -- fragments
   pub other_ports_are_left : (port : Port) (q : ℕ) (old new : Device) → q ≢ port.0 → IsOn old
-      → IsDrivenBy (SparesOtherPorts port) old new
+      → IsDrivenBy (AccessesNoOtherPort port) old new
       → OnlyDeviceChangesPort (old.port q) (new.port q)
   pub accesses_keep_adapter : (old new : Device) → IsDrivenBy AnyAccess old new → SameAdapter old new
   pub fragments : FragmentLaws AccessPurpose accesses_for slot_uses_for

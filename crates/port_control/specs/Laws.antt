@@ -5,7 +5,7 @@ use Rattle.adapter.specs.Access.{Access, Does, DoesAll, PortShows, Reads, Writes
 use Rattle.refinement.specs.Laws.{FragmentLaws, TapeLaws}
 use Rattle.refinement.specs.Relation.{StateRelation}
 use Rattle.refinement.specs.Driver.{AllFree, KeepsOtherCmdBits}
-use Rattle.refinement.specs.Fragments.{AnyAccess, AnySlotStates, ReadsPortOrWrites, IsDrivenBy, SparesOtherPorts}
+use Rattle.refinement.specs.Fragments.{AnyAccess, AnySlotStates, ReadsPortOrWrites, IsDrivenBy, AccessesNoOtherPort}
 use Rattle.refinement.specs.Errors.{NoDiskComes}
 use Rattle.hba_regs.specs.declared.reg.PortReg.TheVariants.{Ci, Clb, Clbu, Cmd, Fb, Fbu, Is, Sact, Sctl, Serr, Ssts, Tfd}
 use Rattle.adapter.specs.Device.{Device, DevicePort}
@@ -214,11 +214,11 @@ pub record Laws : Type 0 where
       → RecordsFaultsIfSt new.tape (new.port port) port
   -- fragments
   pub accesses_of_port_keep_on : (port : Port) (old new : Device) → IsOn old
-      → IsDrivenBy (SparesOtherPorts port) old new → IsOn new
+      → IsDrivenBy (AccessesNoOtherPort port) old new → IsOn new
   pub accesses_keep_adapter : (old new : Device) → IsDrivenBy AnyAccess old new → SameAdapter old new
   pub accesses_extend_tape : (old new : Device) → IsDrivenBy AnyAccess old new → (gained : List Entry)
       × (new.tape ≡ old.tape ++ gained)
-  pub accesses_of_port_spare_ghc : (port : Port) (access : Access) → SparesOtherPorts port access
+  pub accesses_of_port_spare_ghc : (port : Port) (access : Access) → AccessesNoOtherPort port access
       → DoesNotWrite Ghc access
   -- this crate's kinds of accesses
   pub control_reads_or_writes : (set : RegisterSet) (port : Port) (access : Access)
@@ -227,7 +227,7 @@ pub record Laws : Type 0 where
       ⊎ ((r : PortReg) × (v : ℕ) × (access ≡ Writing (Px port r) v) × registers_of set r)
   pub control_spares_other_ports : (set : RegisterSet) (port : Port) (access : Access)
       → ReadsPortOrWrites (registers_of set) port access
-      → SparesOtherPorts port access
+      → AccessesNoOtherPort port access
   pub control_spares_other_registers : (set : RegisterSet) (port : Port) (r : PortReg) → (registers_of set r → ⊥)
       → (access : Access)
       → ReadsPortOrWrites (registers_of set) port access → DoesNotWrite (Px port r) access

@@ -2,7 +2,7 @@
 ghost use Rattle.std.specs.Prelude.{ℕ, ◌++◌, List};
 ghost use Rattle.ata_types.specs.declared.Port.{Port};
 ghost use Rattle.adapter.specs.Access.{Access};
-ghost use Rattle.refinement.specs.{Fragments.{ReadsPortOrWrites, SparesOtherPorts}, PreservedParts.{DoesNotWrite}};
+ghost use Rattle.refinement.specs.{Fragments.{ReadsPortOrWrites, AccessesNoOtherPort}, PreservedParts.{DoesNotWrite}};
 ghost use Rattle.hba_regs.specs.{declared.reg.PortReg.TheVariants.{Sctl}, declared.reg.Reg.TheVariants.{Px}};
 ghost use Rattle.port_control.specs.{Engines.{FailsToStop, FailsToStopReceiving, EngineFalls, EngineSticks}, Ports.{IsCmdOrBaseRegister, IsSctlSerrOrIs, IsCommandRegister}};
 
@@ -28,14 +28,14 @@ pub fn law_engine_evidence_shows_in_longer_traces()
 {}
 
 /// No call touches a register of another port, nor another port's bit of IS: so what is said of such accesses
-/// (`SparesOtherPorts`) is so of each. Those that stop and start, and those that receive FISes, don't write PxSCTL.
+/// (`AccessesNoOtherPort`) is so of each. Those that stop and start, and those that receive FISes, don't write PxSCTL.
 pub fn law_port_control_spares_other_ports()
     ensures cmd_access_is_of_port { (port : Port) (access : Access) → ReadsPortOrWrites IsCommandRegister port access
-        → SparesOtherPorts port access × DoesNotWrite (Px port Sctl) access }
+        → AccessesNoOtherPort port access × DoesNotWrite (Px port Sctl) access }
     ensures placing { (port : Port) (access : Access) → ReadsPortOrWrites IsCmdOrBaseRegister port access
-        → SparesOtherPorts port access × DoesNotWrite (Px port Sctl) access }
+        → AccessesNoOtherPort port access × DoesNotWrite (Px port Sctl) access }
     ensures resetting { (port : Port) (access : Access) → ReadsPortOrWrites IsSctlSerrOrIs port access
-        → SparesOtherPorts port access }
+        → AccessesNoOtherPort port access }
 {
     law_prerequisites();
 }

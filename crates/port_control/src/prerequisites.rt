@@ -6,11 +6,11 @@ use adapter::laws::{
     law_step_lists_keep_what_steps_keep,
 };
 use refinement::access_kinds::{
-    law_fragment_prerequisites, law_port_register_accesses_are_of_port,
+    law_access_kinds_satisfy_fragment_laws, law_port_register_accesses_are_of_port,
 };
 use refinement::fragments::{
     law_other_ports_are_untouched, law_px_writes_but_sctl_pxis_st_keep_notes,
-    law_stopped_engine_keeps_pxis_bits_clear, law_tape_prerequisites,
+    law_stopped_engine_keeps_pxis_bits_clear, law_tapes_satisfy_tape_laws,
 };
 use refinement::giving_up::law_over_slot_is_ended_or_dropped;
 use refinement::laws::{
@@ -19,9 +19,9 @@ use refinement::laws::{
     law_writes_but_ci_stay_permitted,
 };
 use refinement::port_facts::{
-    law_adapter_stays_the_same_and_switched_on, law_cr_read_clear_means_engine_stopped,
-    law_drq_is_shown_while_link_awaited, law_hr_read_clear_means_ports_are_quiescent,
-    law_link_with_det_3_is_up_for_start, law_noted_reads_change_only_by_read_or_sctl,
+    law_adapter_stays_same_and_on_until_ghc_write, law_cr_read_clear_means_engine_stopped,
+    law_det_3_means_up_for_start_if_no_disk_came, law_drq_is_shown_while_link_awaited,
+    law_hr_read_clear_means_ports_are_quiescent, law_noted_reads_change_only_by_read_or_sctl,
     law_port_controls_stay_until_written, law_port_register_read_is_noted_as_last,
     law_started_port_without_trouble_runs_well, law_stopped_engine_stays,
     law_tape_and_tfd_keep_faults_since_st, law_tfes_and_drq_clear_mean_clean_to_start,
@@ -37,13 +37,13 @@ pub fn law_prerequisites()
     law_accesses_compose();
     law_port_access_is_steps_then_port_effect();
     law_step_lists_keep_what_steps_keep();
-    law_adapter_stays_the_same_and_switched_on();
+    law_adapter_stays_same_and_on_until_ghc_write();
     law_writes_set_port_controls();
     law_port_controls_stay_until_written();
     law_writing_ones_clears_pxis_and_serr();
     law_tape_and_tfd_keep_faults_since_st();
     law_stopped_engine_stays();
-    law_link_with_det_3_is_up_for_start();
+    law_det_3_means_up_for_start_if_no_disk_came();
     law_drq_is_shown_while_link_awaited();
     law_port_register_read_is_noted_as_last();
     law_noted_reads_change_only_by_read_or_sctl();
@@ -52,7 +52,7 @@ pub fn law_prerequisites()
     law_started_port_without_trouble_runs_well();
     law_cr_read_clear_means_engine_stopped();
     law_over_slot_is_ended_or_dropped();
-    law_fragment_prerequisites::<Brand>();
+    law_access_kinds_satisfy_fragment_laws::<Brand>();
     law_port_register_accesses_are_of_port::<Brand>();
     law_armed_slot_may_be_freed_once_st_clear();
     law_clear_sact_bits_stay();
@@ -63,6 +63,6 @@ pub fn law_prerequisites()
     law_port_runs_on_without_fatal_or_plug();
     law_stopped_engine_keeps_pxis_bits_clear();
     law_other_ports_are_untouched();
-    law_tape_prerequisites();
+    law_tapes_satisfy_tape_laws();
     law_px_writes_but_sctl_pxis_st_keep_notes();
 }

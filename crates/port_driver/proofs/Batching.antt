@@ -12,7 +12,7 @@ use Rattle.ata_types.specs.declared.request.Op.{Op}
 use Rattle.ata_types.specs.declared.request.Op.TheVariants.{Read, Write, Trim, Flush}
 use Rattle.adapter.specs.Device.{Device}
 use Rattle.adapter.specs.AccessBounds.{MakesAtMost}
-use Rattle.block_machine.specs.DueRequests.{AreAllDueInOrder, IsDue, due_of, is_plain, with_issued}
+use Rattle.block_machine.specs.DueRequests.{AreDueInTurnAndLeaveNoneDue, IsDue, due_of, is_plain, with_issued}
 use Rattle.block_machine.specs.declared.due.QueueMode.{QueueMode}
 use Rattle.block_machine.specs.declared.due.Unanswered.{Unanswered}
 use Rattle.commands.specs.Costs.{ISSUE_ACCESSES}
@@ -138,7 +138,7 @@ Together = (s mid : ServerState) (port : Port) (ids : List RequestId) (tasks : L
 -- the first of several is queued, since the second is due once it was issued
 pub first_queued : (x : Preparing) (s : ServerState) (l : HasPortToIssue s x.start x.first_book x.first_slots x.port x.mode x.found) (slot : ℕ) → slot < 32 → IsLowestFree x.slots slot
     → ((entries : List BookEntry) (id : RequestId) → unanswered_of (map (update_if_id id issued_request) entries) ≡ with_issued id (unanswered_of entries)) → MorePut → Together
-    → (items : List RequestId) (place : ℕ) (d : RequestId) → place + 1 < length items → x.id ≡ get_or items place d → AreAllDueInOrder x.mode x.port (drop place items) (unanswered_of x.book)
+    → (items : List RequestId) (place : ℕ) (d : RequestId) → place + 1 < length items → x.id ≡ get_or items place d → AreDueInTurnAndLeaveNoneDue x.mode x.port (drop place items) (unanswered_of x.book)
     → is_plain x.mode x.turn.0.request.op ≡ false
 first_queued x s l slot small lowest issues more together items place d low id_is turns = by (is_plain x.mode x.turn.0.request.op) refl
   where
@@ -157,11 +157,11 @@ first_queued x s l slot small lowest issues more together items place d low id_i
     both : PutsInSlots x.port (x.ids ++ x.id ∷ []) (x.tasks ++ task ∷ []) s then
     both = more s (mid x s l) then x.port x.ids x.tasks x.id task (x.puts s l) (puts_it x s l slot small lowest later refl used refl)
 
-    rest : AreAllDueInOrder x.mode x.port (get_or items place d ∷ drop (place + 1) items) (unanswered_of x.book)
-    rest = subst (λ (ids : List RequestId). AreAllDueInOrder x.mode x.port ids (unanswered_of x.book)) (sending.next_there items place d (omega (arith, low))) turns
+    rest : AreDueInTurnAndLeaveNoneDue x.mode x.port (get_or items place d ∷ drop (place + 1) items) (unanswered_of x.book)
+    rest = subst (λ (ids : List RequestId). AreDueInTurnAndLeaveNoneDue x.mode x.port ids (unanswered_of x.book)) (sending.next_there items place d (omega (arith, low))) turns
 
-    due_then : AreAllDueInOrder x.mode x.port (drop (place + 1) items) (unanswered_of later)
-    due_then = subst (λ (us : List Unanswered). AreAllDueInOrder x.mode x.port (drop (place + 1) items) us)
+    due_then : AreDueInTurnAndLeaveNoneDue x.mode x.port (drop (place + 1) items) (unanswered_of later)
+    due_then = subst (λ (us : List Unanswered). AreDueInTurnAndLeaveNoneDue x.mode x.port (drop (place + 1) items) us)
         (sym (issues x.book x.id ∙ ap (λ (i : RequestId). with_issued i (unanswered_of x.book)) id_is)) rest.1
 
     second : sending.IsTurn later x.port x.mode (get_or items (place + 1) d)

@@ -21,7 +21,7 @@ use Rattle.port_control.specs.PortEvents.{IsPxisSstsOrOwnIsAccess, TakesEvent}
 use Rattle.port_control.specs.declared.events.PortEvent.TheVariants.{TaskFileError}
 use Rattle.request_queue.specs.BookEntries.{BookEntry}
 use Rattle.request_queue.specs.declared.disposition.FailedRequest.{FailedRequest}
-use Rattle.server_history.specs.ErrorHandling.{AreAllQueuedAs, IsFailedRequest, ErrorIsFound, ErrorHandlingIsBacked}
+use Rattle.server_history.specs.ErrorHandling.{AreAllQueuedAs, IsFailedRequest, LookTellsErrorUnlessTimedOut, ErrorHandlingIsBacked}
 use Rattle.server_history.specs.IssuingAndAnswering.{IsMaskOf, is_used}
 use Rattle.server_history.specs.ServerState.{ServerState, InCallInvariant, slots_at, state_of, used_for}
 use Rattle.port_control.specs.declared.events.PortError.{PortError}
@@ -126,7 +126,7 @@ module _ (x : Troubled) where
     }
 
     pub may : x.port_error ≡ TaskFileError → PortMayRecover x.port.0 f.found
-    may fails = x.laws.may x.s x.device f.found x.port f.mask f.done x.lends.sees_port_error.in_call_invariant x.lends.sees_port_error.ready (subst (λ (its : PortError). ErrorIsFound x.port its x.s.device x.device) fails x.lends.sees_port_error.error_is_found) x.lends.sees_port_error.is_simulated f.reads
+    may fails = x.laws.may x.s x.device f.found x.port f.mask f.done x.lends.sees_port_error.in_call_invariant x.lends.sees_port_error.ready (subst (λ (its : PortError). LookTellsErrorUnlessTimedOut x.port its x.s.device x.device) fails x.lends.sees_port_error.error_is_found) x.lends.sees_port_error.is_simulated f.reads
 
     module _ (a : Answered x f) where
       pub mid_kept : InCallInvariant (mid x f a)

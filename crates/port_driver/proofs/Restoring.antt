@@ -33,7 +33,7 @@ use Rattle.request_queue.specs.BookEntries.{BookEntry, is_of_port}
 use Rattle.request_queue.specs.Dispositions.{BookAndLoans, AreResolved, disposition_of}
 use Rattle.request_queue.specs.declared.disposition.FailedRequest.{FailedRequest}
 use Rattle.request_queue.specs.declared.disposition.Revalidation.{Revalidation}
-use Rattle.server_history.specs.ErrorHandling.{BootsAfter, IsFailedRequest, IsFoundAfterError, IsRevalidation, IsErrorHandled, HasResolved, HandlesPortError, requests_of, with_port_resolved}
+use Rattle.server_history.specs.ErrorHandling.{RebootsAfterErrorOrFindsAbsent, IsFailedRequest, IsFoundAfterError, IsRevalidation, IsErrorHandled, HasResolved, HandlesPortError, requests_of, with_port_resolved}
 use Rattle.server_history.specs.IssuingAndAnswering.{IssuesDueOfPort, done_reply}
 use Rattle.server_history.specs.ServerState.{ServerState, InCallInvariant, InvariantWithNoneDue, quarantined_at, mode_at, probed_mode, mode_in, no_slots, plain_mode, slots_at, state_of}
 use Rattle.server_history.specs.Turns.{IsPortTurn, InRestart, ServicesPort}
@@ -61,14 +61,14 @@ pub record RestoringLaws : Type 0 where
       → r.has_resolved.error_handled.port_error ≡ TimedOut → IsPortTurn InRestart port replies s new × InvariantWithNoneDue new
 
 -- a port whose disk wasn't lost is booted anew, whatever shows
-pub boots_other : (port_error : PortError) (wanted : Wanted) (port : Port) (booted : Booted) (old new : Device) → port_error ≢ LinkChanged → RebootsPort wanted port booted old new → BootsAfter port_error wanted port booted old new
+pub boots_other : (port_error : PortError) (wanted : Wanted) (port : Port) (booted : Booted) (old new : Device) → port_error ≢ LinkChanged → RebootsPort wanted port booted old new → RebootsAfterErrorOrFindsAbsent port_error wanted port booted old new
 boots_other LinkChanged wanted port booted old new other boots = absurd (other refl)
 boots_other FatalError wanted port booted old new other boots = boots
 boots_other TaskFileError wanted port booted old new other boots = boots
 boots_other TimedOut wanted port booted old new other boots = boots
 
 -- it is booted, or absent
-pub boots_or_absent : (port_error : PortError) (wanted : Wanted) (port : Port) (booted : Booted) (old new : Device) → BootsAfter port_error wanted port booted old new → RebootsPort wanted port booted old new ⊎ (booted.found ≡ Unready Absent)
+pub boots_or_absent : (port_error : PortError) (wanted : Wanted) (port : Port) (booted : Booted) (old new : Device) → RebootsAfterErrorOrFindsAbsent port_error wanted port booted old new → RebootsPort wanted port booted old new ⊎ (booted.found ≡ Unready Absent)
 boots_or_absent LinkChanged wanted port booted old new b = ⊎_elim (λ boots. inl boots.0) (λ absent. inr absent.0) b
 boots_or_absent FatalError wanted port booted old new b = inl b
 boots_or_absent TaskFileError wanted port booted old new b = inl b

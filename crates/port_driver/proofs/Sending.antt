@@ -10,7 +10,7 @@ use Rattle.ata_types.specs.declared.request.Op.{Op}
 use Rattle.ata_types.specs.declared.request.Op.TheVariants.{Read, Write, Trim, Flush}
 use Rattle.ata_types.specs.declared.request.RequestId.{RequestId}
 use Rattle.adapter.specs.Device.{Device}
-use Rattle.block_machine.specs.DueRequests.{AreAllDueInOrder, IsDue, is_plain}
+use Rattle.block_machine.specs.DueRequests.{AreDueInTurnAndLeaveNoneDue, IsDue, is_plain}
 use Rattle.block_machine.specs.Rules.{IsAllowedCount, frame_count_for}
 use Rattle.block_machine.specs.declared.due.QueueMode.{QueueMode}
 use Rattle.block_machine.specs.declared.due.Unanswered.{Unanswered}
@@ -248,9 +248,9 @@ pub next_there : (ids : List RequestId) (place : ℕ) (d : RequestId) → place 
 next_there ids place d low = drop_more ids place d low
 
 -- the next one is due
-pub next_due : (book : List BookEntry) (port : Port) (mode : QueueMode) (ids : List RequestId) (place : ℕ) (d : RequestId) → place < length ids → AreAllDueInOrder mode port (drop place ids) (unanswered_of book) → IsTurn book port mode (get_or ids place d)
+pub next_due : (book : List BookEntry) (port : Port) (mode : QueueMode) (ids : List RequestId) (place : ℕ) (d : RequestId) → place < length ids → AreDueInTurnAndLeaveNoneDue mode port (drop place ids) (unanswered_of book) → IsTurn book port mode (get_or ids place d)
 next_due book port mode ids place d low turns =
-    let t : AreAllDueInOrder mode port (get_or ids place d ∷ drop (place + 1) ids) (unanswered_of book) = subst (λ (xs : List RequestId). AreAllDueInOrder mode port xs (unanswered_of book)) (next_there ids place d low) turns in
+    let t : AreDueInTurnAndLeaveNoneDue mode port (get_or ids place d ∷ drop (place + 1) ids) (unanswered_of book) = subst (λ (xs : List RequestId). AreDueInTurnAndLeaveNoneDue mode port xs (unanswered_of book)) (next_there ids place d low) turns in
     let r = t.0 in
     let x = asked_of book r.0 r.3.is_in_book in
     (x.0, x.1, ap (λ (u : Unanswered). u.id) (sym x.2) ∙ r.1, ap (λ (u : Unanswered). u.port) (sym x.2) ∙ r.2, subst (IsDue mode (unanswered_of book)) x.2 r.3)

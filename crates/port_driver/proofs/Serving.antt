@@ -11,7 +11,7 @@ use Rattle.adapter.specs.Device.{Device}
 use Rattle.port_control.specs.PortEvents.{TakesEvent}
 use Rattle.port_control.specs.declared.events.PortEvent.{PortEvent}
 use Rattle.port_control.specs.declared.events.PortEvent.TheVariants as look
-use Rattle.server_history.specs.ErrorHandling.{ErrorIsFound}
+use Rattle.server_history.specs.ErrorHandling.{LookTellsErrorUnlessTimedOut}
 use Rattle.server_history.specs.IssuingAndAnswering.{IsEmptyMask, IsMaskOf, is_used}
 use Rattle.port_control.specs.declared.events.PortError.{PortError}
 use Rattle.port_control.specs.declared.events.PortError.TheVariants.{FatalError, TaskFileError, TimedOut, LinkChanged}
@@ -21,13 +21,13 @@ use Rattle.port_driver.specs.Recovery.{error_of}
 
 -- what a look tells is found out by it, and isn't that a request is hung
 pub found_out : (told : PortEvent) (port_error : PortError) (port : Port) (old seen : Device) → error_of told ≡ Some port_error → TakesEvent port told old seen
-    → ErrorIsFound port port_error old seen × (port_error ≢ TimedOut)
+    → LookTellsErrorUnlessTimedOut port port_error old seen × (port_error ≢ TimedOut)
 found_out look.TaskFileError port_error port old seen is looks =
-    subst (λ (its : PortError). ErrorIsFound port its old seen × (its ≢ TimedOut)) (same_Some TaskFileError port_error is) (looks, λ hung. let z : TaskFileError ≡ TimedOut = hung in cc)
+    subst (λ (its : PortError). LookTellsErrorUnlessTimedOut port its old seen × (its ≢ TimedOut)) (same_Some TaskFileError port_error is) (looks, λ hung. let z : TaskFileError ≡ TimedOut = hung in cc)
 found_out look.FatalError port_error port old seen is looks =
-    subst (λ (its : PortError). ErrorIsFound port its old seen × (its ≢ TimedOut)) (same_Some FatalError port_error is) (looks, λ hung. let z : FatalError ≡ TimedOut = hung in cc)
+    subst (λ (its : PortError). LookTellsErrorUnlessTimedOut port its old seen × (its ≢ TimedOut)) (same_Some FatalError port_error is) (looks, λ hung. let z : FatalError ≡ TimedOut = hung in cc)
 found_out look.LinkChanged port_error port old seen is looks =
-    subst (λ (its : PortError). ErrorIsFound port its old seen × (its ≢ TimedOut)) (same_Some LinkChanged port_error is) (looks, λ hung. let z : LinkChanged ≡ TimedOut = hung in cc)
+    subst (λ (its : PortError). LookTellsErrorUnlessTimedOut port its old seen × (its ≢ TimedOut)) (same_Some LinkChanged port_error is) (looks, λ hung. let z : LinkChanged ≡ TimedOut = hung in cc)
 found_out look.NoEvent port_error port old seen is looks = let z : None ≡ Some port_error = is in absurd cc
 
 -- a look that tells no trouble tells that there is none

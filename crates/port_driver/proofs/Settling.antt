@@ -14,7 +14,7 @@ use Rattle.dma_frames.specs.FrameTables.{OwnersAndLoans, SetsLoanOnly}
 use Rattle.ata_types.specs.declared.request.RequestId.{RequestId}
 use Rattle.std.specs.List.{All, AllPairs, Contains}
 use Rattle.port_driver.proofs.Finishing as finishing
-use Rattle.request_queue.specs.BookEntries.{IssuesAreWithinLimit, BookEntry, IsWellFormedEntry, IsEarlier, BookIsWellFormed, update_if_id, ids_where, waiting_again_request, without_entry}
+use Rattle.request_queue.specs.BookEntries.{IssuesAreWithinLimit, BookEntry, IsWellFormedEntry, IsEarlier, BookIsWellFormed, update_if_id, ids_where, request_with_issued_cleared, without_entry}
 use Rattle.request_queue.specs.Dispositions.{KeepsOrEndsLoan, BookAndLoans, AreResolved, IsResolved, disposition_of, disposition_of_unfailed, keeps_loan, reply_to}
 use Rattle.request_queue.specs.declared.PendingRequest.{PendingRequest}
 use Rattle.request_queue.specs.declared.disposition.Disposition.{Disposition}
@@ -79,9 +79,9 @@ pub places_left : (request : BookEntry) (rest : List BookEntry) (kept : List Len
 places_left request rest kept places = let c = issued_cons request rest in omega (arith, places, c)
 
 -- the request waits again
-pub again : (named id : RequestId) (book later : List BookEntry) (table : OwnersAndLoans) (kept : List Lending) → id ≡ named → later ≡ map (update_if_id named waiting_again_request) book
-    → book_and_loans later table kept ≡ record (book_and_loans book table kept) { book = map (update_if_id id waiting_again_request) book }
-again named id book later table kept same is = λ i. book_and_loans ((is ∙ ap (λ (x : RequestId). map (update_if_id x waiting_again_request) book) (sym same)) i) table kept
+pub again : (named id : RequestId) (book later : List BookEntry) (table : OwnersAndLoans) (kept : List Lending) → id ≡ named → later ≡ map (update_if_id named request_with_issued_cleared) book
+    → book_and_loans later table kept ≡ record (book_and_loans book table kept) { book = map (update_if_id id request_with_issued_cleared) book }
+again named id book later table kept same is = λ i. book_and_loans ((is ∙ ap (λ (x : RequestId). map (update_if_id x request_with_issued_cleared) book) (sym same)) i) table kept
 
 -- a book is shorter once one has left it
 pub shorter : (id : RequestId) (book later : List BookEntry) (taken : BookEntry) → Contains book taken → taken.request.id ≡ id → later ≡ without_entry id book → length later < length book

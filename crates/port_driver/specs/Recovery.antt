@@ -13,7 +13,7 @@ use Rattle.port_control.specs.declared.events.PortEvent.{PortEvent}
 use Rattle.port_control.specs.declared.events.PortEvent.TheVariants as look
 use Rattle.request_queue.specs.BookEntries.{BookEntry}
 use Rattle.request_queue.specs.declared.disposition.FailedRequest.{FailedRequest}
-use Rattle.server_history.specs.ErrorHandling.{IsFailedRequest, ErrorIsFound, IsErrorHandled, HandlesPortError}
+use Rattle.server_history.specs.ErrorHandling.{IsFailedRequest, LookTellsErrorUnlessTimedOut, IsErrorHandled, HandlesPortError}
 use Rattle.server_history.specs.IssuingAndAnswering.{done_reply}
 use Rattle.server_history.specs.ServerState.{ServerState, InCallInvariant, state_of}
 use Rattle.port_control.specs.declared.events.PortError.{PortError}
@@ -36,7 +36,7 @@ error_of look.NoEvent = None
 pub record SeesPortError (s : ServerState) (port : Port) (port_error : PortError) (device : Device) : Type 0 where
   pub in_call_invariant : InCallInvariant s
   pub ready : state_of (probe_result_of s.probe_results port.0) ≡ Ready
-  pub error_is_found : ErrorIsFound port port_error s.device device
+  pub error_is_found : LookTellsErrorUnlessTimedOut port port_error s.device device
   pub is_simulated : IsSimulated (IsPxisSstsOrOwnIsAccess port) AnySlotStates s.device device
 
 -- No request of the server was due when this error of its port was found out, and it has these loans and requests; its

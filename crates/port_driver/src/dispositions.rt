@@ -99,7 +99,7 @@ impl Shared {
     /// so, and its frames are given back. The replies come after those that there are. A function of its own, since
     /// its caller's frame would have room for their ids else.
     #[inline(never)]
-    pub fn cancel_waiting_under_grant(
+    pub fn complete_waiting_under_grant_as_revoked(
         &mut self,
         client: ClientId,
         number: u8,

@@ -22,7 +22,7 @@ use request_queue::laws::{
 use request_queue::{Book, DueIds};
 use server_history::laws::{
     law_a_due_request_finds_a_free_slot, law_due_requests_get_slots,
-    law_handled_port_errors_keep_invariant,
+    law_resolved_errors_keep_in_call_invariant,
 };
 
 /// Issues a task in a slot that it may go in: the slot's command then says the task.
@@ -154,7 +154,7 @@ impl ServedPort {
         ensures { IssuesWhatIsDue A.device A.access_count port self.old self.new adapter.old adapter.new
             book.old book.new }
     {
-        law_handled_port_errors_keep_invariant();
+        law_resolved_errors_keep_in_call_invariant();
         if let ProbeResult::Ready(_) = self.probe_result {
             self.issue_due(adapter, book, port);
         }

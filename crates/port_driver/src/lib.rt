@@ -9,8 +9,8 @@
 //! got older before (`Book::tick`). After a reset that ended it gives back what is kept, has the adapter taken over and
 //! the port begin anew, calls `resolve_after_reset`, and then issues what is due (`issue_where_ready`). After one that
 //! got stuck it calls `note_stuck_reset`, and `resolve_after_reset` in the next service. Under a grant that is revoked
-//! `cancel_waiting_under_grant` answers what waits. It must not expect that a request is ever answered, nor that a port
-//! which is ready still has its disk. What may hold loans can't be dropped.
+//! `complete_waiting_under_grant_as_revoked` answers what waits. It must not expect that a request is ever answered,
+//! nor that a port which is ready still has its disk. What may hold loans can't be dropped.
 //!
 //! `issuing` issues what is due, `answering` answers what is done, and `turn` has the turns. `recovery` handles an
 //! error, `probing` probes a port that isn't ready, and `dispositions` resolves requests, as `after_reset` does where

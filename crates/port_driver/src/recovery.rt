@@ -3,7 +3,7 @@
 ghost use Rattle.std.specs.Prelude.{ℕ, ◌≡◌, ◌≤◌, ◌+◌, ◌++◌, IsTrue, ◌↔◌, Some, List, AllPairs, IsPermutation, drop, length, take};
 ghost use Rattle.ata_types.specs.{declared.request.Reply.{Reply}, declared.Port.{Port}};
 ghost use Rattle.port_driver.specs.{Recovery.{AnswersDoneAndHandlesError, IsInError, error_of}, Costs.{booting_accesses, handling_accesses}};
-ghost use Rattle.server_history.specs.{ServerState.{ServerState, probed_mode}, ErrorHandling.{AreAllQueuedAs, BootsAfter, IsFailedRequest, IsFoundAfterError, IsRevalidation, IsDiskOfSameSerialAndSize, ErrorHandlingIsBacked}};
+ghost use Rattle.server_history.specs.{ServerState.{ServerState, probed_mode}, ErrorHandling.{AreAllQueuedAs, RebootsAfterErrorOrFindsAbsent, IsFailedRequest, IsFoundAfterError, IsRevalidation, IsDiskOfSameSerialAndSize, ErrorHandlingIsBacked}};
 ghost use Rattle.adapter.specs.{Rules.{IsOn}, AccessBounds.{MakesAtMost}};
 ghost use Rattle.identify.specs.declared.error_log.FailedSlot.{FailedSlot};
 ghost use Rattle.error_recovery.specs.Recovery.{MayHandleError, PortMayRecover, RecoversOrStops};
@@ -168,7 +168,8 @@ fn boot_after<A: Adapter>(
     requires stopped { IsStopped ((A.device adapter.old).port stopped.port.0) }
     requires saw { ((A.device adapter.old).port stopped.port.0).notes.link_wait_count ≡ MOST_READINGS }
     ensures adapter_is_on { IsOn (A.device adapter.new) }
-    ensures boots { BootsAfter port_error wanted.now stopped.port result (A.device adapter.old) (A.device adapter.new) }
+    ensures boots { RebootsAfterErrorOrFindsAbsent port_error wanted.now stopped.port result (A.device adapter.old)
+        (A.device adapter.new) }
     ensures cost { MakesAtMost (booting_accesses port_error) (A.access_count adapter.old) (A.access_count adapter.new) }
 {
     match port_error {

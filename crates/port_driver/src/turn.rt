@@ -18,9 +18,9 @@ use commands::done;
 use host_boot::ProbeResult;
 use port_control::events::{PortError, take_event};
 use server_history::laws::{
-    law_answer_and_issue_leave_none_due, law_handled_port_errors_keep_invariant,
-    law_handling_look_result_is_a_service_turn, law_handling_timeout_is_a_restart_turn,
-    law_looks_preserve_invariant, law_probe_of_unready_port_is_a_service_turn,
+    law_answer_and_issue_leave_none_due, law_handling_look_result_is_a_service_turn,
+    law_handling_timeout_is_a_restart_turn, law_looks_preserve_invariant,
+    law_probe_of_unready_port_is_a_service_turn, law_resolved_errors_keep_in_call_invariant,
 };
 
 impl ServedPort {
@@ -80,7 +80,7 @@ impl ServedPort {
         ensures cost { MakesAtMost (port_error_accesses port_error)
             (A.access_count adapter.old) (A.access_count adapter.new) }
     {
-        law_handled_port_errors_keep_invariant();
+        law_resolved_errors_keep_in_call_invariant();
         law_handling_look_result_is_a_service_turn();
         law_handling_timeout_is_a_restart_turn();
         let ProbeResult::Ready(was) = self.probe_result else {

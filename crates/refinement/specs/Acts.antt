@@ -41,26 +41,26 @@ AccessIsDoneOrDeviceIsSame (Some access) old new = Does access old new
 
 -- What the driver decides by an access is one step at most; or, by a write of PxCI, issues of requests of its port:
 -- each bit that is written as one issues a command (AHCI 1.3.1, 3.3.14).
-abbrev pub IsAtMostOneStepOrIssuesOfPort : Access → List Step → Type 0
-IsAtMostOneStepOrIssuesOfPort access [] = Unit {0}
-IsAtMostOneStepOrIssuesOfPort access (step ∷ []) = Unit {0}
-IsAtMostOneStepOrIssuesOfPort (Writing (Px port Ci) v) own = All (IsIssueStepOn port) own
-IsAtMostOneStepOrIssuesOfPort access own = ⊥
+abbrev pub IsAtMostOneStepOrIssuesByPxciWrite : Access → List Step → Type 0
+IsAtMostOneStepOrIssuesByPxciWrite access [] = Unit {0}
+IsAtMostOneStepOrIssuesByPxciWrite access (step ∷ []) = Unit {0}
+IsAtMostOneStepOrIssuesByPxciWrite (Writing (Px port Ci) v) own = All (IsIssueStepOn port) own
+IsAtMostOneStepOrIssuesByPxciWrite access own = ⊥
 
 -- Over an access these are the device's steps, and after them what the driver decides by it; without one, a step of
 -- the driver's own, or none.
-abbrev pub AreDeviceStepsThenDriverDecision : Option Access → List Step → Type 0
-AreDeviceStepsThenDriverDecision None steps = (steps ≡ []) ⊎ ((step : Step) × (IsByDevice step → ⊥)
+abbrev pub AreDeviceStepsThenDriverSteps : Option Access → List Step → Type 0
+AreDeviceStepsThenDriverSteps None steps = (steps ≡ []) ⊎ ((step : Step) × (IsByDevice step → ⊥)
     × (steps ≡ step ∷ []))
-AreDeviceStepsThenDriverDecision (Some access) steps = AllByDevice steps
+AreDeviceStepsThenDriverSteps (Some access) steps = AllByDevice steps
     ⊎ ((own before : List Step) × (steps ≡ own ++ before)
-    × IsAtMostOneStepOrIssuesOfPort access own × AllByDevice before)
+    × IsAtMostOneStepOrIssuesByPxciWrite access own × AllByDevice before)
 
 -- The act is done, from a machine that agrees with what the driver knew: its steps lead to one that agrees with what it
 -- knows then.
 pub record IsActDone (k : DriverState) (m : Machine) (act : Act) : Type 0 where
   pub access_is_done_or_device_is_same : AccessIsDoneOrDeviceIsSame act.access k.device act.state_after.device
-  pub are_device_steps_then_decision : AreDeviceStepsThenDriverDecision act.access act.steps
+  pub are_device_steps_then_decision : AreDeviceStepsThenDriverSteps act.access act.steps
   pub driver_advances : DriverAdvances k m act.steps act.state_after
 
 -- one act after another, from the one machine to the next

@@ -172,7 +172,8 @@ pub record IsOwnCommandPreparedInSlot0 (uses : SlotStates) (d : Device) (port : 
 
 -- What an access adds that ends with steps of the driver's own: steps of the device first, and then these, the last one
 -- first, after which the machine agrees with what the driver knows then.
-pub record EndsInSteps (k : DriverState) (m : Machine) (own : List Step) (later : DriverState) : Type 0 where
+pub record EndsInOwnStepsAfterDeviceSteps (k : DriverState) (m : Machine) (own : List Step)
+    (later : DriverState) : Type 0 where
   pub steps : List Step
   pub all_steps_are_by_device : AllByDevice steps
   pub steps_are_enabled : AllEnabled m (own ++ steps)
@@ -181,7 +182,7 @@ pub record EndsInSteps (k : DriverState) (m : Machine) (own : List Step) (later 
 
 -- the same, where it ends with one step
 abbrev pub EndsInOneStep : DriverState → Machine → Step → DriverState → Type 0
-EndsInOneStep k m step later = EndsInSteps k m (step ∷ []) later
+EndsInOneStep k m step later = EndsInOwnStepsAfterDeviceSteps k m (step ∷ []) later
 
 -- the driver knows that the slot serves the request
 abbrev pub with_slot_serving : DriverState → ℕ → ℕ → RequestId → Device → DriverState

@@ -70,12 +70,12 @@ pub record IsSoleBit (place v : ℕ) : Type 0 where
 
 -- It reads or writes a register of the port, writes IS with the port's bit alone, reads a register of the adapter's
 -- own, or loads or stores bytes: it touches no register of another port, nor another port's bit of IS.
-abbrev pub SparesOtherPorts : Port → Access → Type 0
-SparesOtherPorts port (Reading (Px at r) v) = at ≡ port
-SparesOtherPorts port (Writing (Px at r) v) = at ≡ port
-SparesOtherPorts port (Writing Is v) = IsSoleBit port.0 v
-SparesOtherPorts port (Writing r v) = ⊥
-SparesOtherPorts port access = Unit {0}
+abbrev pub AccessesNoOtherPort : Port → Access → Type 0
+AccessesNoOtherPort port (Reading (Px at r) v) = at ≡ port
+AccessesNoOtherPort port (Writing (Px at r) v) = at ≡ port
+AccessesNoOtherPort port (Writing Is v) = IsSoleBit port.0 v
+AccessesNoOtherPort port (Writing r v) = ⊥
+AccessesNoOtherPort port access = Unit {0}
 
 -- no access of this kind writes the register
 abbrev pub NoneWrites : (Access → Type 0) → Reg → Type 0

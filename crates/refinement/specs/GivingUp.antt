@@ -5,7 +5,7 @@ use Rattle.adapter.specs.Device.{DevicePort}
 use Rattle.adapter.specs.Memory.{changed}
 use Rattle.adapter.specs.declared.command.Operation.{Operation}
 use Rattle.block_machine.specs.State.{Pending, Machine}
-use Rattle.block_machine.specs.Steps.{MayStillMove}
+use Rattle.block_machine.specs.Steps.{IsIssuedOrKept}
 use Rattle.refinement.specs.Acts.{DriverSlots}
 use Rattle.refinement.specs.Driver.{DriverState}
 use Rattle.adapter.specs.OneCommand.{SlotHasNoCommand}
@@ -46,7 +46,7 @@ slots_with_all_parked port s = record {
 -- a request of the port that the device may move, and hasn't ended
 pub record IsUnended (m : Machine) (port : ℕ) (id : RequestId) : Type 0 where
   pub pending : Pending
-  pub may_still_move : MayStillMove m pending
+  pub may_still_move : IsIssuedOrKept m pending
   pub id_is : pending.request.id ≡ id
   pub port_is : pending.request.port.0 ≡ port
   pub unended : pending.ended ≡ false

@@ -17,7 +17,7 @@ use Rattle.adapter.specs.declared.tape.Entry.{Entry}
 use Rattle.adapter.specs.declared.tape.Entry.TheVariants as entry
 use Rattle.adapter.specs.declared.tape.Fault as tape_fault
 use Rattle.block_machine.specs.State.{Pending, Machine}
-use Rattle.block_machine.specs.Steps.{MayStillMove, AllTouched, NoneKept}
+use Rattle.block_machine.specs.Steps.{IsIssuedOrKept, AllTouched, NoneKept}
 use Rattle.refinement.specs.Simulation.{SimulatesSteps}
 use Rattle.adapter.specs.OneCommand.{SlotHasNoCommand}
 use Rattle.refinement.specs.Slots.{Serves, SlotStates, PageCameSinceAndStandsInScratch}
@@ -45,7 +45,7 @@ pub record IsQuiescentPort (p : DevicePort) : Type 0 where
 -- the port, it is in the book.
 pub record EndedOnPort (m : Machine) (port : Port) (id : RequestId) : Type 0 where
   pub pending : Pending
-  pub may_still_move : MayStillMove m pending
+  pub may_still_move : IsIssuedOrKept m pending
   pub id_is : pending.request.id ≡ id
   pub port_is : pending.request.port ≡ port
   pub ended : pending.ended ≡ true

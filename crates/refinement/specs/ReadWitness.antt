@@ -15,7 +15,7 @@ use Rattle.adapter.specs.declared.command.Operation.TheVariants.{Identify}
 use Rattle.block_machine.specs.declared.due.QueueMode.{QueueMode}
 use Rattle.block_machine.specs.Histories.{IsReachable}
 use Rattle.block_machine.specs.State.{Pending, Machine}
-use Rattle.block_machine.specs.Steps.{WaitAgain, IsEnabled, MayStillMove}
+use Rattle.block_machine.specs.Steps.{WaitAgain, IsEnabled, IsIssuedOrKept}
 use Rattle.refinement.specs.Relation.{port_at}
 use Rattle.refinement.specs.Driver.{DriverState, DriverRelation, IsRequestPreparedToIssue, IsOwnCommandPreparedInSlot0, HasNoSlot, idle_driver_state, with_slot_freed_and_request_parked}
 use Rattle.refinement.specs.PortFacts.{IsEngineStopped, FollowsAndHasPageSinceStSet}
@@ -69,7 +69,7 @@ pub record FirstReadWitness : Type 0 where
   pub reached : IsReachable machine
   pub driver_relation : DriverRelation machine first_driver_state
   pub request : Pending
-  pub may_still_move : MayStillMove machine request
+  pub may_still_move : IsIssuedOrKept machine request
   pub id_is : request.request.id ≡ first_id
 
 -- the first read's device when PxCMD was written with ST 0 and FRE 1, and when CR has fallen then

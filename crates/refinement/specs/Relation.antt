@@ -8,7 +8,7 @@ use Rattle.adapter.specs.Device.{Disk, DevicePort, Device}
 use Rattle.adapter.specs.Steps.{WereHeldSinceFlush}
 use Rattle.adapter.specs.declared.tape.Entry.{Entry}
 use Rattle.block_machine.specs.State.{Pending, Machine}
-use Rattle.block_machine.specs.Steps.{MayStillMove, HoldsOrHeldSinceFlush}
+use Rattle.block_machine.specs.Steps.{IsIssuedOrKept, HoldsOrHeldSinceFlush}
 use Rattle.refinement.specs.MemoryLayout.{received_fis_address}
 use Rattle.refinement.specs.Slots.{Serves, SlotStates, RelatesSlot}
 
@@ -68,5 +68,5 @@ pub record StateRelation (uses : SlotStates) (m : Machine) (d : Device) : Type 0
 -- Each request of the port that is issued or kept has a slot, but for those of these ids: their slots were given up
 -- before they were decided.
 abbrev pub HaveSlotsUnlessParked : SlotStates → Machine → ℕ → List RequestId → Type 0
-HaveSlotsUnlessParked uses m port parked = (e : Pending) → MayStillMove m e → e.request.port.0 ≡ port
+HaveSlotsUnlessParked uses m port parked = (e : Pending) → IsIssuedOrKept m e → e.request.port.0 ≡ port
     → Contains parked e.request.id ⊎ ((slot : ℕ) × (uses port slot ≡ Serves e.request.id))

@@ -17,7 +17,7 @@ use Rattle.adapter.specs.declared.tape.Entry.{Entry}
 use Rattle.adapter.specs.declared.tape.Entry.TheVariants as entry
 use Rattle.adapter.specs.declared.tape.Move as tape_move
 use Rattle.block_machine.specs.State.{Accepted, Pending, Machine}
-use Rattle.block_machine.specs.Steps.{MayStillMove, AllTouched}
+use Rattle.block_machine.specs.Steps.{IsIssuedOrKept, AllTouched}
 use Rattle.refinement.specs.MemoryLayout.{command_list_address, command_table_address, scratch_frame_address, sector_address}
 
 -- What the driver has put into a slot: nothing, its bit of PxSACT alone, a command of its own (IDENTIFY DEVICE or READ
@@ -164,7 +164,7 @@ IsInSomeStage memory p port slot e c places =
 -- The slot serves the request of this id: its bytes say the request's command.
 pub record ServesRequest (m : Machine) (memory : ℕ → ℕ) (p : DevicePort) (port slot : ℕ) (id : RequestId) : Type 0 where
   pub pending : Pending
-  pub may_still_move : MayStillMove m pending
+  pub may_still_move : IsIssuedOrKept m pending
   pub id_is : pending.request.id ≡ id
   pub port_is : pending.request.port.0 ≡ port
   pub list_is_in_place : HasListInPlace p port slot

@@ -10,7 +10,7 @@ use Rattle.adapter.specs.declared.tape.Done as tape_done
 use Rattle.adapter.specs.declared.tape.Entry.{Entry}
 use Rattle.adapter.specs.declared.tape.Entry.TheVariants as entry
 use Rattle.block_machine.specs.State.{DiskBytes, Pending, Machine, nth_frame, sector_of}
-use Rattle.block_machine.specs.Steps.{Step, Touch, End, Unplug, PlugDisk, MayStillMove, touch}
+use Rattle.block_machine.specs.Steps.{Step, Touch, End, Unplug, PlugDisk, IsIssuedOrKept, touch}
 use Rattle.block_machine.specs.Expected.{after}
 use Rattle.block_machine.specs.Events.{IsByDevice}
 use Rattle.refinement.specs.MemoryLayout.{scratch_frame_address, sector_address}
@@ -20,7 +20,7 @@ use Rattle.refinement.specs.Slots.{client_operation_of}
 -- operation's direction, and the frame there is lent to the request.
 pub record MovesSector (m : Machine) (op : Op) (move : tape_move.Move) (steps : List Step) : Type 0 where
   pub pending : Pending
-  pub may_still_move : MayStillMove m pending
+  pub may_still_move : IsIssuedOrKept m pending
   pub port_is : pending.request.port ≡ move.port
   pub op_is : pending.request.asked.op ≡ op
   pub sector_number : ℕ
@@ -53,7 +53,7 @@ touch_steps e from (suc n) = Touch (with_sectors_touched e from n) (from + n) (�
 -- sectors of a trim became zero
 pub record ClearsSectors (m : Machine) (clear : tape_clear.Clear) (steps : List Step) : Type 0 where
   pub pending : Pending
-  pub may_still_move : MayStillMove m pending
+  pub may_still_move : IsIssuedOrKept m pending
   pub port_is : pending.request.port ≡ clear.port
   pub op_is : pending.request.asked.op ≡ Trim
   pub first_number : ℕ
@@ -65,7 +65,7 @@ pub record ClearsSectors (m : Machine) (clear : tape_clear.Clear) (steps : List 
 -- command waits, is taken or was given up has.
 pub record EndsPending (m : Machine) (op : Op) (done : tape_done.Done) (steps : List Step) : Type 0 where
   pub pending : Pending
-  pub may_still_move : MayStillMove m pending
+  pub may_still_move : IsIssuedOrKept m pending
   pub port_is : pending.request.port ≡ done.port
   pub op_is : pending.request.asked.op ≡ op
   pub step_is : steps ≡ End pending ∷ []

@@ -14,7 +14,7 @@ use Rattle.adapter.specs.Steps.DeviceTransition.{Fetch}
 use Rattle.adapter.specs.declared.command.Operation.TheVariants.{Trim}
 use Rattle.block_machine.specs.Histories.{IsReachable}
 use Rattle.block_machine.specs.State.{Pending, Machine}
-use Rattle.block_machine.specs.Steps.{MayStillMove}
+use Rattle.block_machine.specs.Steps.{IsIssuedOrKept}
 use Rattle.refinement.specs.Relation.{port_at}
 use Rattle.refinement.specs.Driver.{DriverState, DriverRelation}
 use Rattle.refinement.specs.MemoryLayout.{scratch_frame_address}
@@ -57,7 +57,7 @@ pub record TrimAgrees : Type 0 where
   pub machine : Machine
   pub reached : IsReachable machine
   pub request : Pending
-  pub may_still_move : MayStillMove machine request
+  pub may_still_move : IsIssuedOrKept machine request
   pub id_is : request.request.id ≡ first_id
   pub op_is : request.request.asked.op ≡ op.Trim
   pub permitted : IsStable (MayWrite (Px (port_at 0) Ci) 1) prepared_trim

@@ -21,7 +21,7 @@ use Rattle.block_machine.specs.declared.due.QueueMode.{QueueMode}
 use Rattle.block_machine.specs.Events.{AllEnabled}
 use Rattle.block_machine.specs.Histories.{IsReachable}
 use Rattle.block_machine.specs.State.{Pending, Machine}
-use Rattle.block_machine.specs.Steps.{Issue, MayStillMove}
+use Rattle.block_machine.specs.Steps.{Issue, IsIssuedOrKept}
 use Rattle.refinement.specs.Relation.{port_at}
 use Rattle.refinement.specs.Driver.{DriverState, DriverRelation, idle_driver_state}
 use Rattle.refinement.specs.MemoryLayout.{command_table_address}
@@ -93,7 +93,7 @@ pub record TwoReadsWitness : Type 0 where
   pub reached : IsReachable machine
   pub first_request : Pending
   pub second_request : Pending
-  pub may_still_move : MayStillMove machine first_request × MayStillMove machine second_request
+  pub may_still_move : IsIssuedOrKept machine first_request × IsIssuedOrKept machine second_request
   pub ids : (first_request.request.id ≡ first_id) × (second_request.request.id ≡ second_id)
   pub frames_are_disjoint : (frame : Frame) → Contains first_request.request.asked.frames.items frame
       → Contains second_request.request.asked.frames.items frame → ⊥

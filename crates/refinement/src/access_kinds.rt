@@ -1,12 +1,12 @@
 // Laws of fragments of accesses, whatever their kinds are, for the crates above: the clause is the theorem. A caller
-// passes `Brand`, and names its kinds in the proof of its call (`ghosts-law_fragment_prerequisites` in its
+// passes `Brand`, and names its kinds in the proof of its call (`ghosts-law_access_kinds_satisfy_fragment_laws` in its
 // Invariants.antt). Nothing
 // calls these functions when it runs.
 ghost use Rattle.std.specs.Prelude.{ℕ, ⊤, None, false, ◌≡◌, ◌⊎◌, ◌++◌, [], ◌∷◌, List, length};
 ghost use Rattle.ata_types.specs.declared.Port.{Port};
 ghost use Rattle.hba_regs.specs.{declared.reg.PortReg.{PortReg}, declared.reg.PortReg.TheVariants.{Sact, Ci}, declared.reg.Reg.{Reg}, declared.reg.Reg.TheVariants.{Px}};
 ghost use Rattle.adapter.specs.{Access.{Access, Reads, Writes, Loads, Stores}, Access.Access.{Reading, Writing, Loading, Storing}, Device.{Device}, OneCommand.{SlotHasNoCommand}, Rules.{MayWrite, IsStable}, declared.command.Operation.{Operation}};
-ghost use Rattle.refinement.specs.{Acts.{ActsByDeviceAlone, AccessesAreSimulatedByActs}, Fragments.{SomeMachineAgrees, ReadsPortOrWrites, IsSimulated, IsSimulatedChangingUses, SparesOtherPorts, IsSimulatedAlong, IsSimulatedAlongChangingUses, NoneWrites, GainsNoMove}, Driver.{AllFree, KeepsSlotStates, IsOwnCommandPreparedInSlot0, IsInMemoryOfFreeSlot}, PortFacts.{IsEngineStopped}, GivingUp.{slots_with_all_parked}, Laws.{FragmentLaws}, PreservedParts.{DoesNotWrite}};
+ghost use Rattle.refinement.specs.{Acts.{ActsByDeviceAlone, AccessesAreSimulatedByActs}, Fragments.{SomeMachineAgrees, ReadsPortOrWrites, IsSimulated, IsSimulatedChangingUses, AccessesNoOtherPort, IsSimulatedAlong, IsSimulatedAlongChangingUses, NoneWrites, GainsNoMove}, Driver.{AllFree, KeepsSlotStates, IsOwnCommandPreparedInSlot0, IsInMemoryOfFreeSlot}, PortFacts.{IsEngineStopped}, GivingUp.{slots_with_all_parked}, Laws.{FragmentLaws}, PreservedParts.{DoesNotWrite}};
 ghost use Rattle.refinement.specs.{HaltRecovery.{WorksOnUnqueuedCommandsOnly}, Slots.{SlotStates, Free, Own, client_operation_of, set_slot_state}};
 
 use super::prerequisites::law_prerequisites;
@@ -48,14 +48,14 @@ impl AccessKindsWithSlotUses for Brand {
 }
 
 /// Accesses that read a port's registers and write those of a set are the one or the other. They are of that port
-/// (`SparesOtherPorts`), spare its other registers, and are so of each wider set.
+/// (`AccessesNoOtherPort`), spare its other registers, and are so of each wider set.
 pub fn law_port_register_accesses_are_of_port<R: RegisterSets>()
     ensures is_reading_or_writing { (set : R.Set) (port : Port) (access : Access)
         → ReadsPortOrWrites (R.has set) port access
         → ((r : PortReg) × (v : ℕ) × (access ≡ Reading (Px port r) v))
         ⊎ ((r : PortReg) × (v : ℕ) × (access ≡ Writing (Px port r) v) × R.has set r) }
     ensures is_of_port { (set : R.Set) (port : Port) (access : Access) → ReadsPortOrWrites (R.has set) port access
-        → SparesOtherPorts port access }
+        → AccessesNoOtherPort port access }
     ensures spares { (set : R.Set) (port : Port) (r : PortReg) → (R.has set r → ⊥) → (access : Access)
         → ReadsPortOrWrites (R.has set) port access → DoesNotWrite (Px port r) access }
     ensures wider { (set more : R.Set) (port : Port) → ((r : PortReg) → R.has set r → R.has more r) → (access : Access)
@@ -166,7 +166,7 @@ pub fn law_simulated_fragments_are_call_parts<K: AccessKindsWithSlotUses>()
 }
 
 /// What these laws say of a crate's kinds, for its proofs.
-pub fn law_fragment_prerequisites<K: AccessKindsWithSlotUses>()
+pub fn law_access_kinds_satisfy_fragment_laws<K: AccessKindsWithSlotUses>()
     ensures { FragmentLaws K.Kind K.may K.fits }
 {
     law_slot_keeping_accesses_are_simulated::<K>();

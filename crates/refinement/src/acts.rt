@@ -4,21 +4,21 @@ ghost use Rattle.ata_types.specs.declared.Port.{Port};
 ghost use Rattle.hba_regs.specs.{declared.reg.Reg.TheVariants.{Px}, declared.reg.PortReg.TheVariants.{Sact}};
 ghost use Rattle.adapter.specs.{Access.{Access, Does, DoesAll}, declared.command.Operation.{Operation}};
 ghost use Rattle.block_machine.specs.{Events.{AllByDevice, IsByDevice}, Histories.{IsReachable, IsSimulatedBySteps}, Expected.{after}, State.{Machine}, Steps.{Step, IsEnabled, after_step}};
-ghost use Rattle.refinement.specs.{Acts.{Act, IsActDone, AreActsDone, IsAtMostOneStepOrIssuesOfPort, accesses_of, newest_first_steps_of_acts}, Fragments.{GainsNoMove}, Driver.{DriverState, DriverRelation, IsBackedByDeviceAlone, DriverAdvances, EndsInSteps}, PreservedParts.{DoesNotWrite}, HaltRecovery.{WorksOnUnqueuedCommandsOnly}, Slots.{Own, client_operation_of}};
+ghost use Rattle.refinement.specs.{Acts.{Act, IsActDone, AreActsDone, IsAtMostOneStepOrIssuesByPxciWrite, accesses_of, newest_first_steps_of_acts}, Fragments.{GainsNoMove}, Driver.{DriverState, DriverRelation, IsBackedByDeviceAlone, DriverAdvances, EndsInOwnStepsAfterDeviceSteps}, PreservedParts.{DoesNotWrite}, HaltRecovery.{WorksOnUnqueuedCommandsOnly}, Slots.{Own, client_operation_of}};
 
 use super::prerequisites::law_prerequisites;
 
 /// What is one act: an access that the machine follows by the device's steps, or that ends with what the driver
 /// decides; and, without an access, a step of the driver's own, or none where it knows of the same device something
 /// else.
-pub fn law_accesses_and_decisions_are_acts()
+pub fn law_an_access_or_own_step_is_one_act()
     ensures access { (k later : DriverState) (m : Machine) (access : Access)
         → IsSimulatedBySteps DriverRelation k later (IsBackedByDeviceAlone k.device later.device) → IsReachable m
         → DriverRelation m k
         → Does access k.device later.device → (steps : List Step) × AllByDevice steps
         × IsActDone k m (record { access = Some access; steps = steps; state_after = later }) }
     ensures access_with_own_steps { (k later : DriverState) (m : Machine) (access : Access) (own : List Step)
-        → (e : EndsInSteps k m own later) → IsAtMostOneStepOrIssuesOfPort access own
+        → (e : EndsInOwnStepsAfterDeviceSteps k m own later) → IsAtMostOneStepOrIssuesByPxciWrite access own
         → Does access k.device later.device
         → IsActDone k m (record { access = Some access; steps = own ++ e.steps; state_after = later }) }
     ensures own { (k later : DriverState) (m : Machine) (step : Step) → (IsByDevice step → ⊥) → IsEnabled m step

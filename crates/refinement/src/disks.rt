@@ -49,7 +49,7 @@ pub fn law_hr_read_clear_leaves_adapter_idle()
 /// PRCS shows N and PCS X. Where PxIS shows PRCS or PCS, or PxSSTS no device, and no link was due, N or X was set or no
 /// device showed before, or a disk has gone or come. And where PxIS shows TFES, it was set before, or the tape tells of
 /// a fault.
-pub fn law_pxis_and_det_readings_tell_trouble()
+pub fn law_tfes_or_link_change_read_was_set_or_taped()
     ensures pxis_shows_set_bits { (port : Port) (v place : ℕ) (old new : Device) → old.hr ≡ false
         → Reads (Px port Is) v old new
         → 27 ≤ place → place ≤ 30 → (old.port port.0).is place ≡ true → bit v place ≡ true }

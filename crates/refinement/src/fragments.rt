@@ -4,7 +4,7 @@ ghost use Rattle.std.specs.Prelude.{ℕ, false, ◌≡◌, ◌≢◌, ◌++◌, 
 ghost use Rattle.ata_types.specs.declared.Port.{Port};
 ghost use Rattle.hba_regs.specs.{Bits.{bit}, declared.reg.PortReg.{PortReg}, declared.reg.PortReg.TheVariants.{Cmd, Is, Sctl, Sact, Ci}, declared.reg.Reg.TheVariants.{Ghc, Px}};
 ghost use Rattle.adapter.specs.{Access.{Access, Does, Reads, Writes, Loads, Stores}, Device.{DevicePort, Device}, Idle.{IsIdle, DisksAreKnownIfTelling}, OneCommand.{SlotHasNoCommand}, Rules.{IsOn, MayWrite, IsStable}, Steps.{Steps}, declared.command.Operation.{Operation}, declared.tape.Entry.{Entry}};
-ghost use Rattle.refinement.specs.{Fragments.{AnyAccess, TapeGrows, AnySlotStates, SameSlotStates, SomeMachineAgrees, IsDrivenBy, ReadsPortOrWrites, IsSimulated, IsSimulatedChangingUses, SparesOtherPorts, OnlyDeviceChangesPort, NoCommandIsIssuedOrTaken, GainsNoMove}, Driver.{KeepsSlotStates, IsInMemoryOfFreeSlot}, PortFacts.{RecordsFaultsIfSt}, Laws.{TapeLaws}, PreservedParts.{SameAdapter, DoesNotWrite}};
+ghost use Rattle.refinement.specs.{Fragments.{AnyAccess, TapeGrows, AnySlotStates, SameSlotStates, SomeMachineAgrees, IsDrivenBy, ReadsPortOrWrites, IsSimulated, IsSimulatedChangingUses, AccessesNoOtherPort, OnlyDeviceChangesPort, NoCommandIsIssuedOrTaken, GainsNoMove}, Driver.{KeepsSlotStates, IsInMemoryOfFreeSlot}, PortFacts.{RecordsFaultsIfSt}, Laws.{TapeLaws}, PreservedParts.{SameAdapter, DoesNotWrite}};
 ghost use Rattle.refinement.specs.Slots.{SlotStates, Free, Own, client_operation_of, set_slot_state};
 
 use super::port_facts::{
@@ -13,31 +13,32 @@ use super::port_facts::{
 };
 use super::prerequisites::law_prerequisites;
 
-/// Accesses that touch no register of another port, nor another port's bit of IS (`SparesOtherPorts`), leave every
+/// Accesses that touch no register of another port, nor another port's bit of IS (`AccessesNoOtherPort`), leave every
 /// other port to the device, with what readings noted of it, and with the record of its faults; and where they are
 /// followed, its disk sends no page for which its slot 0 has no command. What is left so in two fragments is left in
 /// both. They write neither GHC nor a register of another port, and an adapter that is on stays on. Any accesses leave
 /// the adapter what it is, and the tape only gains.
 pub fn law_other_ports_are_untouched()
     ensures other_port_is_untouched { (port : Port) (q : ℕ) (old new : Device) → q ≢ port.0 → IsOn old
-        → IsDrivenBy (SparesOtherPorts port) old new
+        → IsDrivenBy (AccessesNoOtherPort port) old new
         → OnlyDeviceChangesPort (old.port q) (new.port q) }
     ensures recorded { (port : Port) (q : ℕ) (old new : Device) → q ≢ port.0
-        → IsDrivenBy (SparesOtherPorts port) old new
+        → IsDrivenBy (AccessesNoOtherPort port) old new
         → RecordsFaultsIfSt old.tape (old.port q) q → RecordsFaultsIfSt new.tape (new.port q) q }
     ensures silent { (port q : Port) (uses : SlotStates) (next : SlotStates → SlotStates) (o : Operation)
         (old new : Device)
-        → q.0 ≢ port.0 → IsSimulatedChangingUses (SparesOtherPorts port) (SameSlotStates uses) next old new
+        → q.0 ≢ port.0 → IsSimulatedChangingUses (AccessesNoOtherPort port) (SameSlotStates uses) next old new
         → SomeMachineAgrees uses old
         → client_operation_of o ≡ None
         → (uses q.0 0 ≡ Own o → ⊥) → GainsNoMove q.0 o old new }
     ensures reflexive { (p : DevicePort) → OnlyDeviceChangesPort p p }
     ensures transitive { (old mid new : DevicePort) → OnlyDeviceChangesPort old mid → OnlyDeviceChangesPort mid new
         → OnlyDeviceChangesPort old new }
-    ensures spares { (port q : Port) (r : PortReg) → q.0 ≢ port.0 → (access : Access) → SparesOtherPorts port access
+    ensures spares { (port q : Port) (r : PortReg) → q.0 ≢ port.0 → (access : Access) → AccessesNoOtherPort port access
         → DoesNotWrite (Px q r) access }
-    ensures spares_host { (port : Port) (access : Access) → SparesOtherPorts port access → DoesNotWrite Ghc access }
-    ensures adapter_stays_on { (port : Port) (old new : Device) → IsOn old → IsDrivenBy (SparesOtherPorts port) old new
+    ensures spares_host { (port : Port) (access : Access) → AccessesNoOtherPort port access → DoesNotWrite Ghc access }
+    ensures adapter_stays_on { (port : Port) (old new : Device) → IsOn old
+        → IsDrivenBy (AccessesNoOtherPort port) old new
         → IsOn new }
     ensures adapter_is_same { (old new : Device) → IsDrivenBy AnyAccess old new → SameAdapter old new }
     ensures tape_grows { (old new : Device) → IsDrivenBy AnyAccess old new → (gained : List Entry)
@@ -69,7 +70,7 @@ pub fn law_tapes_grow()
 {}
 
 /// What laws say of the tape, for the proofs of the crates above.
-pub fn law_tape_prerequisites()
+pub fn law_tapes_satisfy_tape_laws()
     ensures { TapeLaws }
 {
     law_tapes_grow();

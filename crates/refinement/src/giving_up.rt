@@ -3,7 +3,7 @@
 ghost use Rattle.std.specs.Prelude.{ℕ, true, false, ◌⊎◌, ◌≡◌, ◌≢◌, ◌<◌, ◌++◌, List, Contains};
 ghost use Rattle.ata_types.specs.declared.request.RequestId.{RequestId};
 ghost use Rattle.adapter.specs.{Device.{Device}, OneCommand.{SlotHasNoCommand}, Rules.{InUse}, declared.tape.Entry.{Entry}};
-ghost use Rattle.block_machine.specs.{State.{Pending, Machine}, Steps.{MayStillMove}};
+ghost use Rattle.block_machine.specs.{State.{Pending, Machine}, Steps.{IsIssuedOrKept}};
 ghost use Rattle.refinement.specs.{Relation.{StateRelation, ServeDistinctRequests}, Driver.{DriverState, DriverRelation, AllFree, HasNoSlot}, PortFacts.{IsEngineStopped, ShowsFault}, Slots.{SlotStates, Free, Serves}, GivingUp.{AllOverAndNoArmedStateIfSt, ids_in_slots, with_all_parked, IsOutstanding}};
 
 /// Where all slots of a port are over, and none is armed on a running one, as on a port whose engine has stopped, the
@@ -67,6 +67,6 @@ pub fn law_over_slot_is_ended_or_dropped()
     ensures over_is_ended_or_dropped { (uses : SlotStates) (m : Machine) (d : Device) (port slot : ℕ) (id : RequestId)
         → StateRelation uses m d
         → uses port slot ≡ Serves id → SlotHasNoCommand (d.port port) slot
-        → (e : Pending) × MayStillMove m e × (e.request.id ≡ id)
+        → (e : Pending) × IsIssuedOrKept m e × (e.request.id ≡ id)
         × ((e.ended ≡ true) ⊎ (((d.port port).st ≡ false) × (e.ended ≡ false))) }
 {}

@@ -4,7 +4,7 @@ ghost use Rattle.ata_types.specs.{declared.Port.{Port}, declared.memory.TheConst
 ghost use Rattle.hba_regs.specs.{Bits.{bit}, declared.reg.PortReg.TheVariants.{Clb, Clbu, Fb, Fbu, Is, Cmd, Ci, Sact}, declared.reg.Reg.TheVariants.{Px}, declared.reg.Reg.{Reg}};
 ghost use Rattle.adapter.specs.{Access.{Reads, Writes, Loads, Stores, device_after_write, Access, Does}, Commands.{Meaning}, Device.{DevicePort, Device}, FirstRead.{first_read_device}, Idle.{IsIdle}, Memory.{patched}, OneCommand.{SlotHasNoCommand}, Rules.{IsInMemoryNotOwnedByDevice, IsOn, HasPort, MayStart, MaySetFre, MayStopReceiving, MayWrite, IsStable}, Steps.{Steps}, declared.command.Operation.{Operation}, declared.tape.Entry.{Entry}};
 ghost use Rattle.block_machine.specs.{DueRequests.{is_plain, issued_count}, Events.{IsByDevice, AllByDevice, AllEnabled, changes_disk}, Histories.{IsReachable, IsSimulatedBySteps}, Expected.{IsInitial, after, AllStepsFaithful}, Refusals.{MayAccessFrame}, State.{Accepted, Pending, Machine, unanswered}};
-ghost use Rattle.block_machine.specs.{Steps.{Step, Accept, Issue, Age, WaitAgain, Answer, Release, Store, Load, IsEnabled, NoneKept, aged_pending, after_step, is_kept_at_answer, MayStillMove, Revoke}, declared.due.QueueMode.{QueueMode}};
+ghost use Rattle.block_machine.specs.{Steps.{Step, Accept, Issue, Age, WaitAgain, Answer, Release, Store, Load, IsEnabled, NoneKept, aged_pending, after_step, is_kept_at_answer, IsIssuedOrKept, Revoke}, declared.due.QueueMode.{QueueMode}};
 ghost use Rattle.refinement.specs.{Relation.{StateRelation, IsDiskOf, SameClientFrames, SameSectors, HaveSlotsUnlessParked, ServeDistinctRequests, port_at}, Replug.{replug_candidates}, Acts.{IsIssueStep}};
 ghost use Rattle.refinement.specs.{Driver.{IsInMemoryOfFreeSlot, KeepsSlotStates, KeepsTablesAndScratchUnlessOwn, DriverState, DriverRelation, TapeBacksSteps, IsBackedByDeviceAlone, DriverAdvances, IsOwnCommandPreparedInSlot0, EndsInOneStep, HasNoSlot, OthersStayParked, ParkedStayUnlessKept, with_slot_freed_and_request_parked, with_slot_freed, idle_driver_state, KeepsOtherCmdBits, MissesTableAndHeaderButPrdbc, MissesScratch}, Simulation.{SimulatesSteps}, PreservedParts.{IsPlugEvent}};
 ghost use Rattle.refinement.specs.{MemoryLayout.{command_list_address, scratch_frame_address, received_fis_address}, TrimWitness.{TrimAgrees}, ReadWitness.{PreparedReadWitness, FirstReadWitness, PortDeadReadAgreesServedAndParked, ParkedReadWitness, EndedReadAgrees, OwnCommandAgrees}, TwoReadsWitness.{TwoReadsWitness, TwoStoredReads}};
@@ -349,7 +349,7 @@ pub fn law_book_only_advances_over_device_steps()
     ensures unlent_frames_keep_bytes { (m : Machine) (steps : List Step) (frame : Frame) → IsReachable m
         → AllByDevice steps
         → AllEnabled m steps
-        → ((e : Pending) → MayStillMove m e → m.lent frame ≡ Some e.request.id → ⊥)
+        → ((e : Pending) → IsIssuedOrKept m e → m.lent frame ≡ Some e.request.id → ⊥)
         → (b : ℕ) → (after m steps).memory frame b ≡ m.memory frame b }
     ensures none_quarantined_stays { (m : Machine) (steps : List Step) (port : Port) → AllByDevice steps
         → NoneKept m port

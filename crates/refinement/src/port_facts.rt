@@ -4,7 +4,7 @@ ghost use Rattle.std.specs.Prelude.{ℕ, true, false, ◌≡◌, ◌≢◌, ◌�
 ghost use Rattle.ata_types.specs.{declared.Port.{Port}, declared.memory.TheConstants.{DRIVER_FRAMES, FRAME_BYTES}, declared.request.Frame.{Frame}, declared.request.RequestId.{RequestId}};
 ghost use Rattle.hba_regs.specs.{Bits.{bit}, declared.reg.Reg.{Reg}, declared.reg.Reg.TheVariants.{Ghc, Px}, declared.reg.PortReg.TheVariants.{Is, Ie, Cmd, Tfd, Sig, Ssts, Sctl, Serr, Ci, Sact, Clb, Clbu, Fb, Fbu}, declared.reg.PortReg.{PortReg}};
 ghost use Rattle.adapter.specs.{Access.{Reads, Writes, Loads, Stores, Access, Does, DoesAll, PortShows, notes_after_reading}, Access.Access.{Writing}, Device.{Device, DevicePort}, Device.Halt.{HaltedPlain}, FirstRead.{first_read_device}, Idle.{IsIdle, IsIdlePort}, OneCommand.{SlotHasNoCommand}, Rules.{IsInMemoryNotOwnedByDevice, IsOn, MayWrite, IsStable}, Steps.{Steps}, declared.command.Operation.{Operation}, declared.tape.Entry.{Entry}};
-ghost use Rattle.block_machine.specs.{Events.{AllByDevice}, Histories.{IsReachable, IsSimulatedBySteps}, Expected.{after}, State.{Pending, Machine}, Steps.{Step, Release, MayStillMove, NoneKept, after_step}};
+ghost use Rattle.block_machine.specs.{Events.{AllByDevice}, Histories.{IsReachable, IsSimulatedBySteps}, Expected.{after}, State.{Pending, Machine}, Steps.{Step, Release, IsIssuedOrKept, NoneKept, after_step}};
 ghost use Rattle.refinement.specs.{Relation.{StateRelation}, AwaitedPage.{AwaitsOrHasPage}, BootWitness.{BootWitness}, Fragments.{TapeGrows}, Driver.{DriverState, DriverRelation, IsOwnCommandPreparedInSlot0}, Errors.{KeepsSetBitsOfPxisAndSerrNX, NoDiskComes, LinkErrorsRiseByDisks, ErrorBitsStayClear, NoFatalErrors, NoFaults, ErrorBitsRiseByErrors, IsLeftByReset, ShowsResetStateUntilSerrX, IsCompositional, IsEngineWorkOrErrorOf}};
 ghost use Rattle.refinement.specs.PortFacts.{IsEngineStopped, IsQuiescentPort, FollowsAndHasPageSinceStSet, DeviceOwnsNoByteOfFrame, CommandsAreOver, RunsWell, Undisturbed, ShowsNoTrouble, PxisValueTellsNoTrouble, ClearsNoTrouble, IsHaltedPlainOrQueued, ShowsFault, RecordsFaults, RecordsFaultsIfSt, WhileLinkAwaitedCrIsClearAndDrqSet, CrAndTfesAreClear, IsCleanToStart, StartsCleanAndWritesSctlStopped, EndedOnPort, IsSlotClear};
 ghost use Rattle.refinement.specs.{PreservedParts.{DoesNotWrite, SameAdapter, ControlsChangeOnlyByTheirWrites, NoPlugEvents, KeepsDisk, LinkIsSameOrComesUp, HasDet3IfDiskPresent}, PortNotes.{NotesChangeOnlyByReadOrSctlWrite, NotesLast}, MemoryLayout.{scratch_frame_address}, Slots.{SlotStates, Free, Own, Serves, PageCameSinceAndStandsInScratch, set_slot_state}, SparedBook.{IsNotStepOfPendingRequest}, Staying.{StaysOverReadings, StaysOverSteps, StaysOverPermittedWritesWithCmdValue}};
@@ -66,7 +66,7 @@ pub fn law_slot_is_clear_iff_ended_while_st_set()
         → e.issued ≡ true }
     ensures clears { (uses : SlotStates) (m : Machine) (d : Device) (port : Port) (slot : ℕ) (e : Pending)
         → IsReachable m
-        → StateRelation uses m d → MayStillMove m e → e.ended ≡ true → uses port.0 slot ≡ Serves e.request.id
+        → StateRelation uses m d → IsIssuedOrKept m e → e.ended ≡ true → uses port.0 slot ≡ Serves e.request.id
         → IsSlotClear (d.port port.0) slot × EndedOnPort m port e.request.id }
     ensures ends { (uses : SlotStates) (m : Machine) (d : Device) (port : Port) (slot : ℕ) (id : RequestId)
         → StateRelation uses m d
@@ -229,7 +229,7 @@ pub fn law_clear_pxis_error_bits_mean_no_error()
 /// each access that doesn't set ST. So it is where no device shows. While no reset is pending, a link that is up stays
 /// so, too, but for a write of PxSCTL, where no disk goes or comes; and whether the engine stands or runs, where the
 /// tape tells of no disturbance of the port.
-pub fn law_link_with_det_3_is_up_for_start()
+pub fn law_det_3_means_up_for_start_if_no_disk_came()
     ensures comreset { (port : Port) (v : ℕ) (old new : Device) → (old.port port.0).cr ≡ false → v % 16 ≡ 1
         → Writes (Px port Sctl) v old new → IsStoppedAndUpForStartIfDet3 (new.port port.0) }
     ensures reset { (v : ℕ) (old new : Device) → old.hr ≡ true → Reads Ghc v old new → bit v 0 ≡ false
@@ -341,7 +341,7 @@ pub fn law_undisturbed_has_no_error_or_plug()
 /// What the adapter is stays over each access: its memory's size, its capabilities, its ports, and whether its disks
 /// tell their sectors; and so over one fragment after another. One that is switched on, with no reset pending, stays so
 /// over each access but a write of GHC that clears AE or sets HR, and over any that don't write it.
-pub fn law_adapter_stays_the_same_and_switched_on()
+pub fn law_adapter_stays_same_and_on_until_ghc_write()
     ensures access_keeps_adapter { (access : Access) (old new : Device) → Does access old new → SameAdapter old new }
     ensures adapter_reflexive { (d : Device) → SameAdapter d d }
     ensures adapter_transitive { (old mid new : Device) → SameAdapter old mid → SameAdapter mid new

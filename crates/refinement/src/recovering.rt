@@ -50,7 +50,7 @@ pub fn law_port_stays_unqueued_until_sact_written()
 /// While ST is one, READ LOG EXT isn't awaited, and a queued command is taken if one has halted the port: so it stays
 /// where the machine agrees with the device, whatever the device does, over each access but a write of PxCMD, and over
 /// acts without one. So it is without a halt, and of a port that works on plain commands alone.
-pub fn law_queued_halt_has_taken_command()
+pub fn law_halt_fits_taken_until_pxcmd_written()
     ensures steps { StaysOverStepsIfMachineAgrees HaltFitsTakenCommandsIfSt }
     ensures access { StaysUnlessWrittenIfMachineAgrees Cmd HaltFitsTakenCommandsIfSt }
     ensures acts { (port : Port) (acts : List Act) (k later : DriverState) (m : Machine) → IsReachable m

@@ -14,7 +14,7 @@ use Rattle.ata_types.specs.declared.request.ClientId.{ClientId}
 use Rattle.ata_types.specs.declared.request.RequestId.{RequestId}
 use Rattle.block_machine.specs.declared.due.Unanswered.{Unanswered}
 use Rattle.block_machine.specs.DueRequests as machine
-use Rattle.request_queue.specs.BookEntries.{BookEntry, as_unanswered, unanswered_of, has_id, update_if_id, without_entry, issued_request, waiting_again_request, aged_request, with_revoked_mark_if_under_grant, entry_count_of_client, IsEarlier, BookIsWellFormed, IssuesAreWithinLimit, IsNewlyAccepted}
+use Rattle.request_queue.specs.BookEntries.{BookEntry, as_unanswered, unanswered_of, has_id, update_if_id, without_entry, issued_request, request_with_issued_cleared, aged_request, with_revoked_mark_if_under_grant, entry_count_of_client, IsEarlier, BookIsWellFormed, IssuesAreWithinLimit, IsNewlyAccepted}
 use Rattle.request_queue.specs.declared.PendingRequest.{PendingRequest}
 use Rattle.request_queue.proofs.Members.{count_cons, count_append, count_map, contains_here, contains_there, contains_cases}
 use Rattle.block_machine.specs.Rules.{is_same_grant_name}
@@ -180,10 +180,10 @@ issued_in_order es id e s here named waits = one_in_order es id issued_request (
         let n = ap (λ (y : BookEntry). y.request.issue_count) is in
         (omega (arith, left, n), λ no. absurd (false≢true (sym no)))
 
-pub waiting_in_order : (es : List BookEntry) (id : RequestId) (e : BookEntry) → BookIsWellFormed es → Contains es e → e.request.id ≡ id → e.request.issue_count < 4 → BookIsWellFormed (map (update_if_id id waiting_again_request) es)
-waiting_in_order es id e s here named few = one_in_order es id waiting_again_request (λ r. refl) (λ r. refl) bears s
+pub waiting_in_order : (es : List BookEntry) (id : RequestId) (e : BookEntry) → BookIsWellFormed es → Contains es e → e.request.id ≡ id → e.request.issue_count < 4 → BookIsWellFormed (map (update_if_id id request_with_issued_cleared) es)
+waiting_in_order es id e s here named few = one_in_order es id request_with_issued_cleared (λ r. refl) (λ r. refl) bears s
   where
-    bears : (x : BookEntry) → Contains es x → x.request.id.0 ≡ id.0 → IssuesAreWithinLimit (waiting_again_request x.request)
+    bears : (x : BookEntry) → Contains es x → x.request.id.0 ≡ id.0 → IssuesAreWithinLimit (request_with_issued_cleared x.request)
     bears x h same =
         let is : x ≡ e = one_by_id es x e s.ids_rise h here (same ∙ sym (ap (λ (i : RequestId). i.0) named)) in
         let n = ap (λ (y : BookEntry). y.request.issue_count) is in

@@ -9,7 +9,7 @@ use Rattle.block_machine.specs.declared.due.Unanswered.{Unanswered}
 use Rattle.request_queue.specs.declared.flushes.Flush.{Flush}
 use Rattle.request_queue.specs.declared.ranges.RequestRange.{RequestRange}
 use Rattle.request_queue.specs.Conflicts.{AreConflictLists, ConflictLists}
-use Rattle.request_queue.specs.BookEntries.{BookEntry, as_unanswered, unanswered_of, update_if_id, issued_request, waiting_again_request}
+use Rattle.request_queue.specs.BookEntries.{BookEntry, as_unanswered, unanswered_of, update_if_id, issued_request, request_with_issued_cleared}
 use Rattle.request_queue.specs.Flushes.{flushes_among}
 use Rattle.request_queue.specs.Blockers.{IsBlockerOf, is_waiting_read_or_write, may_block}
 use Rattle.request_queue.specs.Sectors.{AreIndexed}
@@ -117,5 +117,5 @@ pub issued_lists : (es : List BookEntry) (id : RequestId) (lists : ConflictLists
 issued_lists es id = lists_stay (unanswered_of es) (unanswered_of (map (update_if_id id issued_request) es)) (issued_indexed es id) (issued_flushes es id) (as_many (update_if_id id issued_request) es)
 
 pub requeued_lists : (es : List BookEntry) (id : RequestId) (lists : ConflictLists) → AreConflictLists (unanswered_of es) lists
-    → AreConflictLists (unanswered_of (map (update_if_id id waiting_again_request) es)) lists
-requeued_lists es id = lists_stay (unanswered_of es) (unanswered_of (map (update_if_id id waiting_again_request) es)) (requeued_indexed es id) (requeued_flushes es id) (as_many (update_if_id id waiting_again_request) es)
+    → AreConflictLists (unanswered_of (map (update_if_id id request_with_issued_cleared) es)) lists
+requeued_lists es id = lists_stay (unanswered_of es) (unanswered_of (map (update_if_id id request_with_issued_cleared) es)) (requeued_indexed es id) (requeued_flushes es id) (as_many (update_if_id id request_with_issued_cleared) es)

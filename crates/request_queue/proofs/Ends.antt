@@ -8,7 +8,7 @@ use Rattle.block_machine.specs.DueRequests.{are_overlapping}
 use Rattle.request_queue.specs.declared.ranges.RequestRange.{RequestRange}
 use Rattle.request_queue.specs.declared.ranges.IndexEntry.{IndexEntry}
 use Rattle.request_queue.specs.RangeIndex.{NextEndIsGreatestIfThis, items_of}
-use Rattle.request_queue.specs.BookRanges.{StandsBefore, EndIsGreatestUpTo, item_end, item_first, is_earlier_conflict}
+use Rattle.request_queue.specs.BookRanges.{StandsBefore, EndIsGreatestUpTo, item_end, item_first, is_earlier_conflict_on_port}
 
 -- the greatest end goes on, with the next item's
 pub end_grows : (items : List RequestRange) (k greatest_end end : ℕ) → EndIsGreatestUpTo items k greatest_end → ((d : RequestRange) → item_end (get_or items (k + 1) d) ≡ end) → greatest_end < end → EndIsGreatestUpTo items (k + 1) end
@@ -66,7 +66,7 @@ all_follow es place d follow here (suc k) le lt = by (cases_eq place (suc k)) (�
     by (inr ne) next = subst (λ (n : ℕ). EndIsGreatestUpTo (items_of es) n (get_or es n d).greatest_end) (let e : k + 1 ≡ suc k = omega arith in e) (next (omega (arith, le, ne)))
 
 -- what two items that conflict have in common
-shared : (r x : RequestRange) → is_earlier_conflict r x ≡ true → (item_first x < item_end r) × (item_first r < item_end x)
+shared : (r x : RequestRange) → is_earlier_conflict_on_port r x ≡ true → (item_first x < item_end r) × (item_first r < item_end x)
 shared r x is =
     let after = and_parts (x.port.0 == r.port.0) (nat_lt x.id.0 r.id.0 && ((x.changes_sectors || r.changes_sectors) && are_overlapping x.range r.range)) is in
     let both = and_parts (x.changes_sectors || r.changes_sectors) (are_overlapping x.range r.range) (and_parts (nat_lt x.id.0 r.id.0) ((x.changes_sectors || r.changes_sectors) && are_overlapping x.range r.range) after.1).1 in
@@ -75,20 +75,20 @@ shared r x is =
     (ltb-true (item_first x) (item_end r) sides.0, ltb-true (item_first r) (item_end x) sides.1)
 
 -- one that begins where r ends, or later, doesn't conflict with it
-pub begins_late : (r x : RequestRange) → (StandsBefore x (item_end r) 0 → ⊥) → is_earlier_conflict r x ≡ false
-begins_late r x not = false_from_ne_true (is_earlier_conflict r x) (λ is. not (inl (shared r x is).0))
+pub begins_late : (r x : RequestRange) → (StandsBefore x (item_end r) 0 → ⊥) → is_earlier_conflict_on_port r x ≡ false
+begins_late r x not = false_from_ne_true (is_earlier_conflict_on_port r x) (λ is. not (inl (shared r x is).0))
 
 -- one that ends where r begins, or earlier, doesn't conflict with it
-pub ends_early : (r x : RequestRange) (greatest_end : ℕ) → item_end x ≤ greatest_end → greatest_end ≤ item_first r → is_earlier_conflict r x ≡ false
-ends_early r x greatest_end h g = false_from_ne_true (is_earlier_conflict r x) (λ is. let s = (shared r x is).1 in omega (arith, s, h, g))
+pub ends_early : (r x : RequestRange) (greatest_end : ℕ) → item_end x ≤ greatest_end → greatest_end ≤ item_first r → is_earlier_conflict_on_port r x ≡ false
+ends_early r x greatest_end h g = false_from_ne_true (is_earlier_conflict_on_port r x) (λ is. let s = (shared r x is).1 in omega (arith, s, h, g))
 
 -- nor do all up to a place whose greatest end is there
 pub none_conflicts : (r : RequestRange) (items : List RequestRange) (past greatest_end : ℕ) → EndIsGreatestUpTo items past greatest_end → greatest_end ≤ item_first r
-    → ((k : ℕ) (d : RequestRange) → past < k → k < length items → is_earlier_conflict r (get_or items k d) ≡ false) → list_any (is_earlier_conflict r) items ≡ false
-none_conflicts r items past greatest_end so early behind = list_any_none (is_earlier_conflict r) items (λ k d lt. elim (cases_lt past k) [
+    → ((k : ℕ) (d : RequestRange) → past < k → k < length items → is_earlier_conflict_on_port r (get_or items k d) ≡ false) → list_any (is_earlier_conflict_on_port r) items ≡ false
+none_conflicts r items past greatest_end so early behind = list_any_none (is_earlier_conflict_on_port r) items (λ k d lt. elim (cases_lt past k) [
   | inl more ↦ behind k d more lt
   | inr up ↦ ends_early r (get_or items k d) greatest_end (so.bounds_all_ends k d up) early
 ])
 
-pub none_left : (r : RequestRange) (items : List RequestRange) → ((k : ℕ) (d : RequestRange) → 0 ≤ k → k < length items → is_earlier_conflict r (get_or items k d) ≡ false) → list_any (is_earlier_conflict r) items ≡ false
-none_left r items none = list_any_none (is_earlier_conflict r) items (λ k d lt. none k d (omega arith) lt)
+pub none_left : (r : RequestRange) (items : List RequestRange) → ((k : ℕ) (d : RequestRange) → 0 ≤ k → k < length items → is_earlier_conflict_on_port r (get_or items k d) ≡ false) → list_any (is_earlier_conflict_on_port r) items ≡ false
+none_left r items none = list_any_none (is_earlier_conflict_on_port r) items (λ k d lt. none k d (omega arith) lt)

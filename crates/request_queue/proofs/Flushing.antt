@@ -8,7 +8,7 @@ use Rattle.ata_types.specs.declared.request.RequestId.{RequestId}
 use Rattle.block_machine.specs.declared.due.Unanswered.{Unanswered}
 use Rattle.block_machine.specs.DueRequests.{is_flush, mark_issued, mark_waiting, without_request}
 use Rattle.request_queue.specs.declared.flushes.Flush.{Flush}
-use Rattle.request_queue.specs.BookEntries.{BookEntry, unanswered_of, update_if_id, issued_request, waiting_again_request, without_entry}
+use Rattle.request_queue.specs.BookEntries.{BookEntry, unanswered_of, update_if_id, issued_request, request_with_issued_cleared, without_entry}
 use Rattle.request_queue.specs.Flushes.{listed_flush, flushes_among}
 use Rattle.request_queue.proofs.Members.{into_map, map_in}
 use Rattle.request_queue.proofs.Unheld.{in_filter, of_filter}
@@ -92,7 +92,7 @@ pub issued_flushes : (es : List BookEntry) (id : RequestId) (fs : List Flush) �
 issued_flushes es id fs is = is ∙ sym (ap flushes_among (after_issue es id)
     ∙ same_flushes (mark_issued id) (λ r. (same_marked (r.id.0 == id.0) r true).0) (λ r. (same_marked (r.id.0 == id.0) r true).1) (unanswered_of es))
 
-pub requeued_flushes : (es : List BookEntry) (id : RequestId) (fs : List Flush) → fs ≡ flushes_among (unanswered_of es) → fs ≡ flushes_among (unanswered_of (map (update_if_id id waiting_again_request) es))
+pub requeued_flushes : (es : List BookEntry) (id : RequestId) (fs : List Flush) → fs ≡ flushes_among (unanswered_of es) → fs ≡ flushes_among (unanswered_of (map (update_if_id id request_with_issued_cleared) es))
 requeued_flushes es id fs is = is ∙ sym (ap flushes_among (after_requeue es id)
     ∙ same_flushes (mark_waiting id) (λ r. (same_marked (r.id.0 == id.0) r false).0) (λ r. (same_marked (r.id.0 == id.0) r false).1) (unanswered_of es))
 

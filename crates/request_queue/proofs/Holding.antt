@@ -10,13 +10,13 @@ use Rattle.std.proofs.lemmas.List.Elements.{Contains-append_left, Contains-appen
 use Rattle.std.proofs.lemmas.Option.{slice_get_within, slice_get-map, get_or_from_slice_get}
 use Rattle.ata_types.specs.declared.request.RequestId.{RequestId}
 use Rattle.block_machine.specs.declared.due.Unanswered.{Unanswered}
-use Rattle.block_machine.specs.DueRequests.{IsInOrder, conflict_by_flush_or_overlap, is_earlier_on_port, is_flush, changes_sectors, are_overlapping}
+use Rattle.block_machine.specs.DueRequests.{IsInOrder, conflict_on_port_by_flush_or_overlap, is_earlier_on_port, is_flush, changes_sectors, are_overlapping}
 use Rattle.request_queue.specs.declared.ranges.RequestRange.{RequestRange}
-use Rattle.request_queue.specs.BookRanges.{is_earlier_conflict}
-use Rattle.request_queue.specs.BookEntries.{BookEntry, as_unanswered, unanswered_of, issued_request, waiting_again_request}
+use Rattle.request_queue.specs.BookRanges.{is_earlier_conflict_on_port}
+use Rattle.request_queue.specs.BookEntries.{BookEntry, as_unanswered, unanswered_of, issued_request, request_with_issued_cleared}
 use Rattle.request_queue.specs.Flushes.{listed_flush, flushes_among, comes_after_flush}
 use Rattle.request_queue.specs.declared.flushes.Flush.{Flush}
-use Rattle.request_queue.specs.Blockers.{AreBlockers, AreBlockersExceptOf, IsBlockerOf, has_blocker, is_blocked_by, is_waiting_read_or_write, may_block}
+use Rattle.request_queue.specs.Blockers.{AreBlockers, AreBlockersExceptOf, IsBlockerOf, waiting_read_or_write_has_blocker, is_blocked_by, is_waiting_read_or_write, may_block}
 use Rattle.request_queue.specs.Sectors.{AreIndexed, AreItemsOfList, item_of, list_number_of_port}
 use Rattle.request_queue.proofs.Flushing.{in_flushes, of_flushes}
 use Rattle.request_queue.proofs.Indexing.{asks_more, asks_newest, ids_apart, in_four, in_remove}
@@ -36,7 +36,7 @@ module _ (book : List Unanswered) (lists : List (List RequestRange)) (is : AreIn
   no_flush_itself : is_flush r.op ≡ false
   no_flush_itself = no_flush r.op (and_parts (not r.issued) _ may).1
 
-  none_found : list_any (is_earlier_conflict (item_of r)) items ≡ false → list_any (comes_after_flush r) flushes ≡ false → has_blocker book r ≡ false
+  none_found : list_any (is_earlier_conflict_on_port (item_of r)) items ≡ false → list_any (comes_after_flush r) flushes ≡ false → waiting_read_or_write_has_blocker book r ≡ false
   none_found none empty_flushes = false_from_ne_true _ (λ held.
       let o = one_found (may_block r) book (and_parts (is_waiting_read_or_write r) _ held).1 in
       let parts = and_parts (is_earlier_on_port o.0 r) _ o.2 in
@@ -52,21 +52,21 @@ module _ (book : List Unanswered) (lists : List (List RequestRange)) (is : AreIn
           (λ both. both)
           (or_cases (is_flush o.op || is_flush r.op) _ meets)
 
-      by : (o : Unanswered) → Contains book o → is_earlier_on_port o r ≡ true → conflict_by_flush_or_overlap o r ≡ true → (b : Bool) → is_flush o.op ≡ b → ⊥
+      by : (o : Unanswered) → Contains book o → is_earlier_on_port o r ≡ true → conflict_on_port_by_flush_or_overlap o r ≡ true → (b : Bool) → is_flush o.op ≡ b → ⊥
       by o there earlier meets true flush = both_ways _ empty_flushes (found (comes_after_flush r) flushes (listed_flush o)
           (subst (λ (fs : List Flush). Contains fs (listed_flush o)) (sym are_flushes) (in_flushes book o there flush)) earlier)
       by o there earlier meets false other =
           let early = and_parts (o.port.0 == r.port.0) _ earlier in
           let both = and_parts (o.port.0 == r.port.0) _ meets in
           let list : list_number_of_port o.port ≡ list_number_of_port r.port = ap (λ (n : ℕ). n % 4) (eqb-true o.port.0 r.port.0 early.0) in
-          both_ways _ none (found (is_earlier_conflict (item_of r)) items (item_of o) ((sectors (item_of o)).1 (o, there, list, other, refl))
+          both_ways _ none (found (is_earlier_conflict_on_port (item_of r)) items (item_of o) ((sectors (item_of o)).1 (o, there, list, other, refl))
           (and_from _ _ early.0 (and_from _ _ early.1 (by_sectors o other both.1))))
 
-  pub one_holds : (x : RequestRange) → Contains items x → is_earlier_conflict (item_of r) x ≡ true → IsBlockerOf book r (Some x.id)
+  pub one_holds : (x : RequestRange) → Contains items x → is_earlier_conflict_on_port (item_of r) x ≡ true → IsBlockerOf book r (Some x.id)
   one_holds x there meets =
       let h = (sectors x).0 there in
       let o = h.0 in
-      let holds_it : is_earlier_conflict (item_of r) (item_of o) ≡ true = ap (is_earlier_conflict (item_of r)) h.4 ∙ meets in
+      let holds_it : is_earlier_conflict_on_port (item_of r) (item_of o) ≡ true = ap (is_earlier_conflict_on_port (item_of r)) h.4 ∙ meets in
       let one = and_parts (o.port.0 == r.port.0) _ holds_it in
       let two = and_parts (nat_lt o.id.0 r.id.0) _ one.1 in (
         may,
@@ -83,7 +83,7 @@ module _ (book : List Unanswered) (lists : List (List RequestRange)) (is : AreIn
       )
 
   -- where the index has none, the flushes are looked at
-  pub by_flushes : list_any (is_earlier_conflict (item_of r)) items ≡ false → (h : Option RequestId) → IfNone h (list_any (comes_after_flush r) flushes ≡ false)
+  pub by_flushes : list_any (is_earlier_conflict_on_port (item_of r)) items ≡ false → (h : Option RequestId) → IfNone h (list_any (comes_after_flush r) flushes ≡ false)
       → IfSome h (λ id. (f : Flush) × Contains flushes f × (f.id ≡ id) × (comes_after_flush r f ≡ true)) → IsBlockerOf book r h
   by_flushes none None empty_flushes some = none_found none empty_flushes
   by_flushes none (Some id) empty_flushes some = subst (λ (n : RequestId). IsBlockerOf book r (Some n)) some.2 (flush_holds some.0 some.1 some.3)
@@ -186,7 +186,7 @@ module _ (book : List Unanswered) (blockers : List (Option RequestId)) (i : ℕ)
       ]
 
 -- an issued request has none
-pub issued_has_none : (book : List Unanswered) (r : Unanswered) → has_blocker book (record r { issued = true }) ≡ false
+pub issued_has_none : (book : List Unanswered) (r : Unanswered) → waiting_read_or_write_has_blocker book (record r { issued = true }) ≡ false
 issued_has_none book r = refl
 
 -- answered
@@ -291,14 +291,14 @@ module _ (id : RequestId) (place : ℕ) (book : List Unanswered) (blockers : Lis
 -- ---- read at a place
 
 module _ (book : List Unanswered) (r : Unanswered) where
-  pub no_holder : (h : Option RequestId) → h ≡ None → IsBlockerOf book r h → has_blocker book r ≡ false
+  pub no_holder : (h : Option RequestId) → h ≡ None → IsBlockerOf book r h → waiting_read_or_write_has_blocker book r ≡ false
   no_holder None e is = is
   no_holder (Some id) e is = absurd (some_none id e)
     where
       some_none : (id : RequestId) → ◌≡◌ {A = Option RequestId} (Some id) None → ⊥
       some_none id e = cc
 
-  pub a_holder : (h : Option RequestId) → (h ≡ None → ⊥) → IsBlockerOf book r h → has_blocker book r ≡ true
+  pub a_holder : (h : Option RequestId) → (h ≡ None → ⊥) → IsBlockerOf book r h → waiting_read_or_write_has_blocker book r ≡ true
   a_holder None some is = absurd (some refl)
   a_holder (Some id) some is = and_from _ _ is.0 (found (may_block r) book is.1.0 is.1.1 is.1.3)
 
@@ -326,18 +326,18 @@ issued_holders es blockers i e are at =
     (marked_holders (unanswered_of es) blockers i (as_unanswered e.request) true None are (asks_there es i e at) refl)
 
 pub requeued_holders : (es : List BookEntry) (blockers : List (Option RequestId)) (i : ℕ) (e : BookEntry) (r : Unanswered) (h : Option RequestId) → AreBlockers (unanswered_of es) blockers → slice_get es i ≡ Some e
-    → slice_get (unanswered_of (set es i (record e { request = waiting_again_request e.request }))) i ≡ Some r → IsBlockerOf (unanswered_of (set es i (record e { request = waiting_again_request e.request }))) r h
-    → AreBlockers (unanswered_of (set es i (record e { request = waiting_again_request e.request }))) (set blockers i h)
+    → slice_get (unanswered_of (set es i (record e { request = request_with_issued_cleared e.request }))) i ≡ Some r → IsBlockerOf (unanswered_of (set es i (record e { request = request_with_issued_cleared e.request }))) r h
+    → AreBlockers (unanswered_of (set es i (record e { request = request_with_issued_cleared e.request }))) (set blockers i h)
 requeued_holders es blockers i e r h are at its is =
     let there = asks_there es i e at in
-    let new = asks_set es i (record e { request = waiting_again_request e.request }) in
-    let waiting : Unanswered = as_unanswered (waiting_again_request e.request) in
+    let new = asks_set es i (record e { request = request_with_issued_cleared e.request }) in
+    let waiting : Unanswered = as_unanswered (request_with_issued_cleared e.request) in
     let same : r ≡ waiting =
     sym (get_or_from_slice_get (set (unanswered_of es) i waiting) i r waiting (subst (λ (book : List Unanswered). slice_get book i ≡ Some r) new its))
     ∙ get_or-set_same (unanswered_of es) i waiting waiting (slice_get_within (unanswered_of es) i (as_unanswered e.request) there) in
     subst (λ (book : List Unanswered). AreBlockers book (set blockers i h)) (sym new)
     (marked_holders (unanswered_of es) blockers i (as_unanswered e.request) false h are there
-    (subst (λ (book : List Unanswered). IsBlockerOf book waiting h) new (subst (λ (x : Unanswered). IsBlockerOf (unanswered_of (set es i (record e { request = waiting_again_request e.request }))) x h) same is)))
+    (subst (λ (book : List Unanswered). IsBlockerOf book waiting h) new (subst (λ (x : Unanswered). IsBlockerOf (unanswered_of (set es i (record e { request = request_with_issued_cleared e.request }))) x h) same is)))
 
 pub fewer_holders : (es : List BookEntry) (blockers : List (Option RequestId)) (i : ℕ) (e : BookEntry) (id : RequestId) → AreBlockers (unanswered_of es) blockers → IsInOrder (unanswered_of es)
     → slice_get es i ≡ Some e → e.request.id ≡ id → AreBlockersExceptOf id i (remove (unanswered_of es) i) (remove blockers i)

@@ -9,7 +9,7 @@ use Rattle.std.proofs.lemmas.Option.{slice_get_within, get_or_from_slice_get}
 use Rattle.ata_types.specs.declared.Port.{Port}
 use Rattle.block_machine.specs.declared.due.QueueMode.{QueueMode}
 use Rattle.block_machine.specs.declared.due.Unanswered.{Unanswered}
-use Rattle.block_machine.specs.DueRequests.{conflict_by_flush_or_overlap, waits_for, is_waiting_and_unblocked, is_plain}
+use Rattle.block_machine.specs.DueRequests.{conflict_on_port_by_flush_or_overlap, waits_for, is_waiting_and_unblocked, is_plain}
 use Rattle.request_queue.specs.Blockers.{is_waiting_read_or_write, may_block}
 use Rattle.request_queue.specs.DueWalk.{TalliesIssued, IsReachedInWalk, is_issued_plain}
 use Rattle.request_queue.specs.declared.due.IssuedTally.{IssuedTally}
@@ -71,7 +71,7 @@ module _ (mode : QueueMode) (requests : List Unanswered) (i : ℕ) (r : Unanswer
   plain_held plain = same_bool (list_any (waits_for mode r) requests) (list_any (λ (u : Unanswered). u.issued) requests || nat_lt 0 i) back ahead
     where
       way : (o : Unanswered) → waits_for mode r o ≡ ((o.port.0 == r.port.0) && (o.issued || nat_lt o.id.0 r.id.0))
-      way o = ap (λ (b : Bool). (o.port.0 == r.port.0) && b) (cond-true (is_plain mode r.op) (o.issued || nat_lt o.id.0 r.id.0) ((is_plain mode o.op && o.issued) || (nat_lt o.id.0 r.id.0 && (is_plain mode o.op || conflict_by_flush_or_overlap o r))) plain)
+      way o = ap (λ (b : Bool). (o.port.0 == r.port.0) && b) (cond-true (is_plain mode r.op) (o.issued || nat_lt o.id.0 r.id.0) ((is_plain mode o.op && o.issued) || (nat_lt o.id.0 r.id.0 && (is_plain mode o.op || conflict_on_port_by_flush_or_overlap o r))) plain)
 
       ahead : (list_any (λ (u : Unanswered). u.issued) requests || nat_lt 0 i) ≡ true → list_any (waits_for mode r) requests ≡ true
       ahead is = ⊎_elim
@@ -103,16 +103,16 @@ module _ (mode : QueueMode) (requests : List Unanswered) (i : ℕ) (r : Unanswer
   queued_held : r.issued ≡ false → is_plain mode r.op ≡ false → list_any (waits_for mode r) requests ≡ list_any (is_issued_plain mode) requests
   queued_held waits queued = same_bool (list_any (waits_for mode r) requests) (list_any (is_issued_plain mode) requests) back ahead
     where
-      way : (o : Unanswered) → waits_for mode r o ≡ ((o.port.0 == r.port.0) && ((is_plain mode o.op && o.issued) || (nat_lt o.id.0 r.id.0 && (is_plain mode o.op || conflict_by_flush_or_overlap o r))))
+      way : (o : Unanswered) → waits_for mode r o ≡ ((o.port.0 == r.port.0) && ((is_plain mode o.op && o.issued) || (nat_lt o.id.0 r.id.0 && (is_plain mode o.op || conflict_on_port_by_flush_or_overlap o r))))
       way o = ap (λ (b : Bool). (o.port.0 == r.port.0) && b)
-          (cond-false (is_plain mode r.op) (o.issued || nat_lt o.id.0 r.id.0) ((is_plain mode o.op && o.issued) || (nat_lt o.id.0 r.id.0 && (is_plain mode o.op || conflict_by_flush_or_overlap o r))) queued)
+          (cond-false (is_plain mode r.op) (o.issued || nat_lt o.id.0 r.id.0) ((is_plain mode o.op && o.issued) || (nat_lt o.id.0 r.id.0 && (is_plain mode o.op || conflict_on_port_by_flush_or_overlap o r))) queued)
 
       ahead : list_any (is_issued_plain mode) requests ≡ true → list_any (waits_for mode r) requests ≡ true
       ahead is =
           let any = one_found (is_issued_plain mode) requests is in
           found (waits_for mode r) requests any.0 any.1 (way any.0 ∙ and_from _ _ (of_one_port any.0 any.1) (or_left (is_plain mode any.0.op && any.0.issued) _ any.2))
 
-      none_meets : (o : Unanswered) → Contains requests o → nat_lt o.id.0 r.id.0 ≡ true → is_plain mode o.op ≡ false → conflict_by_flush_or_overlap o r ≡ true → ⊥
+      none_meets : (o : Unanswered) → Contains requests o → nat_lt o.id.0 r.id.0 ≡ true → is_plain mode o.op ≡ false → conflict_on_port_by_flush_or_overlap o r ≡ true → ⊥
       none_meets o there less alone meets = both_ways _ reached.without_blocker
           (and_from (is_waiting_read_or_write r) _ (and_from (not r.issued) _ (ap not waits) (queued_is_read_or_write mode r.op queued))
           (found (may_block r) requests o there (and_from _ _ (and_from _ _ (of_one_port o there) less) meets)))
@@ -124,13 +124,13 @@ module _ (mode : QueueMode) (requests : List Unanswered) (i : ℕ) (r : Unanswer
           let parts = and_parts (o.port.0 == r.port.0) _ (sym (way o) ∙ any.2) in
           ⊎_elim
           (λ (b : (is_plain mode o.op && o.issued) ≡ true). found (is_issued_plain mode) requests o any.1 b)
-          (λ (b : (nat_lt o.id.0 r.id.0 && (is_plain mode o.op || conflict_by_flush_or_overlap o r)) ≡ true).
+          (λ (b : (nat_lt o.id.0 r.id.0 && (is_plain mode o.op || conflict_on_port_by_flush_or_overlap o r)) ≡ true).
           let less = and_parts (nat_lt o.id.0 r.id.0) _ b in
           let low = earlier o any.1 (ltb-true o.id.0 r.id.0 less.0) in
           let alone : is_plain mode o.op ≡ false = ap (λ (u : Unanswered). is_plain mode u.op) (sym any.1.2) ∙ reached.earlier_are_queued any.1.0 o low in
           absurd (⊎_elim
           (λ (p : is_plain mode o.op ≡ true). both_ways _ alone p)
-          (λ (m : conflict_by_flush_or_overlap o r ≡ true). none_meets o any.1 less.0 alone m)
+          (λ (m : conflict_on_port_by_flush_or_overlap o r ≡ true). none_meets o any.1 less.0 alone m)
           (or_cases (is_plain mode o.op) _ less.1)))
           (or_cases (is_plain mode o.op && o.issued) _ parts.1)
 

@@ -18,7 +18,7 @@ use Rattle.block_machine.specs.declared.due.Unanswered.{Unanswered}
 use Rattle.block_machine.specs.DueRequests.{IsInOrder, is_flush}
 use Rattle.request_queue.specs.declared.ranges.RequestRange.{RequestRange}
 use Rattle.block_machine.specs.DueRequests.{mark_issued, mark_waiting}
-use Rattle.request_queue.specs.BookEntries.{BookEntry, as_unanswered, unanswered_of, update_if_id, issued_request, waiting_again_request}
+use Rattle.request_queue.specs.BookEntries.{BookEntry, as_unanswered, unanswered_of, update_if_id, issued_request, request_with_issued_cleared}
 use Rattle.request_queue.proofs.Working.{after_issue, after_requeue}
 use Rattle.request_queue.proofs.PermutedPairs.{permuted_pairs}
 use Rattle.request_queue.specs.Sectors.{AreIndexed, IsSectorListOf, is_in_list, item_of, list_number_of_port}
@@ -289,7 +289,7 @@ pub issued_indexed : (es : List BookEntry) (id : RequestId) (lists : List (List 
 issued_indexed es id lists is = subst (λ (book : List Unanswered). AreIndexed book lists) (sym (after_issue es id))
     (changed_indexed (unanswered_of es) lists (mark_issued id) (λ r. (same_marked (r.id.0 == id.0) r true).0) (λ r. (same_marked (r.id.0 == id.0) r true).1) (λ r. (same_marked (r.id.0 == id.0) r true).2) is)
 
-pub requeued_indexed : (es : List BookEntry) (id : RequestId) (lists : List (List RequestRange)) → AreIndexed (unanswered_of es) lists → AreIndexed (unanswered_of (map (update_if_id id waiting_again_request) es)) lists
+pub requeued_indexed : (es : List BookEntry) (id : RequestId) (lists : List (List RequestRange)) → AreIndexed (unanswered_of es) lists → AreIndexed (unanswered_of (map (update_if_id id request_with_issued_cleared) es)) lists
 requeued_indexed es id lists is = subst (λ (book : List Unanswered). AreIndexed book lists) (sym (after_requeue es id))
     (changed_indexed (unanswered_of es) lists (mark_waiting id) (λ r. (same_marked (r.id.0 == id.0) r false).0) (λ r. (same_marked (r.id.0 == id.0) r false).1) (λ r. (same_marked (r.id.0 == id.0) r false).2) is)
 

@@ -10,7 +10,7 @@ use Rattle.ata_types.specs.declared.request.ClientId.{ClientId}
 use Rattle.ata_types.specs.declared.request.Frame.{Frame}
 use Rattle.ata_types.specs.declared.request.RequestId.{RequestId}
 use Rattle.dma_frames.specs.FrameTables.{OwnersAndLoans, lent_to, SetsLoanOnly}
-use Rattle.request_queue.specs.BookEntries.{BookEntry, IsWellFormedEntry, FramesAreLentToIt, has_id, update_if_id, without_entry, issued_request, waiting_again_request, aged_request, aged_entries, with_revoked_mark_if_under_grant, with_requests_under_grant_revoked}
+use Rattle.request_queue.specs.BookEntries.{BookEntry, IsWellFormedEntry, FramesAreLentToIt, has_id, update_if_id, without_entry, issued_request, request_with_issued_cleared, aged_request, aged_entries, with_revoked_mark_if_under_grant, with_requests_under_grant_revoked}
 use Rattle.request_queue.specs.declared.PendingRequest.{PendingRequest}
 use Rattle.request_queue.proofs.Members.{map_in}
 use Rattle.request_queue.proofs.Changing.{either_way, without_in}
@@ -92,8 +92,8 @@ at_one table id f keeps e a = go (has_id id e) refl
 pub all_issued : (table : OwnersAndLoans) (es : List BookEntry) (id : RequestId) → All (IsWellFormedEntry table) es → All (IsWellFormedEntry table) (map (update_if_id id issued_request) es)
 all_issued table es id all = all_changed table es (update_if_id id issued_request) (at_one table id issued_request (λ e a. further table e true (suc e.request.issue_count) 0 e.request.revoked a)) all
 
-pub all_requeued : (table : OwnersAndLoans) (es : List BookEntry) (id : RequestId) → All (IsWellFormedEntry table) es → All (IsWellFormedEntry table) (map (update_if_id id waiting_again_request) es)
-all_requeued table es id all = all_changed table es (update_if_id id waiting_again_request) (at_one table id waiting_again_request (λ e a. further table e false e.request.issue_count e.request.age e.request.revoked a)) all
+pub all_requeued : (table : OwnersAndLoans) (es : List BookEntry) (id : RequestId) → All (IsWellFormedEntry table) es → All (IsWellFormedEntry table) (map (update_if_id id request_with_issued_cleared) es)
+all_requeued table es id all = all_changed table es (update_if_id id request_with_issued_cleared) (at_one table id request_with_issued_cleared (λ e a. further table e false e.request.issue_count e.request.age e.request.revoked a)) all
 
 pub all_aged : (table : OwnersAndLoans) (es : List BookEntry) (ports : Port → Bool) → All (IsWellFormedEntry table) es → All (IsWellFormedEntry table) (aged_entries ports es)
 all_aged table es ports all = all_changed table es (λ (e : BookEntry). record e { request = aged_request ports e.request })

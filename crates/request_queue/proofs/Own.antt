@@ -14,7 +14,7 @@ use Rattle.block_machine.specs.declared.due.QueueMode.{QueueMode}
 use Rattle.block_machine.specs.declared.due.Unanswered.{Unanswered}
 use Rattle.block_machine.specs.DueRequests.{IsInOrder, is_plain, issued_count, free_slots, due_of}
 use Rattle.request_queue.specs.BookEntries.{BookEntry, as_unanswered, unanswered_of, due_ids}
-use Rattle.request_queue.specs.Blockers.{has_blocker, is_waiting_read_or_write, may_block, without_blocker}
+use Rattle.request_queue.specs.Blockers.{waiting_read_or_write_has_blocker, is_waiting_read_or_write, may_block, without_blocker}
 use Rattle.request_queue.specs.DueWalk.{IsReachedInWalk}
 use Rattle.request_queue.specs.RequestSlab.{unanswered_at, blank_request}
 use Rattle.request_queue.proofs.Members.{count_append, count_cons, taken_more}
@@ -45,7 +45,7 @@ own_issued port (x ∷ xs) own =
 -- the walk is over those of the port that have no blocker
 module _ (port : Port) (all book : List Unanswered) (is : book ≡ without_blocker port all) where
   abbrev p : Unanswered → Bool
-  p r = r.port.0 == port.0 && not (has_blocker all r)
+  p r = r.port.0 == port.0 && not (waiting_read_or_write_has_blocker all r)
 
   pub unheld_in_order : IsInOrder all → IsInOrder book
   unheld_in_order order = subst (λ (xs : List Unanswered). IsInOrder xs) (sym is) (AllPairs-filter (λ (a : Unanswered) (b : Unanswered). a.id.0 < b.id.0) p all order)
@@ -63,7 +63,7 @@ module _ (port : Port) (all book : List Unanswered) (is : book ≡ without_block
   of_port_of i r at k d lt = ap (λ (n : ℕ). record { 0 = n }) (eqb-true (get_or book k d).port.0 port.0 (own k d lt) ∙ sym (eqb-true r.port.0 port.0 (own_at i r at)))
 
   -- none of them has a blocker among them
-  unheld_at : (i : ℕ) (r : Unanswered) → slice_get book i ≡ Some r → has_blocker book r ≡ false
+  unheld_at : (i : ℕ) (r : Unanswered) → slice_get book i ≡ Some r → waiting_read_or_write_has_blocker book r ≡ false
   unheld_at i r at = false_from_ne_true _ (λ held.
       let two = and_parts (is_waiting_read_or_write r) _ held in
       let o = one_found (may_block r) book two.1 in

@@ -11,7 +11,7 @@ use Rattle.block_machine.specs.DueRequests.{IsDue, due_of}
 use Rattle.block_machine.specs.State.{unanswered, newly_unanswered}
 use Rattle.block_machine.specs.State as machine
 use Rattle.block_machine.specs.Steps as steps
-use Rattle.request_queue.specs.BookEntries.{BookEntry, as_unanswered, unanswered_of, has_id, update_if_id, without_entry, issued_request, waiting_again_request, aged_request, aged_entries, with_revoked_mark_if_under_grant, with_requests_under_grant_revoked, entry_count_of_client, due_ids}
+use Rattle.request_queue.specs.BookEntries.{BookEntry, as_unanswered, unanswered_of, has_id, update_if_id, without_entry, issued_request, request_with_issued_cleared, aged_request, aged_entries, with_revoked_mark_if_under_grant, with_requests_under_grant_revoked, entry_count_of_client, due_ids}
 use Rattle.request_queue.specs.BookRelation.{EntryRelation, BookRelation}
 use Rattle.request_queue.specs.declared.PendingRequest.{PendingRequest}
 use Rattle.request_queue.proofs.Members.{contains_none, contains_here, contains_there, contains_cases, count_cons, map_in, into_map}
@@ -107,7 +107,7 @@ at_both id f g step e p s = go (has_id id e) refl
 one_issued : (e : BookEntry) (p : machine.Pending) → EntryRelation e p → EntryRelation (record e { request = issued_request e.request }) (steps.newly_issued p)
 one_issued e p s = record { id = s.id; client = s.client; grant = s.grant; port = s.port; op = s.op; range = s.range; frames = s.frames; issued = refl; issues = ap suc s.issues; age = refl }
 
-one_waits : (e : BookEntry) (p : machine.Pending) → EntryRelation e p → EntryRelation (record e { request = waiting_again_request e.request }) (steps.requeued p)
+one_waits : (e : BookEntry) (p : machine.Pending) → EntryRelation e p → EntryRelation (record e { request = request_with_issued_cleared e.request }) (steps.requeued p)
 one_waits e p s = record { id = s.id; client = s.client; grant = s.grant; port = s.port; op = s.op; range = s.range; frames = s.frames; issued = refl; issues = s.issues; age = s.age }
 
 one_touched : (i : ℕ) (e : BookEntry) (p : machine.Pending) → EntryRelation e p → EntryRelation e (steps.touch i p)
@@ -151,8 +151,8 @@ goes_last es ps e p is last = zip_push EntryRelation es ps e p is last
 pub is_issued : (es : List BookEntry) (ps : List machine.Pending) (id : RequestId) → BookRelation es ps → BookRelation (map (update_if_id id issued_request) es) (map (steps.update_pending id steps.newly_issued) ps)
 is_issued es ps id is = zip_both EntryRelation (update_if_id id issued_request) (steps.update_pending id steps.newly_issued) (at_both id issued_request steps.newly_issued one_issued) es ps is
 
-pub waits_again : (es : List BookEntry) (ps : List machine.Pending) (id : RequestId) → BookRelation es ps → BookRelation (map (update_if_id id waiting_again_request) es) (map (steps.update_pending id steps.requeued) ps)
-waits_again es ps id is = zip_both EntryRelation (update_if_id id waiting_again_request) (steps.update_pending id steps.requeued) (at_both id waiting_again_request steps.requeued one_waits) es ps is
+pub waits_again : (es : List BookEntry) (ps : List machine.Pending) (id : RequestId) → BookRelation es ps → BookRelation (map (update_if_id id request_with_issued_cleared) es) (map (steps.update_pending id steps.requeued) ps)
+waits_again es ps id is = zip_both EntryRelation (update_if_id id request_with_issued_cleared) (steps.update_pending id steps.requeued) (at_both id request_with_issued_cleared steps.requeued one_waits) es ps is
 
 pub is_answered : (es : List BookEntry) (ps : List machine.Pending) (id : RequestId) → BookRelation es ps → BookRelation (without_entry id es) (steps.without_pending id ps)
 is_answered es ps id is = zip_filter EntryRelation (λ e. not (has_id id e)) (λ p. not (p.request.id.0 == id.0)) (λ e p s. ap (λ (i : RequestId). not (i.0 == id.0)) (sym s.id)) es ps is

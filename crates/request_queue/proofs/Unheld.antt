@@ -10,8 +10,8 @@ use Rattle.ata_types.specs.declared.request.Op.{Op}
 use Rattle.ata_types.specs.declared.request.Op.TheVariants.{Read, Write, Trim, Flush}
 use Rattle.block_machine.specs.declared.due.QueueMode.{QueueMode}
 use Rattle.block_machine.specs.declared.due.Unanswered.{Unanswered}
-use Rattle.block_machine.specs.DueRequests.{unblocked_ahead_count, conflict_by_flush_or_overlap, due_of, free_slots, waits_for, is_waiting_and_unblocked, is_due, is_earlier_on_port, is_flush, is_plain, issued_count}
-use Rattle.request_queue.specs.Blockers.{has_blocker, is_read_or_write, is_waiting_read_or_write, may_block, without_blocker}
+use Rattle.block_machine.specs.DueRequests.{unblocked_ahead_count, conflict_on_port_by_flush_or_overlap, due_of, free_slots, waits_for, is_waiting_and_unblocked, is_due, is_earlier_on_port, is_flush, is_plain, issued_count}
+use Rattle.request_queue.specs.Blockers.{waiting_read_or_write_has_blocker, is_read_or_write, is_waiting_read_or_write, may_block, without_blocker}
 use Rattle.request_queue.proofs.Members.{count_cons, contains_none, contains_here, contains_there, contains_cases}
 
 -- ---- tests and lists
@@ -100,14 +100,14 @@ no_flush Flush is = absurd (both_ways _ refl is)
 
 module _ (mode : QueueMode) (port : Port) (book : List Unanswered) where
   abbrev p : Unanswered → Bool
-  p r = r.port.0 == port.0 && not (has_blocker book r)
+  p r = r.port.0 == port.0 && not (waiting_read_or_write_has_blocker book r)
 
-  waits : (r : Unanswered) → has_blocker book r ≡ true → r.issued ≡ false
+  waits : (r : Unanswered) → waiting_read_or_write_has_blocker book r ≡ true → r.issued ≡ false
   waits r held = not-true r.issued (and_parts (not r.issued) _ (and_parts (is_waiting_read_or_write r) _ held).0).0
 
   -- its blocker was accepted before it, on its port
-  its_holder : (r : Unanswered) → has_blocker book r ≡ true → (o : Unanswered) × Contains book o × ((o.port.0 == r.port.0) ≡ true) × (o.id.0 < r.id.0)
-      × (conflict_by_flush_or_overlap o r ≡ true)
+  its_holder : (r : Unanswered) → waiting_read_or_write_has_blocker book r ≡ true → (o : Unanswered) × Contains book o × ((o.port.0 == r.port.0) ≡ true) × (o.id.0 < r.id.0)
+      × (conflict_on_port_by_flush_or_overlap o r ≡ true)
   its_holder r held =
       let any = one_found (may_block r) book (and_parts (is_waiting_read_or_write r) _ held).1 in
       let parts = and_parts (is_earlier_on_port any.0 r) _ any.2 in
@@ -115,12 +115,12 @@ module _ (mode : QueueMode) (port : Port) (book : List Unanswered) where
       (any.0, any.1, early.0, ltb-true any.0.id.0 r.id.0 early.1, parts.1)
 
   -- one with a blocker isn't clear
-  held_back : (r : Unanswered) → has_blocker book r ≡ true → is_waiting_and_unblocked mode book r ≡ false
+  held_back : (r : Unanswered) → waiting_read_or_write_has_blocker book r ≡ true → is_waiting_and_unblocked mode book r ≡ false
   held_back r held = false_from_ne_true _ (λ clear.
       let o = its_holder r held in
       both_ways _ (not-true _ (and_parts (not r.issued) _ clear).1) (found (waits_for mode r) book o.0 o.1 (by o.0 o.2 (lt-ltb o.0.id.0 r.id.0 o.3) o.4 (is_plain mode r.op) refl)))
     where
-      by : (o : Unanswered) → (o.port.0 == r.port.0) ≡ true → nat_lt o.id.0 r.id.0 ≡ true → conflict_by_flush_or_overlap o r ≡ true → (b : Bool) → is_plain mode r.op ≡ b → waits_for mode r o ≡ true
+      by : (o : Unanswered) → (o.port.0 == r.port.0) ≡ true → nat_lt o.id.0 r.id.0 ≡ true → conflict_on_port_by_flush_or_overlap o r ≡ true → (b : Bool) → is_plain mode r.op ≡ b → waits_for mode r o ≡ true
       by o same lt meets true plain = and_from _ _ same (cond-true (is_plain mode r.op) _ _ plain ∙ or_right o.issued _ lt)
       by o same lt meets false queued = and_from _ _ same
           (cond-false (is_plain mode r.op) _ _ queued ∙ or_right (is_plain mode o.op && o.issued) _ (and_from _ _ lt (or_right (is_plain mode o.op) _ meets)))
@@ -129,10 +129,10 @@ module _ (mode : QueueMode) (port : Port) (book : List Unanswered) where
   earliest : (bound : ℕ) (o : Unanswered) → o.id.0 < bound → Contains book o → (o.port.0 == port.0) ≡ true
       → (f : Unanswered) × Contains (without_blocker port book) f × (f.id.0 ≤ o.id.0) × ((f.port.0 == port.0) ≡ true)
   earliest zero o lt there own = absurd (omega (arith, lt))
-  earliest (suc bound) o lt there own = go (earliest bound) (has_blocker book o) refl
+  earliest (suc bound) o lt there own = go (earliest bound) (waiting_read_or_write_has_blocker book o) refl
     where
       go : ((u : Unanswered) → u.id.0 < bound → Contains book u → (u.port.0 == port.0) ≡ true → (f : Unanswered) × Contains (without_blocker port book) f × (f.id.0 ≤ u.id.0) × ((f.port.0 == port.0) ≡ true))
-          → (b : Bool) → has_blocker book o ≡ b → (f : Unanswered) × Contains (without_blocker port book) f × (f.id.0 ≤ o.id.0) × ((f.port.0 == port.0) ≡ true)
+          → (b : Bool) → waiting_read_or_write_has_blocker book o ≡ b → (f : Unanswered) × Contains (without_blocker port book) f × (f.id.0 ≤ o.id.0) × ((f.port.0 == port.0) ≡ true)
       go before true held =
           let u = its_holder o held in
           let less = u.3 in
@@ -153,19 +153,19 @@ module _ (mode : QueueMode) (port : Port) (book : List Unanswered) where
       o = any.0
 
       parts : ((o.port.0 == x.port.0) ≡ true) × (cond (is_plain mode x.op) (o.issued || nat_lt o.id.0 x.id.0)
-          ((is_plain mode o.op && o.issued) || (nat_lt o.id.0 x.id.0 && (is_plain mode o.op || conflict_by_flush_or_overlap o x))) ≡ true)
+          ((is_plain mode o.op && o.issued) || (nat_lt o.id.0 x.id.0 && (is_plain mode o.op || conflict_on_port_by_flush_or_overlap o x))) ≡ true)
       parts = and_parts (o.port.0 == x.port.0) _ any.2
 
-      mine : ((x.port.0 == port.0) ≡ true) × (not (has_blocker book x) ≡ true)
+      mine : ((x.port.0 == port.0) ≡ true) × (not (waiting_read_or_write_has_blocker book x) ≡ true)
       mine = and_parts (x.port.0 == port.0) _ passes
 
       own : (o.port.0 == port.0) ≡ true
       own = ap (λ (n : ℕ). o.port.0 == n) (sym (eqb-true x.port.0 port.0 mine.0)) ∙ parts.0
 
-      entry_with_id : p o ≡ false → has_blocker book o ≡ true
-      entry_with_id out = by (has_blocker book o) refl
+      entry_with_id : p o ≡ false → waiting_read_or_write_has_blocker book o ≡ true
+      entry_with_id out = by (waiting_read_or_write_has_blocker book o) refl
         where
-          by : (b : Bool) → has_blocker book o ≡ b → has_blocker book o ≡ true
+          by : (b : Bool) → waiting_read_or_write_has_blocker book o ≡ b → waiting_read_or_write_has_blocker book o ≡ true
           by true is = is
           by false is = absurd (both_ways _ out (and_from _ _ own (ap not is)))
 
@@ -180,25 +180,25 @@ module _ (mode : QueueMode) (port : Port) (book : List Unanswered) where
           (and_from _ _ same (cond-true (is_plain mode x.op) _ _ plain ∙ or_right f.0.issued _ (lt-ltb f.0.id.0 x.id.0 (omega (arith, low, lt)))))
 
       -- a queued one would have a blocker
-      none : has_blocker book o ≡ true → nat_lt o.id.0 x.id.0 ≡ true → is_plain mode x.op ≡ false → conflict_by_flush_or_overlap o x ≡ true → ⊥
+      none : waiting_read_or_write_has_blocker book o ≡ true → nat_lt o.id.0 x.id.0 ≡ true → is_plain mode x.op ≡ false → conflict_on_port_by_flush_or_overlap o x ≡ true → ⊥
       none held less queued meets =
           both_ways _ (not-true _ mine.1)
           (and_from (is_waiting_read_or_write x) _ (and_from (not x.issued) _ (ap not free) (queued_is_read_or_write mode x.op queued))
           (found (may_block x) book o any.1 (and_from _ _ (and_from _ _ parts.0 less) meets)))
 
-      out_of : has_blocker book o ≡ true → (b : Bool) → is_plain mode x.op ≡ b → list_any (waits_for mode x) (without_blocker port book) ≡ true
+      out_of : waiting_read_or_write_has_blocker book o ≡ true → (b : Bool) → is_plain mode x.op ≡ b → list_any (waits_for mode x) (without_blocker port book) ≡ true
       out_of held true plain = ⊎_elim
           (λ (issued : o.issued ≡ true). absurd (both_ways _ (waits o held) issued))
           (λ (less : nat_lt o.id.0 x.id.0 ≡ true). first less plain)
           (or_cases o.issued _ (sym (cond-true (is_plain mode x.op) _ _ plain) ∙ parts.1))
       out_of held false queued = ⊎_elim
           (λ (alone : (is_plain mode o.op && o.issued) ≡ true). absurd (both_ways _ (waits o held) (and_parts (is_plain mode o.op) _ alone).1))
-          (λ (early : (nat_lt o.id.0 x.id.0 && (is_plain mode o.op || conflict_by_flush_or_overlap o x)) ≡ true).
+          (λ (early : (nat_lt o.id.0 x.id.0 && (is_plain mode o.op || conflict_on_port_by_flush_or_overlap o x)) ≡ true).
           let two = and_parts (nat_lt o.id.0 x.id.0) _ early in
           let read_or_write = (and_parts (not o.issued) _ (and_parts (is_waiting_read_or_write o) _ held).0).1 in
           absurd (⊎_elim
           (λ (plain : is_plain mode o.op ≡ true). both_ways _ (queued_with mode x.op o.op queued read_or_write) plain)
-          (λ (meets : conflict_by_flush_or_overlap o x ≡ true). none held two.0 queued meets)
+          (λ (meets : conflict_on_port_by_flush_or_overlap o x ≡ true). none held two.0 queued meets)
           (or_cases (is_plain mode o.op) _ two.1)))
           (or_cases (is_plain mode o.op && o.issued) _ (sym (cond-false (is_plain mode x.op) _ _ queued) ∙ parts.1))
 
@@ -219,9 +219,9 @@ module _ (mode : QueueMode) (port : Port) (book : List Unanswered) where
       go false free = ap (λ (b : Bool). not x.issued && not b) (same_bool (list_any (waits_for mode x) (without_blocker port book)) (list_any (waits_for mode x) book) fewer (still_back x passes free))
 
   out_of_way : (x : Unanswered) → p x ≡ false → (x.port.0 == port.0) ≡ true → is_waiting_and_unblocked mode book x ≡ false
-  out_of_way x out own = by (has_blocker book x) refl
+  out_of_way x out own = by (waiting_read_or_write_has_blocker book x) refl
     where
-      by : (b : Bool) → has_blocker book x ≡ b → is_waiting_and_unblocked mode book x ≡ false
+      by : (b : Bool) → waiting_read_or_write_has_blocker book x ≡ b → is_waiting_and_unblocked mode book x ≡ false
       by true held = held_back x held
       by false free = absurd (both_ways _ out (and_from _ _ own (ap not free)))
 
@@ -243,10 +243,10 @@ module _ (mode : QueueMode) (port : Port) (book : List Unanswered) where
       go o true passes = sym (ap (λ (c : Bool). c && (o.port.0 == port.0 && o.issued)) passes)
       go o false out = false_from_ne_true _ (λ both.
           let two = and_parts (o.port.0 == port.0) _ both in
-          by o out two.0 two.1 (has_blocker book o) refl)
+          by o out two.0 two.1 (waiting_read_or_write_has_blocker book o) refl)
           ∙ sym (ap (λ (c : Bool). c && (o.port.0 == port.0 && o.issued)) out)
         where
-          by : (o : Unanswered) → p o ≡ false → (o.port.0 == port.0) ≡ true → o.issued ≡ true → (b : Bool) → has_blocker book o ≡ b → ⊥
+          by : (o : Unanswered) → p o ≡ false → (o.port.0 == port.0) ≡ true → o.issued ≡ true → (b : Bool) → waiting_read_or_write_has_blocker book o ≡ b → ⊥
           by o out own issued true held = both_ways _ (waits o held) issued
           by o out own issued false free = both_ways _ out (and_from _ _ own (ap not free))
 

@@ -12,7 +12,7 @@ use Rattle.ata_types.specs.declared.Port.{Port}
 use Rattle.ata_types.specs.declared.request.RequestId.{RequestId}
 use Rattle.block_machine.specs.declared.due.QueueMode.{QueueMode}
 use Rattle.block_machine.specs.declared.due.Unanswered.{Unanswered}
-use Rattle.block_machine.specs.DueRequests.{IsInOrder, conflict_by_flush_or_overlap, waits_for, is_plain, is_waiting_and_unblocked, unblocked_ahead_count, free_slots, is_due, due_ahead_count}
+use Rattle.block_machine.specs.DueRequests.{IsInOrder, conflict_on_port_by_flush_or_overlap, waits_for, is_plain, is_waiting_and_unblocked, unblocked_ahead_count, free_slots, is_due, due_ahead_count}
 use Rattle.request_queue.proofs.Members.{taken_more, count_least, none_pass}
 
 turn : (a b c : Bool) → ((a && b) && c) ≡ (b && (a && c))
@@ -122,7 +122,7 @@ module _ (before : StandBefore) (by_due : SlotsByDue) (mode : QueueMode) (port :
           held (and_from _ _ same (cond-true (is_plain mode o.op) _ _ plain ∙ or_right r.issued _ lt))
       by same lt held own slot false queued last = ⊎_elim
           (λ (alone : is_plain mode r.op ≡ true).
-          held (and_from _ _ same (cond-false (is_plain mode o.op) _ _ queued ∙ or_right (is_plain mode r.op && r.issued) _ (and_from _ _ lt (or_left (is_plain mode r.op) (conflict_by_flush_or_overlap r o) alone)))))
+          held (and_from _ _ same (cond-false (is_plain mode o.op) _ _ queued ∙ or_right (is_plain mode r.op && r.issued) _ (and_from _ _ lt (or_left (is_plain mode r.op) (conflict_on_port_by_flush_or_overlap r o) alone)))))
           (λ (spent : not (nat_lt given (free_slots mode book port)) ≡ true).
           let few = ⊎_elim
           (λ (plain : is_plain mode o.op ≡ true). absurd (both_ways _ queued plain))

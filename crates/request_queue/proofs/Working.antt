@@ -6,8 +6,8 @@ use Rattle.ata_types.specs.declared.request.ClientId.{ClientId}
 use Rattle.ata_types.specs.declared.request.RequestId.{RequestId}
 use Rattle.block_machine.specs.declared.due.QueueMode.{QueueMode}
 use Rattle.block_machine.specs.declared.due.Unanswered.{Unanswered}
-use Rattle.block_machine.specs.DueRequests.{IsDue, with_issued, with_waiting, without_request, AreAllDueInOrder}
-use Rattle.request_queue.specs.BookEntries.{BookEntry, as_unanswered, unanswered_of, has_id, update_if_id, without_entry, issued_request, waiting_again_request, aged_request, aged_entries, with_revoked_mark_if_under_grant, with_requests_under_grant_revoked, IsWaiting}
+use Rattle.block_machine.specs.DueRequests.{IsDue, with_issued, with_waiting, without_request, AreDueInTurnAndLeaveNoneDue}
+use Rattle.request_queue.specs.BookEntries.{BookEntry, as_unanswered, unanswered_of, has_id, update_if_id, without_entry, issued_request, request_with_issued_cleared, aged_request, aged_entries, with_revoked_mark_if_under_grant, with_requests_under_grant_revoked, IsWaiting}
 use Rattle.request_queue.specs.declared.PendingRequest.{PendingRequest}
 use Rattle.request_queue.proofs.Members.{map_in}
 use Rattle.request_queue.proofs.Changing.{all_asked, older_spares, revoked_spares}
@@ -42,8 +42,8 @@ changed id f g same (e ∷ es) = go (has_id id e) refl (changed id f g same es)
 pub after_issue : (es : List BookEntry) (id : RequestId) → unanswered_of (map (update_if_id id issued_request) es) ≡ with_issued id (unanswered_of es)
 after_issue es id = changed id issued_request (λ u. record u { issued = true }) (λ r. refl) es
 
-pub after_requeue : (es : List BookEntry) (id : RequestId) → unanswered_of (map (update_if_id id waiting_again_request) es) ≡ with_waiting id (unanswered_of es)
-after_requeue es id = changed id waiting_again_request (λ u. record u { issued = false }) (λ r. refl) es
+pub after_requeue : (es : List BookEntry) (id : RequestId) → unanswered_of (map (update_if_id id request_with_issued_cleared) es) ≡ with_waiting id (unanswered_of es)
+after_requeue es id = changed id request_with_issued_cleared (λ u. record u { issued = false }) (λ r. refl) es
 
 pub after_answer : (es : List BookEntry) (id : RequestId) → unanswered_of (without_entry id es) ≡ without_request id (unanswered_of es)
 after_answer [] id = refl
@@ -62,9 +62,9 @@ after_revoke es client grant = all_asked (with_revoked_mark_if_under_grant clien
 
 -- ---- a walk that issues
 
-pub head_of : (mode : QueueMode) (port : Port) (ids : List RequestId) (id : RequestId) (es : List BookEntry) → AreAllDueInOrder mode port (id ∷ ids) (unanswered_of es)
-    → IsWaiting id es × AreAllDueInOrder mode port ids (unanswered_of (map (update_if_id id issued_request) es))
+pub head_of : (mode : QueueMode) (port : Port) (ids : List RequestId) (id : RequestId) (es : List BookEntry) → AreDueInTurnAndLeaveNoneDue mode port (id ∷ ids) (unanswered_of es)
+    → IsWaiting id es × AreDueInTurnAndLeaveNoneDue mode port ids (unanswered_of (map (update_if_id id issued_request) es))
 head_of mode port ids id es turn = (
   subst (λ (x : RequestId). IsWaiting x es) turn.0.1 (due_waits mode es turn.0.0 turn.0.3),
-  subst (λ (us : List Unanswered). AreAllDueInOrder mode port ids us) (sym (after_issue es id)) turn.1,
+  subst (λ (us : List Unanswered). AreDueInTurnAndLeaveNoneDue mode port ids us) (sym (after_issue es id)) turn.1,
 )

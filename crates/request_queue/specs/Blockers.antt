@@ -6,7 +6,7 @@ use Rattle.ata_types.specs.declared.Port.{Port}
 use Rattle.ata_types.specs.declared.request.Op.{Op}
 use Rattle.ata_types.specs.declared.request.Op.TheVariants.{Read, Write, Trim, Flush}
 use Rattle.ata_types.specs.declared.request.RequestId.{RequestId}
-use Rattle.block_machine.specs.DueRequests.{conflict_by_flush_or_overlap, is_earlier_on_port}
+use Rattle.block_machine.specs.DueRequests.{conflict_on_port_by_flush_or_overlap, is_earlier_on_port}
 use Rattle.block_machine.specs.declared.due.Unanswered.{Unanswered}
 use Rattle.request_queue.specs.declared.blocker.TheConstants.{NOBODY}
 
@@ -24,15 +24,15 @@ is_waiting_read_or_write r = not r.issued && is_read_or_write r.op
 
 -- the other was accepted before the request, and conflicts with it
 abbrev pub may_block : Unanswered → Unanswered → Bool
-may_block r other = is_earlier_on_port other r && conflict_by_flush_or_overlap other r
+may_block r other = is_earlier_on_port other r && conflict_on_port_by_flush_or_overlap other r
 
 -- the request is a waiting read or write, and one of the book may hold it
-abbrev pub has_blocker : List Unanswered → Unanswered → Bool
-has_blocker book r = is_waiting_read_or_write r && list_any (may_block r) book
+abbrev pub waiting_read_or_write_has_blocker : List Unanswered → Unanswered → Bool
+waiting_read_or_write_has_blocker book r = is_waiting_read_or_write r && list_any (may_block r) book
 
 -- The request's blocker is the one of the book with this id. None says that it has no blocker.
 abbrev pub IsBlockerOf : List Unanswered → Unanswered → Option RequestId → Type 0
-IsBlockerOf book r None = has_blocker book r ≡ false
+IsBlockerOf book r None = waiting_read_or_write_has_blocker book r ≡ false
 IsBlockerOf book r (Some id) = (is_waiting_read_or_write r ≡ true)
     × ((other : Unanswered) × Contains book other × (other.id ≡ id) × (may_block r other ≡ true))
 
@@ -64,4 +64,4 @@ pub record AreBlockersExceptOf (id : RequestId) (place : ℕ) (book : List Unans
 
 -- the requests of the port that have no blocker, in order of acceptance
 abbrev pub without_blocker : Port → List Unanswered → List Unanswered
-without_blocker port book = filter (λ r. r.port.0 == port.0 && not (has_blocker book r)) book
+without_blocker port book = filter (λ r. r.port.0 == port.0 && not (waiting_read_or_write_has_blocker book r)) book

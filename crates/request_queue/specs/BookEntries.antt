@@ -59,8 +59,8 @@ abbrev pub issued_request : PendingRequest → PendingRequest
 issued_request r = record r { issued = true; issue_count = suc r.issue_count; age = 0 }
 
 -- the request waiting again
-abbrev pub waiting_again_request : PendingRequest → PendingRequest
-waiting_again_request r = record r { issued = false }
+abbrev pub request_with_issued_cleared : PendingRequest → PendingRequest
+request_with_issued_cleared r = record r { issued = false }
 
 -- The request a tick older, if it is issued on one of these ports. An age counts to three: what it would be beyond
 -- nobody asks.

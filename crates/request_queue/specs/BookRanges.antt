@@ -14,8 +14,8 @@ item_end x = range_end x.range
 
 -- The other item is of the same port, was accepted before this one, and conflicts with it: they have a sector in
 -- common, and one of the two writes.
-abbrev pub is_earlier_conflict : RequestRange → RequestRange → Bool
-is_earlier_conflict x other = other.port.0 == x.port.0
+abbrev pub is_earlier_conflict_on_port : RequestRange → RequestRange → Bool
+is_earlier_conflict_on_port x other = other.port.0 == x.port.0
     && (nat_lt other.id.0 x.id.0 && ((other.changes_sectors || x.changes_sectors) && are_overlapping other.range
     x.range))
 

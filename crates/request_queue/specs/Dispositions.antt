@@ -5,7 +5,7 @@ use Rattle.ata_types.specs.declared.request.Outcome.TheVariants.{Aborted, Device
 use Rattle.ata_types.specs.declared.request.Reply.{Reply}
 use Rattle.dma_frames.specs.Loan.{Lending}
 use Rattle.dma_frames.specs.FrameTables.{OwnersAndLoans, SetsLoanOnly}
-use Rattle.request_queue.specs.BookEntries.{BookEntry, GivesBack, update_if_id, waiting_again_request, without_entry}
+use Rattle.request_queue.specs.BookEntries.{BookEntry, GivesBack, update_if_id, request_with_issued_cleared, without_entry}
 use Rattle.request_queue.specs.declared.PendingRequest.{PendingRequest}
 use Rattle.request_queue.specs.declared.disposition.FailedRequest.{FailedRequest}
 use Rattle.request_queue.specs.declared.disposition.Disposition.{Disposition}
@@ -60,7 +60,7 @@ KeepsOrEndsLoan false request old new = (new.kept ≡ old.kept) × SetsLoanOnly 
 abbrev pub IsResolved : BookEntry → Disposition → List Reply → BookAndLoans → BookAndLoans → Type 0
 IsResolved request Wait replies old new = (replies ≡ []) × (new ≡ old)
 IsResolved request Requeue replies old new = (replies ≡ [])
-    × (new ≡ record old { book = map (update_if_id request.request.id waiting_again_request) old.book })
+    × (new ≡ record old { book = map (update_if_id request.request.id request_with_issued_cleared) old.book })
 IsResolved request (Complete outcome) replies old new =
     (replies ≡ reply_to request outcome ∷ []) × (new.book ≡ without_entry request.request.id old.book)
     × KeepsOrEndsLoan (keeps_loan outcome request.request) request old new

@@ -4,7 +4,7 @@ use Rattle.std.specs.List.{list_any}
 use Rattle.block_machine.specs.DueRequests.{IsInOrder, is_plain}
 use Rattle.block_machine.specs.declared.due.QueueMode.{QueueMode}
 use Rattle.block_machine.specs.declared.due.Unanswered.{Unanswered}
-use Rattle.request_queue.specs.Blockers.{has_blocker}
+use Rattle.request_queue.specs.Blockers.{waiting_read_or_write_has_blocker}
 use Rattle.request_queue.specs.declared.due.IssuedTally.{IssuedTally}
 
 -- the request is issued, and goes alone
@@ -29,6 +29,6 @@ pub record IsReachedInWalk (mode : QueueMode) (requests : List Unanswered) (numb
   pub request_is_at_number : slice_get requests number ≡ Some r
   pub book_is_in_order : IsInOrder requests
   pub all_are_of_its_port : All (λ other. other.port ≡ r.port) requests
-  pub without_blocker : has_blocker requests r ≡ false
+  pub without_blocker : waiting_read_or_write_has_blocker requests r ≡ false
   pub earlier_are_queued : (k : ℕ) (d : Unanswered) → k < number → is_plain mode (slice_index_or requests k d).op
       ≡ false

@@ -3,7 +3,7 @@ ghost use Rattle.std.specs.Prelude.{◌≡◌, ◌&&◌, ◌==◌, ◌↔◌, �
 ghost use Rattle.block_machine.specs.{DueRequests.{is_due}, Rules.{HasNoFault, is_same_grant_name}};
 ghost use Rattle.dma_frames.specs.FrameTables.{SetsLoanOnly, lent_to, owner_of};
 ghost use Rattle.request_queue.specs.{BookIndexes.{IndexesMatch}, Blockers.{AreBlockers}};
-ghost use Rattle.request_queue.specs.BookEntries.{due_ids, BookEntry, GivesBack, IsEarlier, IsNewlyAccepted, BookIsWellFormed, IsUnanswered, IsWaiting, IsIssuedBelowLimit, FramesAreLentToIt, HasAnyOverdue, HasOverdueOn, IsOverdueOn, aged_entries, unanswered_of, update_if_id, ids_where, is_among, is_of_port, issued_request, due_id_if_alone_in_book, aged_request, waiting_again_request, with_requests_under_grant_revoked, with_revoked_mark_if_under_grant, entry_count_of_client, waits_under, without_entry};
+ghost use Rattle.request_queue.specs.BookEntries.{due_ids, BookEntry, GivesBack, IsEarlier, IsNewlyAccepted, BookIsWellFormed, IsUnanswered, IsWaiting, IsIssuedBelowLimit, FramesAreLentToIt, HasAnyOverdue, HasOverdueOn, IsOverdueOn, aged_entries, unanswered_of, update_if_id, ids_where, is_among, is_of_port, issued_request, due_id_if_alone_in_book, aged_request, request_with_issued_cleared, with_requests_under_grant_revoked, with_revoked_mark_if_under_grant, entry_count_of_client, waits_under, without_entry};
 
 use crate::PendingRequest;
 use crate::blocker::Blocker;
@@ -201,7 +201,7 @@ impl Book {
     /// Notes that a request which was issued fewer than four times waits again, in its old place and with its loan.
     pub fn requeue(&mut self, id: RequestId)
         requires { IsIssuedBelowLimit id self.old }
-        ensures { self.new ≡ map (update_if_id id waiting_again_request) self.old }
+        ensures { self.new ≡ map (update_if_id id request_with_issued_cleared) self.old }
     {
         let place = place_of(&self.store, id);
         let old = self.store.request(place);

@@ -1,9 +1,9 @@
 //! Laws of the definitions, for callers: the clause is the theorem. These functions do nothing.
 ghost use Rattle.std.specs.Prelude.{◌≡◌, ◌≢◌, ◌↔◌, ◌++◌, ◌∷◌, ◌<◌, ◌≤◌, [], ℕ, Bool, false, List, Option, None, Some, All, Contains, filter, length, map};
 ghost use Rattle.ata_types.specs.{declared.Port.{Port}, declared.request.ClientId.{ClientId}, declared.request.Frame.{Frame}, declared.request.Outcome.{Outcome}, declared.request.Reply.{Reply}, declared.request.RequestId.{RequestId}};
-ghost use Rattle.block_machine.specs.{DueRequests.{AreAllDueInOrder, IsDue, IsInOrder, with_issued, without_request, with_waiting}, State.{Machine, unanswered}, declared.due.QueueMode.{QueueMode}, declared.due.Unanswered.{Unanswered}};
+ghost use Rattle.block_machine.specs.{DueRequests.{AreDueInTurnAndLeaveNoneDue, IsDue, IsInOrder, with_issued, without_request, with_waiting}, State.{Machine, unanswered}, declared.due.QueueMode.{QueueMode}, declared.due.Unanswered.{Unanswered}};
 ghost use Rattle.dma_frames.specs.FrameTables.{OwnersAndLoans, SetsLoanOnly, lent_to};
-ghost use Rattle.request_queue.specs.{BookEntries.{BookEntry, IsWellFormedEntry, IsEarlier, IsNewlyAccepted, BookIsWellFormed, IsUnanswered, IsWaiting, IsIssuedBelowLimit, FramesAreLentToIt, aged_entries, unanswered_of, update_if_id, due_ids, entry_with_id, issued_request, waiting_again_request, with_requests_under_grant_revoked, entry_count_of_client, without_entry}, Dispositions.{CompletesAllWith, BookAndLoans, AreResolved, keeps_loan}};
+ghost use Rattle.request_queue.specs.{BookEntries.{BookEntry, IsWellFormedEntry, IsEarlier, IsNewlyAccepted, BookIsWellFormed, IsUnanswered, IsWaiting, IsIssuedBelowLimit, FramesAreLentToIt, aged_entries, unanswered_of, update_if_id, due_ids, entry_with_id, issued_request, request_with_issued_cleared, with_requests_under_grant_revoked, entry_count_of_client, without_entry}, Dispositions.{CompletesAllWith, BookAndLoans, AreResolved, keeps_loan}};
 ghost use Rattle.request_queue.specs.{BookRelation.{BookRelation, EntryRelation}, declared.PendingRequest.{PendingRequest}, declared.disposition.Disposition.TheVariants.{Complete}};
 ghost use Rattle.block_machine.specs.State as machine;
 ghost use Rattle.block_machine.specs.Steps as steps;
@@ -39,7 +39,7 @@ pub fn law_book_changes_match_machine_steps()
         → BookRelation (map (update_if_id p.request.id issued_request) entries)
         (steps.after_step m (steps.Issue mode p)).book }
     ensures again { (entries : List BookEntry) (m : Machine) (p : machine.Pending) → BookRelation entries m.book
-        → BookRelation (map (update_if_id p.request.id waiting_again_request) entries)
+        → BookRelation (map (update_if_id p.request.id request_with_issued_cleared) entries)
         (steps.after_step m (steps.WaitAgain p)).book }
     ensures answer { (entries : List BookEntry) (m : Machine) (p : machine.Pending) (outcome : Outcome)
         → BookRelation entries m.book
@@ -73,7 +73,7 @@ pub fn law_unanswered_follow_book_operations()
         → unanswered_of (map (update_if_id id issued_request) entries)
         ≡ with_issued id (unanswered_of entries) }
     ensures requeue { (entries : List BookEntry) (id : RequestId)
-        → unanswered_of (map (update_if_id id waiting_again_request) entries) ≡ with_waiting id
+        → unanswered_of (map (update_if_id id request_with_issued_cleared) entries) ≡ with_waiting id
         (unanswered_of entries) }
     ensures answer { (entries : List BookEntry) (id : RequestId)
         → unanswered_of (without_entry id entries) ≡ without_request id (unanswered_of entries) }
@@ -88,11 +88,11 @@ pub fn law_unanswered_follow_book_operations()
 pub fn law_due_requests_go_in_turn()
     ensures each_due_is_due_after_those_before { (mode : QueueMode) (port : Port) (entries : List BookEntry)
         → BookIsWellFormed entries
-        → AreAllDueInOrder mode port (due_ids mode port (unanswered_of entries)) (unanswered_of entries) }
+        → AreDueInTurnAndLeaveNoneDue mode port (due_ids mode port (unanswered_of entries)) (unanswered_of entries) }
     ensures first_waits_rest_is_due { (mode : QueueMode) (port : Port) (id : RequestId) (ids : List RequestId)
         (entries : List BookEntry)
-        → AreAllDueInOrder mode port (id ∷ ids) (unanswered_of entries)
-        → IsWaiting id entries × AreAllDueInOrder mode port ids
+        → AreDueInTurnAndLeaveNoneDue mode port (id ∷ ids) (unanswered_of entries)
+        → IsWaiting id entries × AreDueInTurnAndLeaveNoneDue mode port ids
         (unanswered_of (map (update_if_id id issued_request) entries)) }
 {
     law_issuing_due_in_turn_leaves_none_due();
@@ -155,7 +155,7 @@ pub fn law_book_stays_well_formed()
         → BookIsWellFormed (map (update_if_id id issued_request) entries) }
     ensures requeued { (entries : List BookEntry) (id : RequestId) → BookIsWellFormed entries
         → IsIssuedBelowLimit id entries
-        → BookIsWellFormed (map (update_if_id id waiting_again_request) entries) }
+        → BookIsWellFormed (map (update_if_id id request_with_issued_cleared) entries) }
     ensures aged { (entries : List BookEntry) (ports : Port → Bool) → BookIsWellFormed entries
         → BookIsWellFormed (aged_entries ports entries) }
     ensures revoked { (entries : List BookEntry) (client : ClientId) (grant : ℕ) → BookIsWellFormed entries
@@ -191,7 +191,7 @@ pub fn law_entries_stay_well_formed()
         → All (IsWellFormedEntry table) (map (update_if_id id issued_request) entries) }
     ensures requeued { (table : OwnersAndLoans) (entries : List BookEntry) (id : RequestId)
         → All (IsWellFormedEntry table) entries
-        → All (IsWellFormedEntry table) (map (update_if_id id waiting_again_request) entries) }
+        → All (IsWellFormedEntry table) (map (update_if_id id request_with_issued_cleared) entries) }
     ensures aged { (table : OwnersAndLoans) (entries : List BookEntry) (ports : Port → Bool)
         → All (IsWellFormedEntry table) entries → All (IsWellFormedEntry table) (aged_entries ports entries) }
     ensures revoked { (table : OwnersAndLoans) (entries : List BookEntry) (client : ClientId) (grant : ℕ)

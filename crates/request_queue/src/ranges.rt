@@ -5,7 +5,7 @@
 //! contract says what is found.) `new` alone takes memory. Ids tell which request is earlier.
 ghost use Rattle.std.specs.{Prelude.{◌≡◌, ◌≢◌, ◌↔◌, ℕ, ◌<◌, ◌≤◌, length, All, Contains, IfNone, IfOk, IfSome, IsTrue, Some, false, true, [], slice_get, slice_index_or, insert, remove, vec_capacity}, List.{list_any}};
 ghost use Rattle.ata_types.specs.Range.{range_end};
-ghost use Rattle.request_queue.specs.{BookRanges.{AreSorted, StandsBefore, EndIsGreatestUpTo, is_earlier_conflict}, declared.ranges.IndexEntry.{IndexEntry}, declared.ranges.RequestRange.{RequestRange}, RangeIndex.{NextEndIsGreatestIfThis, IsSortedWithGreatestEndSoFar, items_of}};
+ghost use Rattle.request_queue.specs.{BookRanges.{AreSorted, StandsBefore, EndIsGreatestUpTo, is_earlier_conflict_on_port}, declared.ranges.IndexEntry.{IndexEntry}, declared.ranges.RequestRange.{RequestRange}, RangeIndex.{NextEndIsGreatestIfThis, IsSortedWithGreatestEndSoFar, items_of}};
 ghost use Rattle.block_machine.specs.DueRequests as machine;
 
 use ata_types::{MOST_UNANSWERED_OF_ALL_CLIENTS, Port, Range, RequestId};
@@ -89,16 +89,16 @@ impl RangeIndex {
 
     /// An item that was accepted before this one and conflicts with it, if there is one.
     pub fn earlier_conflict(&self, item: &RequestRange) -> Option<RequestRange>
-        ensures none_conflicts { IfNone result (list_any (is_earlier_conflict item.now) self.now ≡ false) }
-        ensures found { IfSome result (λ x. Contains self.now x × (is_earlier_conflict item.now x ≡ true)) }
+        ensures none_conflicts { IfNone result (list_any (is_earlier_conflict_on_port item.now) self.now ≡ false) }
+        ensures found { IfSome result (λ x. Contains self.now x × (is_earlier_conflict_on_port item.now x ≡ true)) }
     {
         earlier_conflict(self.entries.as_slice(), item)
     }
 }
 
 /// Whether the other item is of the same port, was accepted before this one, and conflicts with it.
-pub fn is_earlier_conflict(item: &RequestRange, other: &RequestRange) -> bool
-    ensures { result ≡ is_earlier_conflict item.now other.now }
+pub fn is_earlier_conflict_on_port(item: &RequestRange, other: &RequestRange) -> bool
+    ensures { result ≡ is_earlier_conflict_on_port item.now other.now }
 {
     other.port.0 == item.port.0
         && other.id.0 < item.id.0
@@ -158,9 +158,10 @@ fn count_before(entries: &[IndexEntry], first: u128, id: u64) -> usize
 /// below this one's first sector: no range up to that entry reaches it.
 fn earlier_conflict(entries: &[IndexEntry], item: &RequestRange) -> Option<RequestRange>
     requires { IsSortedWithGreatestEndSoFar entries.now }
-    ensures none_conflicts { IfNone result (list_any (is_earlier_conflict item.now) (items_of entries.now) ≡ false) }
+    ensures none_conflicts { IfNone result (list_any (is_earlier_conflict_on_port item.now) (items_of entries.now)
+        ≡ false) }
     ensures found { IfSome result (λ x. Contains (items_of entries.now) x
-        × (is_earlier_conflict item.now x ≡ true)) }
+        × (is_earlier_conflict_on_port item.now x ≡ true)) }
 {
     let first = u128::from(item.range.first.0);
     // No id is below 0, so what begins where the item ends isn't counted.
@@ -170,7 +171,7 @@ fn earlier_conflict(entries: &[IndexEntry], item: &RequestRange) -> Option<Reque
         if entry.greatest_end <= first {
             return None;
         }
-        if is_earlier_conflict(item, &entry.item) {
+        if is_earlier_conflict_on_port(item, &entry.item) {
             return Some(entry.item);
         }
         past -= 1;

@@ -203,7 +203,7 @@ pub(crate) fn parse_bytes(word: &[u8]) -> Option<ArrayVec<u8, MOST_CALL_BYTES>>
 }
 
 /// One byte, as two lower-case hexadecimal digits.
-pub(crate) fn parse_byte(word: &[u8]) -> Option<u8>
+pub(crate) fn parse_hex_byte(word: &[u8]) -> Option<u8>
     ensures spelled { IfSome result (λ b. (b < 256) × (encode_lower (b ∷ []) ≡ word.now)) }
     ensures spelled_value_is_found { (b : ℕ) → b < 256 → encode_lower (b ∷ []) ≡ word.now → result ≡ Some b }
 {

@@ -69,7 +69,7 @@ fn lie(port: &[u8], page: &[u8], offset: &[u8], bits: &[u8]) -> Option<DeviceSte
     let port = fields::parse_port(port)?;
     let page = fields::parse_page(page)?;
     let offset = fields::parse_number(offset, 511)? as u16;
-    let bits = fields::parse_byte(bits)?;
+    let bits = fields::parse_hex_byte(bits)?;
     Some(DeviceStep::Lie(port, page, offset, bits))
 }
 
@@ -91,7 +91,7 @@ fn fault(port: &[u8], slot: &[u8], error: &[u8]) -> Option<DeviceStep>
 {
     let port = fields::parse_port(port)?;
     let slot = fields::parse_slot(slot)?;
-    let error = fields::parse_byte(error)?;
+    let error = fields::parse_hex_byte(error)?;
     Some(DeviceStep::Fault(port, slot, error))
 }
 
@@ -102,7 +102,7 @@ fn fault_busy(port: &[u8], slot: &[u8], error: &[u8]) -> Option<DeviceStep>
 {
     let port = fields::parse_port(port)?;
     let slot = fields::parse_slot(slot)?;
-    let error = fields::parse_byte(error)?;
+    let error = fields::parse_hex_byte(error)?;
     Some(DeviceStep::FaultBusy(port, slot, error))
 }
 
@@ -112,7 +112,7 @@ fn scribble(port: &[u8], byte: &[u8]) -> Option<DeviceStep>
     ensures only { FindsSpelledStep (codes "scribble" ∷ port.now ∷ byte.now ∷ []) result }
 {
     let port = fields::parse_port(port)?;
-    let byte = fields::parse_byte(byte)?;
+    let byte = fields::parse_hex_byte(byte)?;
     Some(DeviceStep::Scribble(port, byte))
 }
 

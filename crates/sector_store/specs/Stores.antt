@@ -23,8 +23,8 @@ abbrev pub first_untaken_sector : (room : List (List ℕ)) → ℕ → List ℕ
 first_untaken_sector room left = slice_index_or room (length room - left) []
 
 -- One more call has failed: a write, or else a read, of this sector.
-abbrev pub HasOneMoreFailure : Bool → ℕ → (was now : Option Failures) → Type 0
-HasOneMoreFailure is_write sector was now =
+abbrev pub RecordsOneMoreFailure : Bool → ℕ → (was now : Option Failures) → Type 0
+RecordsOneMoreFailure is_write sector was now =
     (f : Failures) × (was ≡ Some f)
     × (now ≡ Some (record {
       failed_calls = (f.failed_calls + 1) % 2 ^ 64;
@@ -41,7 +41,8 @@ pub record ReadsSector {S : Type 0} (size : S → ℕ) (told : S → Option (ℕ
   pub is_sector : done ≡ true → IsSectorBytes after
   pub place_is_kept : done ≡ false → after ≡ before
   pub no_call_fails : (done ≡ true) ⊎ (size old ≤ sector) → failures new ≡ failures old
-  pub failure_is_noted : done ≡ false → sector < size old → HasOneMoreFailure false sector (failures old) (failures new)
+  pub failure_is_noted : done ≡ false → sector < size old → RecordsOneMoreFailure false sector (failures old)
+      (failures new)
   pub contents_are_kept : told new ≡ told old
   pub size_is_kept : size new ≡ size old
 

@@ -34,7 +34,7 @@ use Rattle.refinement.specs.Slots.{Free, IsMove, Own, Serves, SlotState, SlotSta
 use Rattle.block_machine.specs.Ports.{PortsWellFormed, Ports}
 use Rattle.block_machine.specs.Rules.{HasGrantName}
 use Rattle.block_machine.specs.State.{Accepted, Machine, Pending}
-use Rattle.block_machine.specs.Steps.{Step, Accept, Age, WaitAgain, Answer, IsInBookOrKept, MayAccept, MayStillMove, after_step, is_kept_at_answer, Revoke}
+use Rattle.block_machine.specs.Steps.{Step, Accept, Age, WaitAgain, Answer, IsInBookOrKept, MayAccept, IsIssuedOrKept, after_step, is_kept_at_answer, Revoke}
 use Rattle.refinement.specs.PortFacts.{EndedOnPort, IsSlotClear, ShowsFault}
 use Rattle.dma_frames.specs.FrameTables.{OwnersAndLoans}
 use Rattle.request_queue.specs.BookEntries.{BookEntry, IsWellFormedEntry, BookIsWellFormed, aged_entries, unanswered_of}
@@ -101,7 +101,7 @@ pub record SlotLaws : Type 0 where
       → HasNoSlot (with_slot_freed_and_request_parked k port slot id).slot_states id
   pub ended_clear : (uses : SlotStates) (m : Machine) (d : Device) (port : Port) (slot : ℕ) (e : Pending)
       → IsReachable m
-      → StateRelation uses m d → MayStillMove m e → e.ended ≡ true → uses port.0 slot ≡ Serves e.request.id
+      → StateRelation uses m d → IsIssuedOrKept m e → e.ended ≡ true → uses port.0 slot ≡ Serves e.request.id
       → IsSlotClear (d.port port.0) slot × EndedOnPort m port e.request.id
   -- what becomes of requests that no slot serves
   pub answered_agrees : (k : DriverState) (m : Machine) (e : Pending) (outcome : Outcome) (later : ℕ → List RequestId)

@@ -15,7 +15,7 @@ use Rattle.hba_regs.specs.Bits.{bit}
 use Rattle.hba_regs.specs.declared.reg.PortReg.{PortReg}
 use Rattle.hba_regs.specs.declared.reg.PortReg.TheVariants.{Ci, Is, Sact, Sctl, Ssts}
 use Rattle.hba_regs.specs.declared.reg.Reg.TheVariants.{Ghc, Px}
-use Rattle.refinement.specs.Fragments.{IsDrivenBy, SparesOtherPorts, OnlyDeviceChangesPort, GainsNoMove, TapeGrows}
+use Rattle.refinement.specs.Fragments.{IsDrivenBy, AccessesNoOtherPort, OnlyDeviceChangesPort, GainsNoMove, TapeGrows}
 use Rattle.refinement.specs.Errors.{NoDiskComes, IsFatalEntryOf}
 use Rattle.refinement.specs.Laws.{FragmentLaws}
 use Rattle.refinement.specs.PortFacts.{IsHaltedPlainOrQueued, RecordsFaultsIfSt, RunsWell, ShowsNoTrouble, PxisValueTellsNoTrouble, Undisturbed, IsFaultOf}
@@ -25,8 +25,8 @@ use Rattle.block_machine.specs.Ports.{Evidence, IsStoppedOrStuck, Ports, SamePor
 use Rattle.driver_history.specs.Evidence.{IsEvidencedOf, ShowsLinkChange, ShowsFailure}
 use Rattle.error_recovery.specs.Evidence.{BringsLastLogPage, HasFailed, GainsSinceStart}
 use Rattle.driver_history.specs.Histories.{BootsAnewWhereRequired, HasOnlyTaskFileError, LosesNoPortError, RunsWellAnew, IsForeignOrUnfit, ProbesDisk}
-use Rattle.driver_history.specs.PortTurn.{HasTurnIn, EvidenceAgreesOn, call_accesses, ForeignOrUnfitShowingXEndsNoLinkDue}
-use Rattle.driver_history.specs.AccessTrace.{WritesOneToNoTroubleBit, ResetsLink}
+use Rattle.driver_history.specs.PortTurn.{HasTurnIn, EvidenceAgreesOn, call_accesses, UnusableWithXEndsNotDueAbsentOrDeadIfNoneComes}
+use Rattle.driver_history.specs.AccessTrace.{WritesOneToNoTroubleBit, LastSctlWritesResetLink}
 use Rattle.port_control.specs.Engines.{Stops}
 use Rattle.port_control.specs.PortEvents.{TakesEvent, port_event_of, IsPxisSstsOrOwnIsAccess}
 use Rattle.port_control.specs.ServiceAccesses.{ShowedLossOrHadPlugEvent, WritesOnlyHbaIsCiSactOrOtherPxIs, WritesOnlyHbaIsPxIsCiOrSact, HidesNoPlugEvent, HidesNoFatal, HidesNoFault}
@@ -104,7 +104,7 @@ pub record LookLaws : Type 0 where
   pub look_access_is_service_access : (port : Port) (access : Access) → IsPxisSstsOrOwnIsAccess port access
       → WritesOnlyHbaIsPxIsCiOrSact access
   pub look_access_is_of_port : (port : Port) (access : Access) → IsPxisSstsOrOwnIsAccess port access
-      → SparesOtherPorts port access
+      → AccessesNoOtherPort port access
   pub look_is_driven_by_its_accesses : (port : Port) (result : PortEvent) (old new : Device)
       → TakesEvent port result old new
       → IsDrivenBy (IsPxisSstsOrOwnIsAccess port) old new
@@ -180,7 +180,7 @@ pub record CallLaws : Type 0 where
       (new : Device)
       (turn call : Evidence) → IsOn old.device
       → (t : HasTurnIn port old.device new) → IsOn t.end
-      → (ended.state port ≡ Ready → ((old.device.port port.0).link_due ≡ false) ⊎ ResetsLink port t.turn)
+      → (ended.state port ≡ Ready → ((old.device.port port.0).link_due ≡ false) ⊎ LastSctlWritesResetLink port t.turn)
       → SamePort ended ports port → EvidenceAgreesOn port turn call
       → (ended.state port ≡ Ready → (t.end.port port.0).notes.st_set_at ≤ length t.end.tape)
       → RunsWellAnew turn t.turn (record { device = t.start; abstract = begun }) ended t.end port
@@ -191,7 +191,7 @@ pub record CallLaws : Type 0 where
       → IsOn old.device → (t : HasTurnIn port old.device new) → IsOn t.end → SamePort ended ports port
       → SamePort old.abstract.ports begun.ports port
       → (IsForeignOrUnfit old.abstract.ports port → HasDet3IfDiskPresent (old.device.port port.0))
-      → ForeignOrUnfitShowingXEndsNoLinkDue port (record { device = t.start; abstract = begun }) ended t.end
+      → UnusableWithXEndsNotDueAbsentOrDeadIfNoneComes port (record { device = t.start; abstract = begun }) ended t.end
       → (NoDiskComes port.0 t.start t.end → ProbesDisk t.turn
       (record { device = t.start; abstract = begun }) ended t.end
       port)
@@ -200,8 +200,8 @@ pub record CallLaws : Type 0 where
       (ended ports : Ports) (new : Device)
       → IsOn old.device → (t : HasTurnIn port old.device new) → IsOn t.end → SamePort ended ports port
       → SamePort old.abstract.ports begun.ports port
-      → ForeignOrUnfitShowingXEndsNoLinkDue port (record { device = t.start; abstract = begun }) ended
-      t.end → ForeignOrUnfitShowingXEndsNoLinkDue port old ports new
+      → UnusableWithXEndsNotDueAbsentOrDeadIfNoneComes port (record { device = t.start; abstract = begun }) ended
+      t.end → UnusableWithXEndsNotDueAbsentOrDeadIfNoneComes port old ports new
   pub stopped_port_set_st_since : (port : Port) (accesses : List Access) (old new : Device) → IsOn old
       → All (DoesNotWrite Ghc) accesses → DoesAll accesses old new → Stops port accesses → (new.port port.0).st ≡ true
       → length old.tape ≤ (new.port port.0).notes.st_set_at

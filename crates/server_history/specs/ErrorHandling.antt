@@ -40,11 +40,11 @@ use Rattle.server_history.specs.ServerState.{ServerState, quarantined_at, probed
 
 -- How the trouble is found out: a look at the port tells that a command had failed, or the link or the host's bus, or
 -- that the disk was lost. That a request is hung its age tells, and the port isn't looked at.
-abbrev pub ErrorIsFound : Port → PortError → Device → Device → Type 0
-ErrorIsFound port TaskFileError old seen = TakesEvent port look.TaskFileError old seen
-ErrorIsFound port FatalError old seen = TakesEvent port look.FatalError old seen
-ErrorIsFound port LinkChanged old seen = TakesEvent port look.LinkChanged old seen
-ErrorIsFound port TimedOut old seen = seen ≡ old
+abbrev pub LookTellsErrorUnlessTimedOut : Port → PortError → Device → Device → Type 0
+LookTellsErrorUnlessTimedOut port TaskFileError old seen = TakesEvent port look.TaskFileError old seen
+LookTellsErrorUnlessTimedOut port FatalError old seen = TakesEvent port look.FatalError old seen
+LookTellsErrorUnlessTimedOut port LinkChanged old seen = TakesEvent port look.LinkChanged old seen
+LookTellsErrorUnlessTimedOut port TimedOut old seen = seen ≡ old
 
 -- nobody is named, and the port doesn't run
 abbrev pub NamesNoneAndIsNotRunning : Recovered → Type 0
@@ -69,7 +69,7 @@ AreAllQueuedAs queued slots = (slot : ℕ) (used : SlotUse) → use_at slots slo
 pub record IsErrorHandled (port : Port) (old mid : ServerState) (new : Device) : Type 0 where
   pub port_error : PortError
   pub device_after_look : Device
-  pub error_is_found : ErrorIsFound port port_error old.device device_after_look
+  pub error_is_found : LookTellsErrorUnlessTimedOut port port_error old.device device_after_look
   pub mask : ℕ
   pub is_mask_of : IsMaskOf (slots_at old.slots port.0) mask
   pub done : ℕ
@@ -92,16 +92,17 @@ pub record IsErrorHandled (port : Port) (old mid : ServerState) (new : Device) :
 -- ---- what it is then
 
 -- It is booted; one whose disk was lost only if a device shows.
-abbrev pub BootsAfter : PortError → Wanted → Port → Booted → Device → Device → Type 0
-BootsAfter LinkChanged wanted port booted old new = RebootsWithDet3OrFindsAbsent wanted port booted old new
-BootsAfter port_error wanted port booted old new = RebootsPort wanted port booted old new
+abbrev pub RebootsAfterErrorOrFindsAbsent : PortError → Wanted → Port → Booted → Device → Device → Type 0
+RebootsAfterErrorOrFindsAbsent LinkChanged wanted port booted old new = RebootsWithDet3OrFindsAbsent wanted port
+    booted old new
+RebootsAfterErrorOrFindsAbsent port_error wanted port booted old new = RebootsPort wanted port booted old new
 
 -- It is found to be this: what it was, where it runs; what its boot has found, where it has to be booted; or dead.
 abbrev pub IsFoundAfterError : Wanted → Port → PortError → DiskInfo → Next → Device → Device → ProbeResult → Type 0
 IsFoundAfterError wanted port port_error was (next.Running token) old new found = (found ≡ Ready was) × (new ≡ old)
 IsFoundAfterError wanted port port_error was (next.Restart token) old new found = (booted : Booted)
     × (booted.found ≡ found)
-    × BootsAfter port_error wanted port booted old new
+    × RebootsAfterErrorOrFindsAbsent port_error wanted port booted old new
 IsFoundAfterError wanted port port_error was next.Dead old new found = (found ≡ Unready DeadState) × (new ≡ old)
 
 -- the disk has the serial number and the size of the one that was there

@@ -24,14 +24,14 @@ use Rattle.hba_regs.specs.Bits.{bit}
 use Rattle.hba_regs.specs.declared.reg.PortReg.{PortReg}
 use Rattle.hba_regs.specs.declared.reg.PortReg.TheVariants.{Cmd, Sctl}
 use Rattle.hba_regs.specs.declared.reg.Reg.TheVariants.{Ghc, Px}
-use Rattle.refinement.specs.Fragments.{AnySlotStates, IsDrivenBy, IsSimulated, SparesOtherPorts, GainsNoMove, TapeGrows}
+use Rattle.refinement.specs.Fragments.{AnySlotStates, IsDrivenBy, IsSimulated, AccessesNoOtherPort, GainsNoMove, TapeGrows}
 use Rattle.refinement.specs.Relation.{StateRelation, IsDiskOf, SameClientFrames, SameSectors, port_at}
 use Rattle.refinement.specs.Replug.{replug_candidates}
 use Rattle.adapter.specs.Idle.{IsIdle}
-use Rattle.refinement.specs.Driver.{EndsInOneStep, EndsInSteps, TapeBacksSteps, DriverState, DriverRelation, idle_driver_state}
+use Rattle.refinement.specs.Driver.{EndsInOneStep, EndsInOwnStepsAfterDeviceSteps, TapeBacksSteps, DriverState, DriverRelation, idle_driver_state}
 use Rattle.refinement.specs.Slots.{Own, SlotStates, client_operation_of}
 use Rattle.refinement.specs.Vacant.{HasFirstFisIfDet3, IsVacant}
-use Rattle.block_machine.specs.DueRequests.{AreAllDueInOrder, IsDue, IsInOrder, due_of, requests_of_port, with_issued, without_request, with_waiting}
+use Rattle.block_machine.specs.DueRequests.{AreDueInTurnAndLeaveNoneDue, IsDue, IsInOrder, due_of, requests_of_port, with_issued, without_request, with_waiting}
 use Rattle.refinement.specs.Errors.{NoDiskComes}
 use Rattle.block_machine.specs.State.{Machine, Pending}
 use Rattle.block_machine.specs.Refusals.{IsAcceptable, MayAccessFrame, AdmissionContext}
@@ -55,7 +55,7 @@ use Rattle.commands.specs.Masks.{ReadsDone, ReadsCiOrSact}
 use Rattle.commands.specs.Batches.{IsCommandIssueAccess, IssuesBatch, MayServeBatch, PlacedTask, issues_newest_first, with_serving_batch}
 use Rattle.commands.specs.Tasks.{IsTaskOf}
 use Rattle.port_control.specs.EventLaws.{Laws}
-use Rattle.request_queue.specs.BookEntries.{BookEntry, IsWellFormedEntry, IsEarlier, IsNewlyAccepted, BookIsWellFormed, IsWaiting, IsIssuedBelowLimit, with_requests_under_grant_revoked, unanswered_of, update_if_id, issued_request, waiting_again_request, entry_count_of_client, without_entry}
+use Rattle.request_queue.specs.BookEntries.{BookEntry, IsWellFormedEntry, IsEarlier, IsNewlyAccepted, BookIsWellFormed, IsWaiting, IsIssuedBelowLimit, with_requests_under_grant_revoked, unanswered_of, update_if_id, issued_request, request_with_issued_cleared, entry_count_of_client, without_entry}
 use Rattle.request_queue.specs.declared.PendingRequest.{PendingRequest}
 use Rattle.request_queue.specs.Dispositions.{CompletesAllWith, BookAndLoans, AreResolved, keeps_loan}
 use Rattle.request_queue.specs.BookRelation.{BookRelation, EntryRelation}
@@ -76,7 +76,8 @@ pub record PrerequisiteLaws : Type 0 where
       → BookRelation entries m.book
       → BookRelation (map (update_if_id p.request.id issued_request) entries) (after_step m (Issue mode p)).book
   pub requeue_keeps_book_relation : (entries : List BookEntry) (m : Machine) (p : Pending) → BookRelation entries m.book
-      → BookRelation (map (update_if_id p.request.id waiting_again_request) entries) (after_step m (WaitAgain p)).book
+      → BookRelation (map (update_if_id p.request.id request_with_issued_cleared) entries) (after_step m
+      (WaitAgain p)).book
   pub answer_keeps_book_relation : (entries : List BookEntry) (m : Machine) (p : Pending) (outcome : Outcome)
       → BookRelation entries m.book
       → BookRelation (without_entry p.request.id entries) (after_step m (Answer p outcome)).book
@@ -101,7 +102,7 @@ pub record PrerequisiteLaws : Type 0 where
       → BookIsWellFormed (map (update_if_id id issued_request) entries)
   pub requeueing_keeps_book_well_formed : (entries : List BookEntry) (id : RequestId) → BookIsWellFormed entries
       → IsIssuedBelowLimit id entries
-      → BookIsWellFormed (map (update_if_id id waiting_again_request) entries)
+      → BookIsWellFormed (map (update_if_id id request_with_issued_cleared) entries)
   pub removing_keeps_book_well_formed : (entries : List BookEntry) (id : RequestId) → BookIsWellFormed entries
       → BookIsWellFormed (without_entry id entries)
   pub marking_keeps_book_well_formed : (entries : List BookEntry) (client : ClientId) (grant : ℕ)
@@ -130,7 +131,7 @@ pub record PrerequisiteLaws : Type 0 where
       → All (IsWellFormedEntry table) (map (update_if_id id issued_request) entries)
   pub requeue_keeps_entries_well_formed : (table : OwnersAndLoans) (entries : List BookEntry) (id : RequestId)
       → All (IsWellFormedEntry table) entries
-      → All (IsWellFormedEntry table) (map (update_if_id id waiting_again_request) entries)
+      → All (IsWellFormedEntry table) (map (update_if_id id request_with_issued_cleared) entries)
   pub marking_keeps_entries_well_formed : (table : OwnersAndLoans) (entries : List BookEntry) (client : ClientId)
       (grant : ℕ)
       → All (IsWellFormedEntry table) entries
@@ -169,7 +170,7 @@ pub record PrerequisiteLaws : Type 0 where
       → Contains (due_of mode port book) r
       → r.port ≡ port
   pub due_are_issued_in_order : (mode : QueueMode) (port : Port) (book : List Unanswered) → IsInOrder book
-      → AreAllDueInOrder mode port (map (λ r. r.id) (due_of mode port book)) book
+      → AreDueInTurnAndLeaveNoneDue mode port (map (λ r. r.id) (due_of mode port book)) book
   pub due_depends_on_own_port : (mode : QueueMode) (port : Port) (book other : List Unanswered) (r : Unanswered)
       → requests_of_port port book ≡ requests_of_port port other → r.port ≡ port → IsDue mode book r
       ↔ IsDue mode other r
@@ -188,7 +189,7 @@ pub record PrerequisiteLaws : Type 0 where
       (s : DriverSlots) (m : Machine)
       → IssuesBatch port tasks old new → AllZip (λ t e. IsTaskOf port t.slot t.task t.frames mode e) tasks es
       → IsReachable m → DriverRelation m (driver_state_of_slots s old) → MayServeBatch port tasks mode es s m
-      → EndsInSteps (driver_state_of_slots s old) m (issues_newest_first mode es)
+      → EndsInOwnStepsAfterDeviceSteps (driver_state_of_slots s old) m (issues_newest_first mode es)
       (driver_state_of_slots (with_serving_batch port tasks es s) new)
   pub batch_issue_moves_no_page : (port : Port) (tasks : List PlacedTask) (mode : QueueMode) (es : List Pending)
       (old new : Device)
@@ -198,10 +199,10 @@ pub record PrerequisiteLaws : Type 0 where
       → (q : ℕ) (o : Operation) → client_operation_of o ≡ None → (s.slot_states q 0 ≡ Own o → ⊥)
       → GainsNoMove q o old new
   pub batch_access_is_of_port : (port : Port) (access : Access) → IsCommandIssueAccess port access
-      → SparesOtherPorts port access
+      → AccessesNoOtherPort port access
   -- it is found done
   pub mask_access_is_of_port : (port : Port) (access : Access) → ReadsCiOrSact port access
-      → SparesOtherPorts port access
+      → AccessesNoOtherPort port access
   pub mask_reading_is_simulated : (port : Port) (mask done : ℕ) (old new : Device) → ReadsDone port mask done old new
       → IsSimulated (ReadsCiOrSact port) AnySlotStates old new
   -- the adapter
@@ -209,11 +210,11 @@ pub record PrerequisiteLaws : Type 0 where
       → Writes Ghc v old new → IsOn new
   -- accesses of one port
   pub one_port_keeps_adapter_on : (port : Port) (old new : Device) → IsOn old
-      → IsDrivenBy (SparesOtherPorts port) old new → IsOn new
+      → IsDrivenBy (AccessesNoOtherPort port) old new → IsOn new
   pub one_port_spares_registers : (port q : Port) (r : PortReg) → q.0 ≢ port.0 → (access : Access)
-      → SparesOtherPorts port access
+      → AccessesNoOtherPort port access
       → DoesNotWrite (Px q r) access
-  pub one_port_spares_ghc : (port : Port) (access : Access) → SparesOtherPorts port access → DoesNotWrite Ghc access
+  pub one_port_spares_ghc : (port : Port) (access : Access) → AccessesNoOtherPort port access → DoesNotWrite Ghc access
   pub idle_device_is_related : (m : Machine) (d : Device) → IsInitial m → IsIdle d
       → ((port : ℕ) → IsDiskOf m (d.port port) port) → SameClientFrames m d.memory
       → (d.telling ≡ true → (port : ℕ) → SameSectors m (d.port port).disk port)
@@ -260,14 +261,15 @@ pub record PrerequisiteLaws : Type 0 where
   pub calls : CallLaws
   -- a port that is recovered, or booted anew
   pub recovery_access_is_of_port : (port : Port) (access : Access) → IsRecoveryAccess port access
-      → SparesOtherPorts port access
+      → AccessesNoOtherPort port access
   pub recovery_loads_drivers_own : (port : Port) (address : ℕ) (bytes : List ℕ) → port.0 < 4
       → IsRecoveryAccess port (Loading address bytes)
       → address + length bytes ≤ DRIVER_BYTES
   pub recovery_stores_drivers_own : (port : Port) (address : ℕ) (bytes : List ℕ) → port.0 < 4
       → IsRecoveryAccess port (Storing address bytes)
       → address + length bytes ≤ DRIVER_BYTES
-  pub boot_access_is_of_port : (port : Port) (access : Access) → IsBootAccess port access → SparesOtherPorts port access
+  pub boot_access_is_of_port : (port : Port) (access : Access) → IsBootAccess port access
+      → AccessesNoOtherPort port access
   -- what accesses tell of a port's engines
   pub fall_holds_with_later : (early late : List Access) (start running : ℕ) (port : Port)
       → EngineFalls start running port early
@@ -288,7 +290,7 @@ pub record PrerequisiteLaws : Type 0 where
       → GainsNoMove port.0 ReadLog new end → BringsLastLogPage port old new page → BringsLastLogPage port start end page
   -- a request that waits again
   pub unanswered_after_requeue : (entries : List BookEntry) (id : RequestId)
-      → unanswered_of (map (update_if_id id waiting_again_request) entries)
+      → unanswered_of (map (update_if_id id request_with_issued_cleared) entries)
       ≡ with_waiting id (unanswered_of entries)
   -- requests that are marked
   pub unanswered_after_marking : (entries : List BookEntry) (client : ClientId) (grant : ℕ)

@@ -14,7 +14,7 @@ use Rattle.adapter.specs.Rules.{IsOn}
 use Rattle.adapter.specs.declared.command.Operation.TheVariants.{Identify}
 use Rattle.refinement.specs.Acts.{Act, AreActsDone, accesses_of}
 use Rattle.refinement.specs.Relation.{StateRelation, HaveSlotsUnlessParked}
-use Rattle.refinement.specs.Fragments.{IsDrivenBy, SparesOtherPorts, GainsNoMove}
+use Rattle.refinement.specs.Fragments.{IsDrivenBy, AccessesNoOtherPort, GainsNoMove}
 use Rattle.refinement.specs.Driver.{DriverAdvances, DriverState, DriverRelation}
 use Rattle.refinement.specs.Errors.{NoFatalErrors}
 use Rattle.refinement.specs.PortFacts.{RecordsFaultsIfSt, Undisturbed}
@@ -28,7 +28,7 @@ use Rattle.block_machine.specs.Expected.{after}
 use Rattle.block_machine.specs.State.{Machine, unanswered}
 use Rattle.block_machine.specs.Steps.{NoneKept, Step}
 use Rattle.host_boot.specs.Reboots.{RebootsPort, RebootsWithDet3OrFindsAbsent, IsCapPiOrBootAccess}
-use Rattle.host_boot.specs.TakeOver.{FoundUnusableDevice, IsServed, KeepsWhatBacksProbeResult, BacksProbeResult, StillBacksProbeResult}
+use Rattle.host_boot.specs.TakeOver.{FoundUnusableDevice, IsWantedAndImplemented, KeepsWhatBacksProbeResult, BacksProbeResult, StillBacksProbeResult}
 use Rattle.host_boot.specs.declared.Booted.{Booted}
 use Rattle.host_boot.specs.declared.ProbeResult.{ProbeResult}
 use Rattle.host_boot.specs.declared.ProbeResult.TheVariants.{Unready}
@@ -54,16 +54,16 @@ pub record RecoveryLaws : Type 0 where
   pub shown_disk_stays_in : (port : ℕ) (accesses : List Access) (old new : Device) → DoesAll accesses old new
       → ShownDiskIsIn (old.port port) → ShownDiskIsIn (new.port port)
   pub other_port_keeps_record : (port : Port) (q : ℕ) (old new : Device) → q ≢ port.0
-      → IsDrivenBy (SparesOtherPorts port) old new
+      → IsDrivenBy (AccessesNoOtherPort port) old new
       → RecordsFaultsIfSt old.tape (old.port q) q → RecordsFaultsIfSt new.tape (new.port q) q
   pub other_port_keeps_shown_disk : (port other : Port) (old new : Device) → port.0 ≢ other.0 → IsOn old
-      → IsDrivenBy (SparesOtherPorts other) old new
+      → IsDrivenBy (AccessesNoOtherPort other) old new
       → HasDet3IfDiskPresent (old.port port.0) → HasDet3IfDiskPresent (new.port port.0)
   -- a port that was booted again
   pub reboot_is_of_port : (wanted : Wanted) (port : Port) (booted : Booted) (old new : Device)
-      → RebootsPort wanted port booted old new → IsDrivenBy (SparesOtherPorts port) old new
+      → RebootsPort wanted port booted old new → IsDrivenBy (AccessesNoOtherPort port) old new
   pub reboot_backs_result : (wanted : Wanted) (port : Port) (booted : Booted) (old new : Device)
-      → RebootsPort wanted port booted old new → IsServed wanted port.0 old
+      → RebootsPort wanted port booted old new → IsWantedAndImplemented wanted port.0 old
       → BacksProbeResult wanted booted.found port.0 new
   pub reboot_shows_bad_disk : (wanted : Wanted) (port : Port) (booted : Booted) (state : PortState) (old new : Device)
       → IsOn old
@@ -79,11 +79,11 @@ pub record RecoveryLaws : Type 0 where
       → StillBacksProbeResult wanted found port old → StillBacksProbeResult wanted found port new
   -- and one that was booted where a device showed
   pub boot_start_access_is_of_port : (port : Port) (access : Access) → IsCapPiOrBootAccess port access
-      → SparesOtherPorts port access
+      → AccessesNoOtherPort port access
   pub conditional_boot_is_of_port : (wanted : Wanted) (port : Port) (booted : Booted) (old new : Device)
-      → RebootsWithDet3OrFindsAbsent wanted port booted old new → IsDrivenBy (SparesOtherPorts port) old new
+      → RebootsWithDet3OrFindsAbsent wanted port booted old new → IsDrivenBy (AccessesNoOtherPort port) old new
   pub conditional_boot_backs_result : (wanted : Wanted) (port : Port) (booted : Booted) (old new : Device)
-      → RebootsWithDet3OrFindsAbsent wanted port booted old new → IsServed wanted port.0 old
+      → RebootsWithDet3OrFindsAbsent wanted port booted old new → IsWantedAndImplemented wanted port.0 old
       → BacksProbeResult wanted booted.found port.0 new
   pub conditional_boot_shows_bad_disk : (wanted : Wanted) (port : Port) (booted : Booted) (state : PortState)
       (old new : Device) → IsOn old

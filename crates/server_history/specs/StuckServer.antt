@@ -11,7 +11,7 @@ use Rattle.block_machine.specs.Histories.{IsReachable}
 use Rattle.block_machine.specs.Expected.{IsValidRow}
 use Rattle.block_machine.specs.State.{Machine}
 use Rattle.host_boot.specs.Resets.{ResetStaysPending}
-use Rattle.host_boot.specs.TakeOver.{IsServed, probe_result_of, wanted_of}
+use Rattle.host_boot.specs.TakeOver.{IsWantedAndImplemented, probe_result_of, wanted_of}
 use Rattle.host_boot.specs.declared.ProbeResult.{ProbeResult}
 use Rattle.host_boot.specs.declared.ProbeResult.TheVariants.{Unserved, Unready}
 use Rattle.request_queue.specs.BookEntries.{BookEntry, IsWellFormedEntry, BookIsWellFormed}
@@ -27,7 +27,7 @@ use Rattle.server_history.specs.ServerState.{ServerState, MachineRelation, Revok
 pub record ServerInvariant (s : ServerState) : Type 0 where
   pub driver_memory_fits : DRIVER_BYTES ≤ s.device.memory_size
   pub served_iff_wanted_and_there : (port : ℕ) → port < 4 → (is_served (probe_result_of s.probe_results port) ≡ true)
-      ↔ IsServed (wanted_of s.wanted port) port s.device
+      ↔ IsWantedAndImplemented (wanted_of s.wanted port) port s.device
   pub served_are_below_4 : (port : ℕ) → is_served (probe_result_of s.probe_results port) ≡ true → port < 4
   pub unserved_are_idle : (port : ℕ) → port < 4 → probe_result_of s.probe_results port ≡ Unserved
       → IsIdlePort (s.device.port port)

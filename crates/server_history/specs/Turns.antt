@@ -10,23 +10,23 @@ use Rattle.adapter.specs.declared.access.DeviceStep.{DeviceStep}
 use Rattle.adapter.specs.declared.command.Operation.TheVariants.{ReadLog}
 use Rattle.adapter.specs.declared.tape.Fault as tape_fault
 use Rattle.refinement.specs.Relation.{port_at}
-use Rattle.refinement.specs.Fragments.{SparesOtherPorts, GainsNoMove}
+use Rattle.refinement.specs.Fragments.{AccessesNoOtherPort, GainsNoMove}
 use Rattle.refinement.specs.Driver.{TapeBacksSteps}
-use Rattle.block_machine.specs.Events.{AbstractCall, AnswersAndWaitsLawful, AllEnabled, AnswersOkWhatHadEnded, AreStepsOfCall, UnpluggedExcludesDeadAndSameDisk, ShownDiskWasInOrCame, IsByDevice, IssueIsLastOfRequest, AbstractState, IssuedOnPortAreIssuedInSteps, Replied, Service, RepliesMatch, Tick, UnpluggedOutcomeEmptiesPort}
+use Rattle.block_machine.specs.Events.{AbstractCall, AnswersLawfulAndWaitsOnStoppedPorts, AllEnabled, AnswersOkWhatHadEnded, AreStepsOfCall, UnpluggedExcludesDeadAndSameDisk, ShownDiskWasInOrCame, IsByDevice, IssueIsLastOfRequest, AbstractState, IssuedOnPortAreIssuedInSteps, Replied, Service, RepliesMatch, Tick, UnpluggedOutcomeEmptiesPort}
 use Rattle.block_machine.specs.DueRequests.{requests_of_port}
 use Rattle.block_machine.specs.Histories.{JointEvent, JointState, IsReachable}
 use Rattle.block_machine.specs.Expected.{after}
-use Rattle.block_machine.specs.Ports.{Evidence, RequestFault, IsStoppedOrStuck, IsServiced, Ports, SameSerialAndSize, SamePort}
+use Rattle.block_machine.specs.Ports.{Evidence, RequestFault, IsStoppedOrStuck, ChangesOnlyIfStoppedOrStuck, Ports, SameSerialAndSize, SamePort}
 use Rattle.block_machine.specs.State.{Machine, Pending}
 use Rattle.block_machine.specs.Steps.{Step, WaitAgain, Answer, Issue}
-use Rattle.driver_history.specs.EvidenceHandling.{OnlyFailedPortsRequeueAbortRevokeOrFault}
+use Rattle.driver_history.specs.EvidenceHandling.{OnlyPortsShowingErrorRequeueAbortRevokeFault}
 use Rattle.driver_history.specs.Evidence.{IsEvidencedOf}
 use Rattle.error_recovery.specs.Evidence.{BringsLastLogPage, HasFailed}
 use Rattle.identify.specs.ErrorLog.{NamesQueuedCommand}
 use Rattle.driver_history.specs.Histories.{FindsDone, IsIssuedOn, IssuesDue, LosesNoPortError, RunsWellAnew, PortCorresponds}
 use Rattle.driver_history.specs.PortInvariants.{HasNoUnanswered}
-use Rattle.driver_history.specs.AccessTrace.{StaysInDriverFrames, ResetsLink}
-use Rattle.driver_history.specs.PortTurn.{ForeignOrUnfitShowingXEndsNoLinkDue}
+use Rattle.driver_history.specs.AccessTrace.{StaysInDriverFrames, LastSctlWritesResetLink}
+use Rattle.driver_history.specs.PortTurn.{UnusableWithXEndsNotDueAbsentOrDeadIfNoneComes}
 use Rattle.host_boot.specs.TakeOver.{probe_result_of}
 use Rattle.host_boot.specs.declared.ProbeResult.{ProbeResult}
 use Rattle.host_boot.specs.declared.ProbeResult.TheVariants.{Ready, Unready, Unserved}
@@ -121,19 +121,20 @@ pub record HandlesShownErrors (port : Port) (accesses : List Access) (old : Join
   pub loses_no_error : LosesNoPortError evidence old ports new port
   pub runs_well_anew : RunsWellAnew evidence accesses old ports new port
 
--- As such a call it has done of its port what a service does of one; where it probed a port that showed X, and no disk
--- came, no link is due at its end (ForeignOrUnfitShowingXEndsNoLinkDue); and where it restarts the port it has done
--- what a call does of trouble.
-abbrev pub TurnCorresponds : Turn → Port → List Reply → List Access → ServerState → ServerState → Machine → Evidence
+-- In a service the turn has done of its port what a call does of one; where it probed a port that showed X, and no disk
+-- came, no link is due at its end, unless the port is absent or dead (UnusableWithXEndsNotDueAbsentOrDeadIfNoneComes);
+-- where it restarts the port it has done what a call does of trouble; of a port that rests nothing is asked.
+abbrev pub CorrespondsOrHandlesErrorsByTurn : Turn → Port → List Reply → List Access → ServerState → ServerState
+    → Machine → Evidence
     → List Step → Type 0
-TurnCorresponds ServingReady port replies accesses old new m evidence steps =
+CorrespondsOrHandlesErrorsByTurn ServingReady port replies accesses old new m evidence steps =
     PortCorresponds (joint_state_of old m) (joint_event_of_turn ServingReady replies new evidence steps) accesses port
-TurnCorresponds InRestart port replies accesses old new m evidence steps =
+CorrespondsOrHandlesErrorsByTurn InRestart port replies accesses old new m evidence steps =
     HandlesShownErrors port accesses (joint_state_of old m) evidence (ports_of new) new.device
-TurnCorresponds InProbe port replies accesses old new m evidence steps =
+CorrespondsOrHandlesErrorsByTurn InProbe port replies accesses old new m evidence steps =
     PortCorresponds (joint_state_of old m) (joint_event_of_turn InProbe replies new evidence steps) accesses port
-    × ForeignOrUnfitShowingXEndsNoLinkDue port (joint_state_of old m) (ports_of new) new.device
-TurnCorresponds RestingInTick port replies accesses old new m evidence steps = Unit {0}
+    × UnusableWithXEndsNotDueAbsentOrDeadIfNoneComes port (joint_state_of old m) (ports_of new) new.device
+CorrespondsOrHandlesErrorsByTurn RestingInTick port replies accesses old new m evidence steps = Unit {0}
 
 -- What was done was found by a reading of the masks, in which the bits of each slot that wasn't used when the turn
 -- began were clear. (The bytes of such a slot may say still the command of a request that has ended.)
@@ -152,7 +153,8 @@ pub record RestartsPort (port : Port) (accesses : List Access) (old new : Server
     (evidence : Evidence)
     (steps : List Step) : Type 0 where
   pub finds_done : FindsDoneInTurn port accesses old m steps
-  pub is_dead_or_link_is_reset : (state_of (probe_result_of new.probe_results port.0) ≡ Dead) ⊎ ResetsLink port accesses
+  pub is_dead_or_link_is_reset : (state_of (probe_result_of new.probe_results port.0)
+      ≡ Dead) ⊎ LastSctlWritesResetLink port accesses
   pub answers_ok_what_had_ended : AnswersOkWhatHadEnded m steps port
   pub is_stopped_or_stuck : IsStoppedOrStuck evidence port
   pub issued_are_issued_in_steps : IssuedOnPortAreIssuedInSteps steps (after m steps) port
@@ -168,10 +170,10 @@ abbrev pub RequeuesAndAbortsFitTurn : Turn → Port → List Access → ServerSt
     → Evidence → List Step
     → Type 0
 RequeuesAndAbortsFitTurn ServingReady port accesses old new m evidence steps =
-    OnlyFailedPortsRequeueAbortRevokeOrFault evidence
+    OnlyPortsShowingErrorRequeueAbortRevokeFault evidence
     steps
 RequeuesAndAbortsFitTurn InProbe port accesses old new m evidence steps =
-    OnlyFailedPortsRequeueAbortRevokeOrFault evidence steps
+    OnlyPortsShowingErrorRequeueAbortRevokeFault evidence steps
     × (evidence.faults ≡ [])
     × (evidence.lost ≡ [])
 RequeuesAndAbortsFitTurn InRestart port accesses old new m evidence steps =
@@ -198,12 +200,12 @@ pub record SimulatesTurn (turn : Turn) (port : Port) (replies : List Reply) (acc
   pub steps_are_of_call : AreStepsOfCall (ask_of_turn turn) (ports_of new) steps
   pub issues_are_last : IssueIsLastOfRequest steps
   pub names_only_port : PortListsNameOnly port evidence
-  pub answers_are_lawful : AnswersAndWaitsLawful (abstract_state_of old m) evidence (ports_of new) steps
+  pub answers_are_lawful : AnswersLawfulAndWaitsOnStoppedPorts (abstract_state_of old m) evidence (ports_of new) steps
   pub requeues_and_aborts_fit_turn : RequeuesAndAbortsFitTurn turn port
       accesses old new m evidence steps
   pub replies_match : RepliesMatch steps replies
   pub unplugged_outcome_empties_port : UnpluggedOutcomeEmptiesPort steps (after m steps)
-  pub port_is_serviced : IsServiced (ports_of old) evidence (ports_of new) port
+  pub port_is_serviced : ChangesOnlyIfStoppedOrStuck (ports_of old) evidence (ports_of new) port
   pub shown_disk_was_in_or_came : SamePort (ports_of old) (ports_of new) port
       ⊎ ShownDiskWasInOrCame (abstract_state_of old m) steps (abstract_state_of new (after m steps)) port
   pub same_disk_or_none_unanswered : SameSerialAndSize (ports_of old) (ports_of new) port
@@ -214,7 +216,7 @@ pub record SimulatesTurn (turn : Turn) (port : Port) (replies : List Reply) (acc
       evidence port
   pub faults_are_told : (told : RequestFault) → Contains evidence.faults told
       → IsFaultOfUsedSlot port accesses old new told
-  pub turn_corresponds : TurnCorresponds turn port replies accesses old new m evidence steps
+  pub turn_corresponds : CorrespondsOrHandlesErrorsByTurn turn port replies accesses old new m evidence steps
   pub finds_done : turn ≡ ServingReady → (e : Pending) → IsIssuedOn port m e → FindsDoneInTurn port accesses old m steps
 
 -- what a turn of the port leaves of the server: its grants, the disks that are wanted, the id that was handed out last,
@@ -238,7 +240,7 @@ pub record LeavesOtherPortsGrantsAndLastId (port : Port) (old new : ServerState)
 pub record IsPortTurn (turn : Turn) (port : Port) (replies : List Reply) (old new : ServerState) : Type 0 where
   pub accesses : List Access
   pub accesses_are_done : DoesAll accesses old.device new.device
-  pub accesses_are_of_port : All (SparesOtherPorts port) accesses
+  pub accesses_are_of_port : All (AccessesNoOtherPort port) accesses
   pub accesses_are_drivers_own : All StaysInDriverFrames accesses
   pub leaves_others : LeavesOtherPortsGrantsAndLastId port old new
   pub others_get_no_log_unless_dead : (q : ℕ) → q ≢ port.0 → state_of (probe_result_of old.probe_results q) ≢ Dead

@@ -22,7 +22,7 @@ ghost use Rattle.port_boot.specs.States.{IsOnWithPortMemoryAndFreeSlots};
 
 use super::prerequisites::{law_frame_holder_prerequisites, law_history_prerequisites};
 use ata_types::MOST_READINGS;
-use host_boot::laws::law_taken_over_ports_are_as_their_state_says;
+use host_boot::laws::law_ready_ports_run_and_unusable_disks_show;
 
 /// A ready port of a new server runs well, if nothing went wrong on it since the adapter was idle.
 pub fn law_new_ready_ports_run_well_if_undisturbed()
@@ -31,7 +31,7 @@ pub fn law_new_ready_ports_run_well_if_undisturbed()
         → state_of (probe_result_of s.probe_results port.0) ≡ ReadyState
         → Undisturbed port.0 idle s.device → RunsWell (s.device.port port.0) }
 {
-    law_taken_over_ports_are_as_their_state_says();
+    law_ready_ports_run_and_unusable_disks_show();
 }
 
 /// A server of an adapter that was taken over holds what a server keeps, and a history without calls leads to it.
@@ -40,7 +40,7 @@ pub fn law_new_server_starts_history()
         → TakesOver s.wanted host idle s.device → IsNewServer host s → InvariantWithNoneDue s × StartsHistory s }
 {
     law_history_prerequisites();
-    law_taken_over_ports_are_as_their_state_says();
+    law_ready_ports_run_and_unusable_disks_show();
 }
 
 /// A device that does what it is told adds an event, and so does one that can't. Where the adapter isn't on, it isn't
@@ -295,7 +295,7 @@ pub fn law_recover_preconditions_hold_after_look()
 /// What comes after a recovery. A port that has to be booted may be; how it takes commands is what it was, by what the
 /// adapter is capable of; there is a place for the loan of each request of the port that is issued; once its requests
 /// were resolved, the server goes on; and nothing is due on a port that isn't ready.
-pub fn law_handled_port_errors_keep_invariant()
+pub fn law_resolved_errors_keep_in_call_invariant()
     ensures bootable { (s mid : ServerState) (device : Device) (port : Port) (token : Stopped) → InCallInvariant s
         → state_of (probe_result_of s.probe_results port.0) ≡ ReadyState → (r : IsErrorHandled port s mid device)
         → IsSimulated (IsPxisSstsOrOwnIsAccess port) AnySlotStates s.device r.device_after_look → r.result.next

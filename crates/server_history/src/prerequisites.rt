@@ -11,6 +11,7 @@ use block_machine::laws::law_accepted_is_granted;
 use block_machine::laws::law_due_depends_on_own_port;
 use block_machine::laws::law_due_list_is_exact;
 use block_machine::laws::law_ended_is_issued;
+use block_machine::laws::law_issue_requeue_answer_keep_other_ports;
 use block_machine::laws::law_issuing_due_in_turn_leaves_none_due;
 use block_machine::laws::law_kept_is_not_in_book;
 use block_machine::laws::law_lendable_or_accessible_frames_are_owned;
@@ -20,7 +21,6 @@ use block_machine::laws::law_one_id_is_one_request;
 use block_machine::laws::law_ready_ports_are_served;
 use block_machine::laws::law_request_in_book_or_kept_was_accepted;
 use block_machine::laws::law_request_limits_hold_and_frames_are_lent;
-use block_machine::laws::law_request_steps_leave_other_ports_requests;
 use block_machine::laws::law_rows_shrink_and_owners_stay;
 use block_machine::laws::law_step_lists_compose;
 use commands::laws::law_batch_and_mask_access_spares_other_ports;
@@ -31,11 +31,11 @@ use driver_history::laws::law_histories_reach_their_machines;
 use driver_history::laws::law_turn_evidence_holds_for_call;
 use driver_history::troubles::law_a_fatal_error_of_a_part_is_of_the_whole;
 use driver_history::troubles::law_a_fault_alone_in_a_call_is_alone_in_a_turn;
-use driver_history::troubles::law_ordinary_accesses_lose_no_error;
+use driver_history::troubles::law_errors_stay_unless_cleared_or_ghc_written;
+use driver_history::troubles::law_no_plug_or_error_since_st_is_undisturbed;
 use driver_history::troubles::law_st_after_a_stop_was_set_since;
 use driver_history::troubles::law_turn_disk_probe_holds_for_call;
-use driver_history::troubles::law_turn_error_handling_holds_for_call;
-use driver_history::troubles::law_untroubled_since_st_is_undisturbed;
+use driver_history::troubles::law_turn_error_and_boot_duties_hold_for_call;
 use error_recovery::laws::law_fault_evidence_of_a_part_holds_for_call;
 use error_recovery::laws::law_recovery_accesses_spare_others;
 use host_boot::laws::law_probe_result_backed_until_next_port_boot;
@@ -53,7 +53,7 @@ use port_control::events::laws::law_services_keep_ports_running;
 use port_control::events::laws::law_task_file_error_means_halted;
 use port_control::events::prerequisites::law_prerequisites;
 use port_control::laws::law_engine_evidence_shows_in_longer_traces;
-use refinement::access_kinds::law_fragment_prerequisites;
+use refinement::access_kinds::law_access_kinds_satisfy_fragment_laws;
 use refinement::acts::law_acts_advance_driver;
 use refinement::disks::law_vacancy_stays_where_no_disk_comes;
 use refinement::fragments::law_other_ports_are_untouched;
@@ -93,7 +93,7 @@ use refinement::port_facts::law_undisturbed_has_no_error_or_plug;
 use refinement::port_facts::law_writing_ghc_switches_on;
 use refinement::readying::law_stored_command_stays_over_acts_sparing_it;
 use refinement::readying::law_stored_command_stays_while_st_set;
-use refinement::recovering::law_queued_halt_has_taken_command;
+use refinement::recovering::law_halt_fits_taken_until_pxcmd_written;
 use request_queue::laws::law_an_id_is_one_request;
 use request_queue::laws::law_answers_of_one_outcome_are_one_change;
 use request_queue::laws::law_book_changes_match_machine_steps;
@@ -178,7 +178,7 @@ fn law_looks()
     law_port_access_is_steps_then_port_effect();
     law_port_register_read_is_noted_as_last();
     law_det_3_if_disk_present_stays();
-    law_fragment_prerequisites::<Brand>();
+    law_access_kinds_satisfy_fragment_laws::<Brand>();
     law_other_ports_are_untouched();
     law_task_file_error_means_halted();
     law_looks_see_errors_and_link_changes();
@@ -211,7 +211,7 @@ fn law_port_errors()
     law_serr_n_clear_means_no_plug_event();
     law_undisturbed_has_no_error_or_plug();
     law_disk_stays_without_plug_events();
-    law_queued_halt_has_taken_command();
+    law_halt_fits_taken_until_pxcmd_written();
 }
 
 /// What a port's turn is to the whole call.
@@ -219,13 +219,13 @@ fn law_calls()
     ensures { CallLaws }
 {
     law_turn_evidence_holds_for_call();
-    law_ordinary_accesses_lose_no_error();
+    law_errors_stay_unless_cleared_or_ghc_written();
     law_a_fault_alone_in_a_call_is_alone_in_a_turn();
-    law_turn_error_handling_holds_for_call();
+    law_turn_error_and_boot_duties_hold_for_call();
     law_turn_disk_probe_holds_for_call();
     law_st_after_a_stop_was_set_since();
     law_a_fatal_error_of_a_part_is_of_the_whole();
-    law_untroubled_since_st_is_undisturbed();
+    law_no_plug_or_error_since_st_is_undisturbed();
 }
 
 /// The laws of the crates below that the proofs of this crate rest on.
@@ -253,7 +253,7 @@ pub fn law_history_prerequisites()
     law_due_list_is_exact();
     law_issuing_due_in_turn_leaves_none_due();
     law_due_depends_on_own_port();
-    law_request_steps_leave_other_ports_requests();
+    law_issue_requeue_answer_keep_other_ports();
     law_prerequisites();
     law_batch_issues_come_last();
     law_batch_and_mask_access_spares_other_ports();

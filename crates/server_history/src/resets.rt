@@ -6,7 +6,7 @@ ghost use Rattle.server_history.specs.{ResetLaws.{ResetLaws}, Histories.{Extends
 
 use super::prerequisites::law_history_prerequisites;
 use block_machine::laws::law_lent_frame_is_of_its_request;
-use host_boot::laws::law_taken_over_ports_are_as_their_state_says;
+use host_boot::laws::law_ready_ports_run_and_unusable_disks_show;
 use refinement::laws::law_releasing_kept_frames_agrees;
 
 /// What the laws of a reset rest on.
@@ -14,7 +14,7 @@ fn law_reset_prerequisites()
     ensures { ResetLaws }
 {
     law_history_prerequisites();
-    law_taken_over_ports_are_as_their_state_says();
+    law_ready_ports_run_and_unusable_disks_show();
     law_lent_frame_is_of_its_request();
     law_releasing_kept_frames_agrees();
 }

@@ -24,20 +24,20 @@ use Rattle.identify.specs.declared.wanted.Wanted.TheVariants.{Any}
 use Rattle.error_recovery.specs.Evidence.{ShowsFatal}
 use Rattle.driver_history.specs.Histories.{IsDriverHistory, PortCorresponds}
 use Rattle.witnesses.specs.AllowedAccesses.{AreAllowed}
-use Rattle.witnesses.specs.Restart.{lost_and_stopped_evidence, stop_and_comreset_accesses}
+use Rattle.witnesses.specs.Restart.{port_0_lost_and_stopped_evidence, stop_and_comreset_accesses}
 
 -- PxIS shows IFS, and is cleared, and so is the port's bit of IS; PxSSTS shows a device
-abbrev pub fatal_look_accesses : List Access
-fatal_look_accesses =
+abbrev pub port_0_look_accesses_showing_ifs : List Access
+port_0_look_accesses_showing_ifs =
     Reading (Px (port_at 0) Is) 0x08000000 ∷ Writing (Px (port_at 0) Is) 0x08000000 ∷ Writing registers.Is 1
     ∷ Reading (Px (port_at 0) Ssts) 3 ∷ []
 
 abbrev pub fatal_accesses : List Access
-fatal_accesses = fatal_look_accesses ++ stop_and_comreset_accesses
+fatal_accesses = port_0_look_accesses_showing_ifs ++ stop_and_comreset_accesses
 
 -- what is named: port 0 failed by a fatal error, was stopped, and has lost its disk
 abbrev pub fatal_evidence : Evidence
-fatal_evidence = lost_and_stopped_evidence (port_at 0 ∷ [])
+fatal_evidence = port_0_lost_and_stopped_evidence (port_at 0 ∷ [])
 
 -- A read of port 0 is accepted and issued. The device is told to meet a fatal error of the port's link, and the port
 -- shows it. The service finds it, gives the port up, and boots it anew, which finds no ATA disk: the port is unfit, and

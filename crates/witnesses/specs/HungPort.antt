@@ -17,7 +17,7 @@ use Rattle.block_machine.specs.Histories.{JointState, JointEvent, joint_state_af
 use Rattle.identify.specs.declared.wanted.Wanted.TheVariants.{Any}
 use Rattle.driver_history.specs.Histories.{IsDriverHistory, PortCorresponds}
 use Rattle.witnesses.specs.AllowedAccesses.{AreAllowed}
-use Rattle.witnesses.specs.Restart.{lost_and_stopped_evidence, stop_and_comreset_accesses}
+use Rattle.witnesses.specs.Restart.{port_0_lost_and_stopped_evidence, stop_and_comreset_accesses}
 
 -- the tick answers nothing
 abbrev pub IsTickWithoutReplies : JointEvent Device DeviceStep → Type 0
@@ -52,7 +52,7 @@ pub record HungPortIsAHistory : Type 0 where
   pub third_tick : JointEvent Device DeviceStep
   pub third_tick_tells_unplugged : (third_tick.event.call ≡ Tick)
       × (third_tick.event.result ≡ Replied (record { id = first_id; client = asked.client; outcome = Unplugged } ∷ []))
-  pub evidence : third_tick.event.evidence ≡ lost_and_stopped_evidence []
+  pub evidence : third_tick.event.evidence ≡ port_0_lost_and_stopped_evidence []
   pub unfit : third_tick.event.ports.state (port_at 0) ≡ Unfit 8
   pub third_tick_makes_accesses : DoesAll stop_and_comreset_accesses second_tick.device third_tick.device
   pub accesses_are_allowed : AreAllowed stop_and_comreset_accesses second_tick.device third_tick.device

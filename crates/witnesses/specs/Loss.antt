@@ -33,8 +33,8 @@ losing_turn =
     ∷ []
 
 -- what is named: port 1 lost its disk, which is gone, and was stopped
-abbrev pub loss_evidence : Evidence
-loss_evidence = record {
+abbrev pub port_1_loss_evidence : Evidence
+port_1_loss_evidence = record {
   faults = [];
   lost = port_at 1 ∷ [];
   link_changed = port_at 1 ∷ [];
@@ -65,7 +65,7 @@ pub record LossIsAHistory : Type 0 where
   pub disk_1_is_in_between : (between.port 1).present ≡ true
   pub losing_turn_is_made : DoesAll losing_turn between service.device
   pub losing_turn_is_allowed : AreAllowed losing_turn between service.device losing_turn_is_made
-  pub evidence : service.event.evidence ≡ loss_evidence
+  pub evidence : service.event.evidence ≡ port_1_loss_evidence
   pub port_0_stays_ready : service.event.ports.state (port_at 0) ≡ Ready
   pub port_1_becomes_absent : service.event.ports.state (port_at 1) ≡ Absent
   pub history : IsDriverHistory (Any ∷ Any ∷ []) initial_state (service ∷ submit ∷ [])

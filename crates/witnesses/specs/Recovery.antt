@@ -23,8 +23,8 @@ use Rattle.driver_history.specs.Histories.{IsDriverHistory, PortCorresponds}
 use Rattle.witnesses.specs.AllowedAccesses.{AreAllowed}
 
 -- The masks are read, then PxTFD; the port is stopped; PxSERR and PxIS are cleared; PxTFD is read again, and ST is set.
-abbrev pub recovery_accesses : List Access
-recovery_accesses =
+abbrev pub stop_clear_and_restart_accesses : List Access
+stop_clear_and_restart_accesses =
     Reading (Px (port_at 0) Ci) 1 ∷ Reading (Px (port_at 0) Sact) 0 ∷ Reading (Px (port_at 0) Tfd) 0x4041
     ∷ Reading (Px (port_at 0) Cmd) 0xc011 ∷ Writing (Px (port_at 0) Cmd) 0xc010 ∷ Reading (Px (port_at 0) Cmd) 0x4010
     ∷ Writing (Px (port_at 0) Serr) 0xffffffff ∷ Writing (Px (port_at 0) Is) 0xffffffff
@@ -67,10 +67,11 @@ pub record RecoveryIsAHistory : Type 0 where
   pub evidence : service.event.evidence ≡ fault_evidence
   pub port_0_stays_ready : service.event.ports.state (port_at 0) ≡ Ready
   pub port_runs_well : RunsWell (service.device.port 0)
-  pub service_makes_accesses : DoesAll recovery_accesses submit.device service.device
-  pub accesses_are_allowed : AreAllowed recovery_accesses submit.device service.device service_makes_accesses
+  pub service_makes_accesses : DoesAll stop_clear_and_restart_accesses submit.device service.device
+  pub accesses_are_allowed : AreAllowed stop_clear_and_restart_accesses submit.device service.device
+      service_makes_accesses
   pub history : IsDriverHistory (Any ∷ Any ∷ []) initial_state (service ∷ submit ∷ [])
-  pub accesses : history.2.accesses ≡ recovery_accesses
+  pub accesses : history.2.accesses ≡ stop_clear_and_restart_accesses
   pub submit_corresponds : (port : Port) → PortCorresponds initial_state submit history.0.2.accesses port
   pub service_corresponds : (port : Port) → PortCorresponds (joint_state_after initial_state (submit ∷ [])) service
       history.2.accesses port

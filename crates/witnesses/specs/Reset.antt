@@ -22,8 +22,8 @@ use Rattle.driver_history.specs.Histories.{IsDriverHistory, PortCorresponds}
 use Rattle.witnesses.specs.AllowedAccesses.{AreAllowed}
 
 -- HR of GHC is set, and is read 0; then AE and IE are set
-abbrev pub ended_reset_accesses : List Access
-ended_reset_accesses = Writing Ghc 0x80000001 ∷ Reading Ghc 0 ∷ Writing Ghc 0x80000002 ∷ []
+abbrev pub ended_reset_and_enable_accesses : List Access
+ended_reset_and_enable_accesses = Writing Ghc 0x80000001 ∷ Reading Ghc 0 ∷ Writing Ghc 0x80000002 ∷ []
 
 -- A stopped port gets its places, FRE, and COMRESET; the device shows, is idle, and has another signature than an ATA
 -- disk's.
@@ -40,7 +40,7 @@ boot_accesses port =
 
 -- all of them, one after another
 abbrev pub reset_and_boot_accesses : List Access
-reset_and_boot_accesses = ended_reset_accesses ++ (boot_accesses 0 ++ boot_accesses 1)
+reset_and_boot_accesses = ended_reset_and_enable_accesses ++ (boot_accesses 0 ++ boot_accesses 1)
 
 -- A read of port 0 is accepted and issued, and its frame is lent. Then the adapter is reset, and the reset ends: each
 -- port is booted, and no ATA disk is found. So both are unfit, the read is answered Unplugged, and its frame is given

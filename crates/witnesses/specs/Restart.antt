@@ -19,8 +19,8 @@ stop_accesses = Reading (Px (port_at 0) Cmd) 0xc011 ∷ Writing (Px (port_at 0) 
     0x4010 ∷ []
 
 -- FRE is cleared; command list and received FIS area are put in their places; and FRE is set
-abbrev pub placing_accesses : List Access
-placing_accesses =
+abbrev pub base_address_accesses : List Access
+base_address_accesses =
     Reading (Px (port_at 0) Cmd) 0x4010 ∷ Writing (Px (port_at 0) Cmd) 0x4000 ∷ Reading (Px (port_at 0) Cmd) 0
     ∷ Writing (Px (port_at 0) Clb) 0 ∷ Writing (Px (port_at 0) Clbu) 0 ∷ Writing (Px (port_at 0) Fb) 0x400
     ∷ Writing (Px (port_at 0) Fbu) 0
@@ -35,11 +35,11 @@ comreset_accesses =
 
 -- all of them, one after another
 abbrev pub stop_and_comreset_accesses : List Access
-stop_and_comreset_accesses = mask_accesses ++ (stop_accesses ++ (placing_accesses ++ comreset_accesses))
+stop_and_comreset_accesses = mask_accesses ++ (stop_accesses ++ (base_address_accesses ++ comreset_accesses))
 
 -- what is named: port 0 was stopped, and has lost its disk; and these ports have failed, each by a fatal error
-abbrev pub lost_and_stopped_evidence : List Port → Evidence
-lost_and_stopped_evidence failed = record {
+abbrev pub port_0_lost_and_stopped_evidence : List Port → Evidence
+port_0_lost_and_stopped_evidence failed = record {
   faults = [];
   lost = port_at 0 ∷ [];
   link_changed = [];

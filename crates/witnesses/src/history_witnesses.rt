@@ -14,7 +14,7 @@ pub fn law_a_fault_recovery_history_exists()
 
 /// There is a history with a service that finds a read done on one port, and loses the disk of another: all that is
 /// asked of its calls is met.
-pub fn law_a_lost_disk_history_exists()
+pub fn law_a_disk_loss_beside_ok_read_history_exists()
     ensures { LossIsAHistory }
 {}
 

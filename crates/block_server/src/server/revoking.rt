@@ -75,7 +75,7 @@ impl<A: Adapter> Server<A> {
         };
         self.shared.book.mark_revoked(client, number);
         self.shared
-            .cancel_waiting_under_grant(client, number, replies);
+            .complete_waiting_under_grant_as_revoked(client, number, replies);
         if self.stuck {
             // No port is ready.
             return Ok(());

@@ -1,7 +1,7 @@
 use Rattle.ata_types.specs.declared.limits.TheConstants.{MOST_READINGS}
 use Rattle.std.proofs.Common.{ℕ, ◌≡◌, sym, ◌∙◌, subst, arith, rules}
 use Rattle.refinement.specs.Fragments.{AnySlotStates, IsSimulatedAlong}
-use Rattle.disk_page.specs.PageRequests.{AreSlot0IssuedReadings, IsSlot0CiOrPageMemoryAccess}
+use Rattle.disk_page.specs.PageRequests.{AreSlot0IssuedReadings, IsPxciOrSlot0PageMemoryAccess}
 use Rattle.disk_page.proofs.Asking.{pending_first, pending_again, pending_over}
 use Rattle.disk_page.proofs.wait.Goals as goal
 
@@ -36,4 +36,4 @@ returns-then-not-is_set-clause-over g c = λ _.
 pub returns-clause-vain : goal.returns-clause-vain
 returns-clause-vain g c = λ _.
     let all : c.loop-reading._reading ≡ MOST_READINGS = omega arith in
-    (search rules, subst (λ (n : ℕ). IsSimulatedAlong (AreSlot0IssuedReadings c.args.port n) (IsSlot0CiOrPageMemoryAccess c.args.port) AnySlotStates (g.A.Adapter.device c.args.adapter.now) (g.A.Adapter.device c.loop-reading.adapter)) all c.loop-reading.invariant.known.told)
+    (search rules, subst (λ (n : ℕ). IsSimulatedAlong (AreSlot0IssuedReadings c.args.port n) (IsPxciOrSlot0PageMemoryAccess c.args.port) AnySlotStates (g.A.Adapter.device c.args.adapter.now) (g.A.Adapter.device c.loop-reading.adapter)) all c.loop-reading.invariant.known.told)

@@ -3,7 +3,7 @@ ghost use Rattle.std.specs.Prelude.{ℕ, true, false, ◌≡◌, ◌≢◌, ◌�
 ghost use Rattle.ata_types.specs.declared.Port.{Port};
 ghost use Rattle.hba_regs.specs.{Bits.{bit}, declared.reg.PortReg.{PortReg}, declared.reg.PortReg.TheVariants.{Ci, Is, Sact, Ssts}, declared.reg.Reg.TheVariants.{Ghc, Px}};
 ghost use Rattle.adapter.specs.{Access.{Access, Reads}, Device.{Device}, Rules.{IsOn}};
-ghost use Rattle.refinement.specs.{Fragments.{SameSlotStates, SomeMachineAgrees, IsDrivenBy, IsSimulated, SparesOtherPorts}, Errors.{KeepsSetBitsOfPxisAndSerrNX, NoDiskComes}, PortFacts.{IsHaltedPlainOrQueued, RecordsFaultsIfSt, RunsWell, ShowsNoTrouble, PxisValueTellsNoTrouble, Undisturbed}, PreservedParts.{SameAdapter, DoesNotWrite}, Slots.{SlotStates}};
+ghost use Rattle.refinement.specs.{Fragments.{SameSlotStates, SomeMachineAgrees, IsDrivenBy, IsSimulated, AccessesNoOtherPort}, Errors.{KeepsSetBitsOfPxisAndSerrNX, NoDiskComes}, PortFacts.{IsHaltedPlainOrQueued, RecordsFaultsIfSt, RunsWell, ShowsNoTrouble, PxisValueTellsNoTrouble, Undisturbed}, PreservedParts.{SameAdapter, DoesNotWrite}, Slots.{SlotStates}};
 ghost use Rattle.port_control.specs.{PortEvents.{port_event_of, IsPxisSstsOrOwnIsAccess, TakesEvent}, ServiceAccesses.{ShowedLossOrHadPlugEvent, WritesOnlyHbaIsPxIsCiOrSact, WritesOnlyHbaIsCiSactOrOtherPxIs, SerrNXStaySet, HidesNoPlugEvent, HidesNoFatal, HidesNoFault}, declared.events.PortEvent.{PortEvent}};
 ghost use Rattle.port_control.specs.declared.events.PortEvent.TheVariants as look;
 
@@ -21,9 +21,9 @@ pub fn law_looks_make_only_service_accesses()
 {}
 
 /// A look touches no register of another port, nor another port's bit of IS: so what is said of such accesses
-/// (`SparesOtherPorts`) is so of each.
+/// (`AccessesNoOtherPort`) is so of each.
 pub fn law_looks_spare_other_ports()
-    ensures { (port : Port) (access : Access) → IsPxisSstsOrOwnIsAccess port access → SparesOtherPorts port access }
+    ensures { (port : Port) (access : Access) → IsPxisSstsOrOwnIsAccess port access → AccessesNoOtherPort port access }
 {}
 
 /// What serving ports leaves: the adapter, which stays on; ST and the command list of each port; DET of each port's

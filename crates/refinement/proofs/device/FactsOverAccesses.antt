@@ -13,7 +13,7 @@ use Rattle.adapter.specs.Device.{DevicePort, Device}
 use Rattle.adapter.specs.Steps.{Steps}
 use Rattle.adapter.proofs.Changed.{changed_other}
 use Rattle.refinement.specs.Relation.{port_at}
-use Rattle.refinement.specs.Fragments.{SparesOtherPorts}
+use Rattle.refinement.specs.Fragments.{AccessesNoOtherPort}
 use Rattle.refinement.proofs.steps.AdapterCalls.{noted_tape}
 use Rattle.refinement.proofs.device.HealthyPort.{at_port, written_tape}
 
@@ -71,7 +71,7 @@ module _ (port : Port) (q : ℕ) (other : q ≢ port.0) where
   beside : (p : Port) → p ≡ port → q ≢ p.0
   beside p is e = other (e ∙ ap (λ (x : Port). x.0) is)
 
-  noted_beside : (r : Reg) (v : ℕ) (d : Device) → SparesOtherPorts port (Reading r v) → (device_after_reading r v d).port q ≡ d.port q
+  noted_beside : (r : Reg) (v : ℕ) (d : Device) → AccessesNoOtherPort port (Reading r v) → (device_after_reading r v d).port q ≡ d.port q
   noted_beside (Px p r) v d is = changed_other d.port p.0 _ q (beside p is)
   noted_beside Cap v d is = refl
   noted_beside Ghc v d is = refl
@@ -81,7 +81,7 @@ module _ (port : Port) (q : ℕ) (other : q ≢ port.0) where
   noted_beside Cap2 v d is = refl
   noted_beside Bohc v d is = refl
 
-  written_beside : (r : Reg) (v : ℕ) (d : Device) → SparesOtherPorts port (Writing r v) → (device_after_write r v d).port q ≡ d.port q
+  written_beside : (r : Reg) (v : ℕ) (d : Device) → AccessesNoOtherPort port (Writing r v) → (device_after_write r v d).port q ≡ d.port q
   written_beside (Px p r) v d is = changed_other d.port p.0 _ q (beside p is)
   written_beside Cap v d is = absurd is
   written_beside Ghc v d is = absurd is
@@ -92,7 +92,7 @@ module _ (port : Port) (q : ℕ) (other : q ≢ port.0) where
   written_beside Bohc v d is = absurd is
 
   -- it is as the device's steps left it
-  pub beside_same : (access : Access) (old new : Device) (x : Does access old new) → SparesOtherPorts port access → new.port q ≡ (access_steps access old new x).0.port q
+  pub beside_same : (access : Access) (old new : Device) (x : Does access old new) → AccessesNoOtherPort port access → new.port q ≡ (access_steps access old new x).0.port q
   unfolding access_steps
   beside_same (Reading r v) old new x is = ap (λ (d : Device). d.port q) x.effect ∙ noted_beside r v x.at_access is
   beside_same (Writing r v) old new x is = ap (λ (d : Device). d.port q) x.effect ∙ written_beside r v x.at_access is

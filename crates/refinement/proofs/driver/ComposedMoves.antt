@@ -9,7 +9,7 @@ use Rattle.block_machine.specs.Steps.{Step, IsEnabled, after_step}
 use Rattle.block_machine.proofs.EventLemmas.{after-append}
 use Rattle.block_machine.proofs.EventLemmas.{enabled_histories_join}
 use Rattle.block_machine.proofs.HistoryLemmas.{reached_more}
-use Rattle.refinement.specs.Driver.{DriverState, DriverRelation, TapeBacksSteps, IsBackedByDeviceAlone, EndsInSteps, DriverAdvances}
+use Rattle.refinement.specs.Driver.{DriverState, DriverRelation, TapeBacksSteps, IsBackedByDeviceAlone, EndsInOwnStepsAfterDeviceSteps, DriverAdvances}
 use Rattle.refinement.specs.Simulation.{SimulatesSteps}
 use Rattle.refinement.proofs.driver.AddedSteps.{backed_then, nothing_backed, knowing_goes_on}
 use Rattle.refinement.proofs.driver.IssueWrite.{own_backed}
@@ -40,7 +40,7 @@ goes_device k later m steps may by x = record { steps_are_enabled = may; is_back
 pub goes_following : (k : DriverState) (m : Machine) (new : Device) → DriverRelation m k → (f : SimulatesSteps k.slot_states m k.device new) → DriverAdvances k m f.steps (record k { device = new })
 goes_following k m new x f = let y = knowing_goes_on k m new x f in goes_device k (record k { device = new }) m f.steps f.steps_are_enabled y.1 y.0
 
-pub goes_ending : (k later : DriverState) (m : Machine) (own : List Step) → (e : EndsInSteps k m own later) → DriverAdvances k m (own ++ e.steps) later
+pub goes_ending : (k later : DriverState) (m : Machine) (own : List Step) → (e : EndsInOwnStepsAfterDeviceSteps k m own later) → DriverAdvances k m (own ++ e.steps) later
 goes_ending k later m own e = record { steps_are_enabled = e.steps_are_enabled; is_backed = e.is_backed; driver_relation = e.driver_relation }
 
 pub goes_access : (k later : DriverState) (m : Machine) → IsSimulatedBySteps DriverRelation k later (IsBackedByDeviceAlone k.device later.device) → IsReachable m → DriverRelation m k → (steps : List Step) × AllByDevice steps × DriverAdvances k m steps later

@@ -17,7 +17,7 @@ use Rattle.adapter.specs.RegisterEffects.{PortRegisterRead}
 use Rattle.block_machine.specs.Expected.{after}
 use Rattle.block_machine.specs.Histories.{IsReachable}
 use Rattle.block_machine.specs.State.{Pending, Machine}
-use Rattle.block_machine.specs.Steps.{MayStillMove}
+use Rattle.block_machine.specs.Steps.{IsIssuedOrKept}
 use Rattle.block_machine.proofs.Standing.{standing}
 use Rattle.block_machine.proofs.Trace.{living_one, runs_lives}
 use Rattle.refinement.specs.StepLaws.{StepLaws}
@@ -53,7 +53,7 @@ is_ended_at_age_two m d port slot id h x = (
 )
 
 -- so it is where the request has ended
-pub law_slot_is_clear_iff_ended_while_st_set : (uses : SlotStates) (m : Machine) (d : Device) (port : Port) (slot : ℕ) (e : Pending) → IsReachable m → StateRelation uses m d → MayStillMove m e → e.ended ≡ true → uses port.0 slot ≡ Serves e.request.id →
+pub law_slot_is_clear_iff_ended_while_st_set : (uses : SlotStates) (m : Machine) (d : Device) (port : Port) (slot : ℕ) (e : Pending) → IsReachable m → StateRelation uses m d → IsIssuedOrKept m e → e.ended ≡ true → uses port.0 slot ≡ Serves e.request.id →
     IsSlotClear (d.port port.0) slot × EndedOnPort m port e.request.id
 law_slot_is_clear_iff_ended_while_st_set uses m d port slot e reached a moves ended u = by (subst (λ (v : SlotState). RelatesSlot m d.memory d.tape (d.port port.0) port.0 slot v) u (a.relates_slots port.0 slot))
   where

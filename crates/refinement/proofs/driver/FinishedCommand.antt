@@ -16,7 +16,7 @@ use Rattle.adapter.specs.Steps.{Steps}
 use Rattle.block_machine.specs.Events.{AllByDevice}
 use Rattle.block_machine.specs.Expected.{after}
 use Rattle.block_machine.specs.State.{Accepted, Pending, Machine}
-use Rattle.block_machine.specs.Steps.{Step, MayStillMove, NoneKept}
+use Rattle.block_machine.specs.Steps.{Step, IsIssuedOrKept, NoneKept}
 use Rattle.refinement.specs.StepLaws.{StepLaws}
 use Rattle.refinement.specs.PortFacts.{EndedOnPort, IsSlotClear}
 use Rattle.adapter.specs.OneCommand.{SlotHasNoCommand}
@@ -100,7 +100,7 @@ ended_stays m steps port id is h = ⊎_elim booked kept h.may_still_move
     spares : KeepsLoansAndPendingsOnlyAdvance m (after m steps)
     spares = steps_spare m steps is
 
-    ended : (x : Pending) → IsAsFarOrFurther h.pending x → MayStillMove (after m steps) x → (NoneKept (after m steps) port → Contains (after m steps).book x) → EndedOnPort (after m steps) port id
+    ended : (x : Pending) → IsAsFarOrFurther h.pending x → IsIssuedOrKept (after m steps) x → (NoneKept (after m steps) port → Contains (after m steps).book x) → EndedOnPort (after m steps) port id
     ended x f moves booked = record {
       pending = x;
       may_still_move = moves;

@@ -8,7 +8,7 @@ use Rattle.adapter.specs.Device.{Device}
 use Rattle.adapter.specs.Rules.{InUse}
 use Rattle.adapter.specs.declared.tape.Entry.{Entry}
 use Rattle.block_machine.specs.State.{Pending, Machine}
-use Rattle.block_machine.specs.Steps.{MayStillMove}
+use Rattle.block_machine.specs.Steps.{IsIssuedOrKept}
 use Rattle.refinement.specs.Relation.{StateRelation}
 use Rattle.refinement.specs.PortFacts.{ShowsFault}
 use Rattle.adapter.specs.OneCommand.{SlotHasNoCommand}
@@ -95,7 +95,7 @@ stopped_clear uses m d port slot a st = by (uses port slot) (a.relates_slots por
         of (inr (inr (inr x))) = (x.is_not_issued, x.sact_is_clear)
 
 pub over_decided : (uses : SlotStates) (m : Machine) (d : Device) (port slot : ℕ) (id : RequestId) → StateRelation uses m d → uses port slot ≡ Serves id → SlotHasNoCommand (d.port port) slot →
-    (e : Pending) × MayStillMove m e × (e.request.id ≡ id) × ((e.ended ≡ true) ⊎ (((d.port port).st ≡ false) × (e.ended ≡ false)))
+    (e : Pending) × IsIssuedOrKept m e × (e.request.id ≡ id) × ((e.ended ≡ true) ⊎ (((d.port port).st ≡ false) × (e.ended ≡ false)))
 over_decided uses m d port slot id a u over =
     let h : ServesRequest m d.memory (d.port port) port slot id = subst (λ (w : SlotState). RelatesSlot m d.memory d.tape (d.port port) port slot w) u (a.relates_slots port slot) in
     (h.pending, h.may_still_move, h.id_is, of h h.stage)

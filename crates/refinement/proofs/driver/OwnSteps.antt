@@ -16,7 +16,7 @@ use Rattle.adapter.specs.Memory.{changed}
 use Rattle.adapter.proofs.Changed.{changed_same}
 use Rattle.block_machine.specs.State.{Accepted, Pending, Machine, DiskBytes, Memory}
 use Rattle.block_machine.specs.Histories.{IsReachable}
-use Rattle.block_machine.specs.Steps.{Accept, Answer, WaitAgain, Age, Release, MayStillMove, after_step, update_pending, without_pending, newly_accepted, aged_pending, requeued, is_kept_at_answer, Revoke}
+use Rattle.block_machine.specs.Steps.{Accept, Answer, WaitAgain, Age, Release, IsIssuedOrKept, after_step, update_pending, without_pending, newly_accepted, aged_pending, requeued, is_kept_at_answer, Revoke}
 use Rattle.block_machine.proofs.Members.{map_in, into_map, at_cases, without_in, contains_here, contains_there, contains_cases, contains_none, append_in}
 use Rattle.block_machine.proofs.Sound.{Sound}
 use Rattle.block_machine.proofs.Standing.{standing}
@@ -54,12 +54,12 @@ pub record GoesOn (m m' : Machine) (e : Pending) : Type 0 where
   pub issues : ℕ
   pub age : ℕ
   pub issued : Bool
-  pub moves : MayStillMove m' (record e { issue_count = issues; age = age; issued = issued })
+  pub moves : IsIssuedOrKept m' (record e { issue_count = issues; age = age; issued = issued })
 
-pub goes_on_same : (m m' : Machine) (e : Pending) → MayStillMove m' e → GoesOn m m' e
+pub goes_on_same : (m m' : Machine) (e : Pending) → IsIssuedOrKept m' e → GoesOn m m' e
 goes_on_same m m' e r = record { issues = e.issue_count; age = e.age; issued = e.issued; moves = r }
 
-served_goes : (m m' : Machine) (d : Device) (p : DevicePort) (port slot : ℕ) (u : SlotState) → ((id : RequestId) → u ≡ Serves id → (e : Pending) → e.request.id ≡ id → MayStillMove m e → GoesOn m m' e) →
+served_goes : (m m' : Machine) (d : Device) (p : DevicePort) (port slot : ℕ) (u : SlotState) → ((id : RequestId) → u ≡ Serves id → (e : Pending) → e.request.id ≡ id → IsIssuedOrKept m e → GoesOn m m' e) →
     RelatesSlot m d.memory d.tape p port slot u → RelatesSlot m' d.memory d.tape p port slot u
 served_goes m m' d p port slot Free goes h = h
 served_goes m m' d p port slot Armed goes h = h
@@ -81,7 +81,7 @@ served_goes m m' d p port slot (Serves id) goes h =
 
 -- Another machine with the same disks and memory, in which each request that a slot serves may move still, agrees too.
 pub agrees_on : (uses : SlotStates) (m m' : Machine) (d : Device) → StateRelation uses m d → SameWorld m m' →
-    ((q k : ℕ) (id : RequestId) → uses q k ≡ Serves id → (e : Pending) → e.request.id ≡ id → MayStillMove m e → GoesOn m m' e) → StateRelation uses m' d
+    ((q k : ℕ) (id : RequestId) → uses q k ≡ Serves id → (e : Pending) → e.request.id ≡ id → IsIssuedOrKept m e → GoesOn m m' e) → StateRelation uses m' d
 agrees_on uses m m' d a world goes = record {
   relates_slots = λ q k. served_goes m m' d (d.port q) q k (uses q k) (goes q k) (a.relates_slots q k);
   serve_distinct_requests = a.serve_distinct_requests;
@@ -138,7 +138,7 @@ tick_knows k m ready x = record {
       (λ (z : Contains m.kept y). x.have_slots_unless_parked q y (inr z) at_port) may;
 }
   where
-    goes : (e : Pending) → MayStillMove m e → GoesOn m (after_step m (Age ready)) e
+    goes : (e : Pending) → IsIssuedOrKept m e → GoesOn m (after_step m (Age ready)) e
     goes e may = ⊎_elim
         (λ (z : Contains m.book e × (e.issued ≡ true)). record {
           issues = e.issue_count;
@@ -176,8 +176,8 @@ without_into id (y ∷ ys) e ne c = go (y.request.id.0 == id.0) refl (λ w. with
 -- What an answer that keeps nothing, or an Again, leaves: the others, and nothing of the request itself that may move.
 record Leaves (m m' : Machine) (id : RequestId) : Type 0 where
   world : SameWorld m m'
-  moves : (e : Pending) → e.request.id ≢ id → MayStillMove m e → MayStillMove m' e
-  back : (e : Pending) → MayStillMove m' e → MayStillMove m e × (e.request.id ≢ id)
+  moves : (e : Pending) → e.request.id ≢ id → IsIssuedOrKept m e → IsIssuedOrKept m' e
+  back : (e : Pending) → IsIssuedOrKept m' e → IsIssuedOrKept m e × (e.request.id ≢ id)
 
 leaves_knows : (k : DriverState) (m m' : Machine) (id : RequestId) (later : ℕ → List RequestId) → DriverRelation m k → HasNoSlot k.slot_states id → OthersStayParked id k.awaiting_disposition later → Leaves m m' id → DriverRelation m' (record k { awaiting_disposition = later })
 leaves_knows k m m' id later x none forgets l = record {
@@ -263,7 +263,7 @@ keeping_knows k m e outcome r x here stay = record {
     was_issued told.Unplugged h = true_false h refl
     was_issued told.Revoked h = true_false h refl
 
-    goes : (y : Pending) → MayStillMove m y → MayStillMove (after_step m (Answer e outcome)) y
+    goes : (y : Pending) → IsIssuedOrKept m y → IsIssuedOrKept (after_step m (Answer e outcome)) y
     goes y (inr z) = inr (subst (λ (es : List Pending). Contains es y) (sym kept) (contains_there e m.kept y z))
     goes y (inl z) = ⊎_elim
         (λ (same : y.request.id.0 ≡ e.request.id.0). inr (subst (λ (es : List Pending). Contains es y) (sym kept) (contains_here e m.kept y (sound.one y e z.0 here same))))

@@ -15,7 +15,7 @@ use Rattle.adapter.proofs.KeptLemmas.{law_step_lists_keep_what_steps_keep, PortB
 use Rattle.block_machine.proofs.HistoryLemmas.{reached_more}
 use Rattle.block_machine.specs.Expected.{after}
 pub use Rattle.refinement.specs.Fragments.{TapeGrows}
-use Rattle.refinement.specs.Fragments.{SomeMachineAgrees, ReadsPortOrWrites, IsDrivenBy, IsSimulated, IsSimulatedChangingUses, SparesOtherPorts, OnlyDeviceChangesPort, NoneWrites}
+use Rattle.refinement.specs.Fragments.{SomeMachineAgrees, ReadsPortOrWrites, IsDrivenBy, IsSimulated, IsSimulatedChangingUses, AccessesNoOtherPort, OnlyDeviceChangesPort, NoneWrites}
 use Rattle.refinement.specs.PortFacts.{RecordsFaultsIfSt}
 use Rattle.refinement.specs.PreservedParts.{DoesNotWrite, SameAdapter}
 use Rattle.refinement.specs.Slots.{SlotStates}
@@ -26,7 +26,7 @@ use Rattle.refinement.proofs.device.RecordedFaults.{steps_recorded}
 
 -- ---- accesses that touch no register of another port
 
-of_spares : (port : Port) (r : Reg) → ((s : PortReg) → Px port s ≢ r) → Is ≢ r → NoneWrites (SparesOtherPorts port) r
+of_spares : (port : Port) (r : Reg) → ((s : PortReg) → Px port s ≢ r) → Is ≢ r → NoneWrites (AccessesNoOtherPort port) r
 of_spares port r never apart (Writing (Px p s) v) is = λ e. never s (ap (λ (q : Port). Px q s) (sym is) ∙ e)
 of_spares port r never apart (Writing Cap v) is = absurd is
 of_spares port r never apart (Writing Ghc v) is = absurd is
@@ -39,10 +39,10 @@ of_spares port r never apart (Reading s v) is = tt
 of_spares port r never apart (Loading at bytes) is = tt
 of_spares port r never apart (Storing at bytes) is = tt
 
-pub of_spares_ghc : (port : Port) → NoneWrites (SparesOtherPorts port) Ghc
+pub of_spares_ghc : (port : Port) → NoneWrites (AccessesNoOtherPort port) Ghc
 of_spares_ghc port = of_spares port Ghc (λ s e. absurd (let z : Px port s ≡ Ghc = e in cc)) (λ e. absurd (let z : Is ≡ Ghc = e in cc))
 
-pub of_spares_others : (port q : Port) (r : PortReg) → q.0 ≢ port.0 → NoneWrites (SparesOtherPorts port) (Px q r)
+pub of_spares_others : (port q : Port) (r : PortReg) → q.0 ≢ port.0 → NoneWrites (AccessesNoOtherPort port) (Px q r)
 of_spares_others port q r other = of_spares port (Px q r) (λ s e. let z : Px port s ≡ Px q r = e in let same : port ≡ q = cc in other (ap (λ (x : Port). x.0) (sym same))) (λ e. absurd (let z : Is ≡ Px q r = e in cc))
 
 -- ---- controls
@@ -93,24 +93,24 @@ module _ (Written : PortReg → Type 0) (port : Port) where
         | inr (r, v, e, w) ↦ subst (ReadsPortOrWrites More port) (sym e) (refl, wider r w)
       ]
 
-  pub control_is_of : (access : Access) → ReadsPortOrWrites Written port access → SparesOtherPorts port access
+  pub control_is_of : (access : Access) → ReadsPortOrWrites Written port access → AccessesNoOtherPort port access
   control_is_of access is =
       elim (is_control access is) [
-        | inl (r, v, e) ↦ subst (SparesOtherPorts port) (sym e) refl
-        | inr (r, v, e, w) ↦ subst (SparesOtherPorts port) (sym e) refl
+        | inl (r, v, e) ↦ subst (AccessesNoOtherPort port) (sym e) refl
+        | inr (r, v, e, w) ↦ subst (AccessesNoOtherPort port) (sym e) refl
       ]
 
 -- ---- a port that isn't theirs
 
 module _ (port : Port) (q : ℕ) (other : q ≢ port.0) where
-  beside_left : (access : Access) (old new : Device) → old.hr ≡ false → SparesOtherPorts port access → Does access old new → OnlyDeviceChangesPort (old.port q) (new.port q)
+  beside_left : (access : Access) (old new : Device) → old.hr ≡ false → AccessesNoOtherPort port access → Does access old new → OnlyDeviceChangesPort (old.port q) (new.port q)
   beside_left access old new off is x =
       let s = access_steps access old new x in
       let k : KeepsOverSteps old s.0 = law_step_lists_keep_what_steps_keep s.1 in
       let c : KeepsOutsideReset old s.0 = k.keeps_outside_reset off in
       subst (OnlyDeviceChangesPort (old.port q)) (sym (beside_same port q other access old new x is)) (record { bits_only_fall = k.port_bits_only_fall q; controls = c.controls_are_kept q; notes = k.notes_are_kept q })
 
-  beside_recorded : (access : Access) (old new : Device) → SparesOtherPorts port access → Does access old new → RecordsFaultsIfSt old.tape (old.port q) q → RecordsFaultsIfSt new.tape (new.port q) q
+  beside_recorded : (access : Access) (old new : Device) → AccessesNoOtherPort port access → Does access old new → RecordsFaultsIfSt old.tape (old.port q) q → RecordsFaultsIfSt new.tape (new.port q) q
   beside_recorded access old new is x h =
       let s = access_steps access old new x in
       subst (λ (p : DevicePort). RecordsFaultsIfSt new.tape p q) (sym (beside_same port q other access old new x is))
@@ -151,16 +151,16 @@ module _ (May : Access → Type 0) (old new : Device) (driven : IsDrivenBy May o
   on_over spares on =
       (over (λ a b. Unit {0}) (λ d. tt) (λ a b c x y. tt) May spares (λ access a b here may does. tt) driven.accesses old new on driven.accesses_are_of_kind driven.all_are_done).1
 
-module _ (port : Port) (old new : Device) (driven : IsDrivenBy (SparesOtherPorts port) old new) (q : ℕ) (other : q ≢ port.0) where
+module _ (port : Port) (old new : Device) (driven : IsDrivenBy (AccessesNoOtherPort port) old new) (q : ℕ) (other : q ≢ port.0) where
   pub other_left : IsOn old → OnlyDeviceChangesPort (old.port q) (new.port q)
   other_left on =
-      (over (λ a b. OnlyDeviceChangesPort (a.port q) (b.port q)) (λ d. leaves_none (d.port q)) (λ a b c x y. leaves_more (a.port q) (b.port q) (c.port q) x y) (SparesOtherPorts port) (of_spares_ghc port)
+      (over (λ a b. OnlyDeviceChangesPort (a.port q) (b.port q)) (λ d. leaves_none (d.port q)) (λ a b c x y. leaves_more (a.port q) (b.port q) (c.port q) x y) (AccessesNoOtherPort port) (of_spares_ghc port)
       (λ access a b here may does. beside_left port q other access a b here.no_reset may does)
       driven.accesses old new on driven.accesses_are_of_kind driven.all_are_done).0
 
   pub other_recorded : RecordsFaultsIfSt old.tape (old.port q) q → RecordsFaultsIfSt new.tape (new.port q) q
   other_recorded =
-      along (λ a b. RecordsFaultsIfSt a.tape (a.port q) q → RecordsFaultsIfSt b.tape (b.port q) q) (λ d h. h) (λ a b c x y h. y (x h)) (SparesOtherPorts port)
+      along (λ a b. RecordsFaultsIfSt a.tape (a.port q) q → RecordsFaultsIfSt b.tape (b.port q) q) (λ d h. h) (λ a b c x y h. y (x h)) (AccessesNoOtherPort port)
       (λ access a b may does. beside_recorded port q other access a b may does)
       driven.accesses old new driven.accesses_are_of_kind driven.all_are_done
 

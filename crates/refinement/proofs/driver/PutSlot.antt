@@ -17,7 +17,7 @@ use Rattle.block_machine.specs.declared.due.QueueMode.{QueueMode}
 use Rattle.block_machine.specs.DueRequests.{is_plain}
 use Rattle.block_machine.specs.State.{Accepted, Pending, Machine, DiskBytes, Memory}
 use Rattle.block_machine.specs.Histories.{IsReachable}
-use Rattle.block_machine.specs.Steps.{Issue, MayStillMove, after_step, update_pending, newly_issued}
+use Rattle.block_machine.specs.Steps.{Issue, IsIssuedOrKept, after_step, update_pending, newly_issued}
 use Rattle.block_machine.proofs.Members.{map_in, into_map, at_cases}
 use Rattle.block_machine.proofs.Standing.{Standing, standing}
 use Rattle.adapter.specs.OneCommand.{SlotHasNoCommand}
@@ -74,7 +74,7 @@ pub record SameWorld (m m' : Machine) : Type 0 where
 -- What has to be shown where one slot is put to another use.
 pub record Puts (uses : SlotStates) (m m' : Machine) (d : Device) (ports : ℕ → DevicePort) (port slot : ℕ) (u : SlotState) : Type 0 where
   pub world : SameWorld m m'
-  pub moves : (q k : ℕ) (id : RequestId) → uses q k ≡ Serves id → (q ≡ port → k ≡ slot → ⊥) → (e : Pending) → e.request.id ≡ id → MayStillMove m e → MayStillMove m' e
+  pub moves : (q k : ℕ) (id : RequestId) → uses q k ≡ Serves id → (q ≡ port → k ≡ slot → ⊥) → (e : Pending) → e.request.id ≡ id → IsIssuedOrKept m e → IsIssuedOrKept m' e
   pub others : (q k : ℕ) → (q ≡ port → k ≡ slot → ⊥) → SameSlot (d.port q) (ports q) k
   pub here : RelatesSlot m' d.memory d.tape (ports port) port slot u
   pub apart : (q k : ℕ) (id : RequestId) → u ≡ Serves id → uses q k ≡ Serves id → ⊥
@@ -271,7 +271,7 @@ module _ (uses : SlotStates) (m : Machine) (d : Device) (reached : IsReachable m
   issue_agrees = put_agrees uses m (after_step m (Issue mode e)) d a (changed d.port port (issued_port (d.port port) v)) port slot (Serves e.request.id) puts
 
   -- a request that may move keeps its slot
-  old_slot : (q : ℕ) (parked : List RequestId) → HaveSlotsUnlessParked uses m q parked → (o : Pending) → MayStillMove m o → o.request.port.0 ≡ q → Contains parked o.request.id ⊎ ((s : ℕ) × (set_slot_state uses port slot (Serves e.request.id) q s ≡ Serves o.request.id))
+  old_slot : (q : ℕ) (parked : List RequestId) → HaveSlotsUnlessParked uses m q parked → (o : Pending) → IsIssuedOrKept m o → o.request.port.0 ≡ q → Contains parked o.request.id ⊎ ((s : ℕ) × (set_slot_state uses port slot (Serves e.request.id) q s ≡ Serves o.request.id))
   old_slot q parked had o r at_port = ⊎_elim
       (λ (p : Contains parked o.request.id). inl p)
       (λ (w : (s : ℕ) × (uses q s ≡ Serves o.request.id)).

@@ -9,7 +9,7 @@ use Rattle.adapter.specs.declared.tape.Entry.{Entry}
 use Rattle.adapter.proofs.Changed.{changed_same, changed_other}
 use Rattle.adapter.proofs.MemoryLemmas.{patched_apart}
 use Rattle.block_machine.specs.State.{Pending, Machine}
-use Rattle.block_machine.specs.Steps.{MayStillMove}
+use Rattle.block_machine.specs.Steps.{IsIssuedOrKept}
 use Rattle.refinement.specs.Slots.{Serves, SlotStates, RelatesSlot}
 use Rattle.refinement.specs.Relation.{StateRelation, port_at, IsDiskOf, SameSectors, HoldsReplugCandidates, SameClientFrames, HasReceivedArea, ServeDistinctRequests}
 use Rattle.refinement.proofs.relation.SlotRelation.{SameSlot, SameFixed, slots_after}
@@ -29,7 +29,7 @@ sectors_on m m' disk port same s = record { told_sectors = s.told_sectors; disk_
 pub record Acts (Except : ℕ → Type 0) (uses : SlotStates) (m m' : Machine) (d : Device) (memory' : ℕ → ℕ) (later : List Entry) (port slot : ℕ) (new : DevicePort) : Type 0 where
   pub id : RequestId
   pub goes : Goes m m' id
-  pub moves : (port' slot' : ℕ) (id' : RequestId) → uses port' slot' ≡ Serves id' → (port' ≡ port → slot' ≡ slot → ⊥) → (e : Pending) → e.request.id ≡ id' → MayStillMove m e → MayStillMove m' e
+  pub moves : (port' slot' : ℕ) (id' : RequestId) → uses port' slot' ≡ Serves id' → (port' ≡ port → slot' ≡ slot → ⊥) → (e : Pending) → e.request.id ≡ id' → IsIssuedOrKept m e → IsIssuedOrKept m' e
   pub only : (q : ℕ) → Except q → (q ≡ port) × (slot ≡ 0)
   pub fixed : SameFixed Except uses d.memory memory' d.tape later
   pub others : (k : ℕ) → k ≢ slot → SameSlot (d.port port) new k
@@ -75,7 +75,7 @@ other_id uses port slot id port' slot' id' apart u v ne e =
     let r = apart port' slot' port slot id (v ∙ ap Serves e) u in ne r.0 r.1
 
 pub others_move : (uses : SlotStates) (m m' : Machine) (d : Device) (a : StateRelation uses m d) (port slot : ℕ) (id : RequestId) → uses port slot ≡ Serves id → Goes m m' id →
-    (port' slot' : ℕ) (id' : RequestId) → uses port' slot' ≡ Serves id' → (port' ≡ port → slot' ≡ slot → ⊥) → (e : Pending) → e.request.id ≡ id' → MayStillMove m e → MayStillMove m' e
+    (port' slot' : ℕ) (id' : RequestId) → uses port' slot' ≡ Serves id' → (port' ≡ port → slot' ≡ slot → ⊥) → (e : Pending) → e.request.id ≡ id' → IsIssuedOrKept m e → IsIssuedOrKept m' e
 others_move uses m m' d a port slot id u goes port' slot' id' v ne e is r =
     goes.moves e (λ same. other_id uses port slot id port' slot' id' a.serve_distinct_requests u v ne (sym is ∙ same)) r
 

@@ -2,7 +2,7 @@
 use Rattle.ata_types.specs.declared.memory.TheConstants.{DRIVER_FRAMES}
 use Rattle.std.proofs.Common.{ℕ, ◌<◌, ◌≤◌, length, List, sym, ◌∙◌, subst}
 use Rattle.block_machine.specs.State.{Pending, Machine, nth_frame}
-use Rattle.block_machine.specs.Steps.{Step, MayStillMove}
+use Rattle.block_machine.specs.Steps.{Step, IsIssuedOrKept}
 use Rattle.block_machine.specs.Events.{AllEnabled}
 use Rattle.block_machine.specs.Expected.{after, IsInitial}
 use Rattle.block_machine.specs.Histories.{IsReachable}
@@ -12,7 +12,7 @@ use Rattle.block_machine.proofs.Trace.{runs_lives}
 
 -- the frames of what may move are clients'
 abbrev pub AreClients : Machine → Type 0
-AreClients m = (e : Pending) → MayStillMove m e → (i : ℕ) → i < length e.request.asked.frames.items → DRIVER_FRAMES ≤ (nth_frame e.request.asked.frames.items i).0
+AreClients m = (e : Pending) → IsIssuedOrKept m e → (i : ℕ) → i < length e.request.asked.frames.items → DRIVER_FRAMES ≤ (nth_frame e.request.asked.frames.items i).0
 
 clients_at : (start : Machine) (past : List Step) → IsInitial start → AllEnabled start past → AreClients (after start past)
 clients_at start past s enabled e r i lt =

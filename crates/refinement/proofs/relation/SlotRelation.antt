@@ -17,7 +17,7 @@ use Rattle.adapter.proofs.SaysLemmas.{says_same}
 use Rattle.adapter.proofs.MemoryLemmas.{bytes_same}
 use Rattle.adapter.proofs.Changed.{changed_same, changed_other}
 use Rattle.block_machine.specs.State.{Accepted, Pending, Machine}
-use Rattle.block_machine.specs.Steps.{MayStillMove}
+use Rattle.block_machine.specs.Steps.{IsIssuedOrKept}
 use Rattle.refinement.specs.MemoryLayout.{command_list_address, scratch_frame_address, IsTableOrHeaderByteButPrdbc, IsScratchByte}
 use Rattle.adapter.specs.OneCommand.{SlotHasNoCommand}
 use Rattle.refinement.specs.Slots.{SlotState, Free, Own, Serves, SlotStates, SlotDecodesTo, HasListInPlace, MeansRange, HasBlockIfTrim, AwaitsFetch, TouchedAsMoved, IsTakenFor, IsInSomeStage, IsMove, PageCameSinceAndStandsInScratch, OwnAwaitsFetch, OwnIsTaken, OwnIsOverWithPageIfSt, RelatesSlot, Armed}
@@ -189,7 +189,7 @@ pub served_on : (m m' : Machine) (memory new_memory : ℕ → ℕ) (tape later :
     ((u ≡ Free → ⊥) → port < 4 → slot < 32 → SameTable memory new_memory port slot) →
     ((u ≡ Free → ⊥) → slot ≡ 0 → port < 4 → SameScratch memory new_memory port) →
     ((o : Operation) → u ≡ Own o → slot ≡ 0 → GainsNone tape later port o) →
-    ((id : RequestId) → u ≡ Serves id → (e : Pending) → e.request.id ≡ id → MayStillMove m e → MayStillMove m' e) →
+    ((id : RequestId) → u ≡ Serves id → (e : Pending) → e.request.id ≡ id → IsIssuedOrKept m e → IsIssuedOrKept m' e) →
     RelatesSlot m memory tape p port slot u → RelatesSlot m' new_memory later new port slot u
 served_on m m' memory new_memory tape later p new port slot Free same tables scratch gains moves h = record { is_not_issued = same.issued ∙ h.is_not_issued; is_not_taken = same.taken ∙ h.is_not_taken; unarmed = same.sact ∙ h.unarmed }
 served_on m m' memory new_memory tape later p new port slot Armed same tables scratch gains moves h = record { is_not_issued = same.issued ∙ h.is_not_issued; is_not_taken = same.taken ∙ h.is_not_taken; armed = same.sact ∙ (h.armed ∙ sym same.st) }
@@ -241,7 +241,7 @@ module _ (Except : ℕ → Type 0) (uses : SlotStates) (m m' : Machine) (d : Dev
     (fixed : SameFixed Except uses d.memory new_memory d.tape later) where
   -- one slot goes on at a port that looks the same
   pub slot_on : (port slot : ℕ) (new : DevicePort) → SameSlot (d.port port) new slot → (slot ≡ 0 → Except port → ⊥) →
-      ((id : RequestId) → uses port slot ≡ Serves id → (e : Pending) → e.request.id ≡ id → MayStillMove m e → MayStillMove m' e) →
+      ((id : RequestId) → uses port slot ≡ Serves id → (e : Pending) → e.request.id ≡ id → IsIssuedOrKept m e → IsIssuedOrKept m' e) →
       RelatesSlot m' new_memory later new port slot (uses port slot)
   slot_on port slot new same out moves =
       served_on m m' d.memory new_memory d.tape later (d.port port) new port slot (uses port slot) same (fixed.tables port slot)
@@ -252,7 +252,7 @@ module _ (Except : ℕ → Type 0) (uses : SlotStates) (m m' : Machine) (d : Dev
   -- one slot of one port is another now
   pub slots_after : (port slot : ℕ) (new : DevicePort) → ((k : ℕ) → k ≢ slot → SameSlot (d.port port) new k) →
       ((q : ℕ) → Except q → (q ≡ port) × (slot ≡ 0)) →
-      ((port' slot' : ℕ) (id : RequestId) → uses port' slot' ≡ Serves id → (port' ≡ port → slot' ≡ slot → ⊥) → (e : Pending) → e.request.id ≡ id → MayStillMove m e → MayStillMove m' e) →
+      ((port' slot' : ℕ) (id : RequestId) → uses port' slot' ≡ Serves id → (port' ≡ port → slot' ≡ slot → ⊥) → (e : Pending) → e.request.id ≡ id → IsIssuedOrKept m e → IsIssuedOrKept m' e) →
       RelatesSlot m' new_memory later new port slot (uses port slot) →
       (q k : ℕ) → RelatesSlot m' new_memory later (changed d.port port new q) q k (uses q k)
   slots_after port slot new same only moves here q k = ⊎_elim at_port elsewhere (cases_eq q port)
@@ -274,7 +274,7 @@ module _ (Except : ℕ → Type 0) (uses : SlotStates) (m m' : Machine) (d : Dev
 -- a port that all its slots see unchanged
 pub slots_quiet : (uses : SlotStates) (m m' : Machine) (d : Device) (a : StateRelation uses m d) (new_memory : ℕ → ℕ) (later : List Entry) → SameFixed NoPort uses d.memory new_memory d.tape later →
     (port : ℕ) (new : DevicePort) → ((k : ℕ) → SameSlot (d.port port) new k) →
-    ((id : RequestId) (e : Pending) → e.request.id ≡ id → MayStillMove m e → MayStillMove m' e) →
+    ((id : RequestId) (e : Pending) → e.request.id ≡ id → IsIssuedOrKept m e → IsIssuedOrKept m' e) →
     (q k : ℕ) → RelatesSlot m' new_memory later (changed d.port port new q) q k (uses q k)
 slots_quiet uses m m' d a new_memory later fixed port new same moves =
     slots_after NoPort uses m m' d a new_memory later fixed port 0 new (λ k _. same k) (λ q x. absurd x) (λ port' slot' id u _. moves id)

@@ -5,7 +5,7 @@ use Rattle.std.proofs.lemmas.Bool.{cond-true}
 use Rattle.ata_types.specs.declared.Port.{Port}
 use Rattle.ata_types.specs.declared.request.RequestId.{RequestId}
 use Rattle.block_machine.specs.State.{Block, Pending, Machine}
-use Rattle.block_machine.specs.Steps.{Touch, End, MayStillMove, after_step, update_pending, touch, mark_ended}
+use Rattle.block_machine.specs.Steps.{Touch, End, IsIssuedOrKept, after_step, update_pending, touch, mark_ended}
 use Rattle.block_machine.proofs.Members.{map_in, into_map, at_cases}
 use Rattle.block_machine.proofs.Keeps.{at_keeps}
 
@@ -14,8 +14,8 @@ pub record Goes (m m' : Machine) (id : RequestId) : Type 0 where
   pub present : (port : Port) → m'.present port ≡ m.present port
   pub ids : (port : Port) → m'.disk_ids port ≡ m.disk_ids port
   pub sizes : (port : Port) → m'.sizes port ≡ m.sizes port
-  pub moves : (e : Pending) → e.request.id ≢ id → MayStillMove m e → MayStillMove m' e
-  pub back : (e : Pending) → MayStillMove m' e → (o : Pending) × MayStillMove m o × (e.request ≡ o.request)
+  pub moves : (e : Pending) → e.request.id ≢ id → IsIssuedOrKept m e → IsIssuedOrKept m' e
+  pub back : (e : Pending) → IsIssuedOrKept m' e → (o : Pending) × IsIssuedOrKept m o × (e.request ≡ o.request)
 
 pub Goes-refl : (m : Machine) (id : RequestId) → Goes m m id
 Goes-refl m id = record { present = λ _. refl; ids = λ _. refl; sizes = λ _. refl; moves = λ e ne r. r; back = λ e r. (e, r, refl) }
@@ -60,7 +60,7 @@ module _ (f : Pending → Pending) (issued : (e : Pending) → (f e).issued ≡ 
         (q.0, inr q.1, ap (λ (y : Pending). y.request) q.2 ∙ at_keeps id f request q.0)) r;
   }
 
-  own_moves : (m n : Machine) (e : Pending) → n.book ≡ map (update_pending e.request.id f) m.book → n.kept ≡ map (update_pending e.request.id f) m.kept → MayStillMove m e → MayStillMove n (f e)
+  own_moves : (m n : Machine) (e : Pending) → n.book ≡ map (update_pending e.request.id f) m.book → n.kept ≡ map (update_pending e.request.id f) m.kept → IsIssuedOrKept m e → IsIssuedOrKept n (f e)
   own_moves m n e book kept r = ⊎_elim
       (λ (x : Contains m.book e × (e.issued ≡ true)).
       inl (subst (λ (es : List Pending). Contains es (f e)) (sym book) (subst (λ (y : Pending). Contains (map (update_pending e.request.id f) m.book) y) (at_own e) (into_map (update_pending e.request.id f) m.book e x.0)), issued e ∙ x.1))
@@ -70,11 +70,11 @@ module _ (f : Pending → Pending) (issued : (e : Pending) → (f e).issued ≡ 
 pub touch_goes : (m : Machine) (e : Pending) (i : ℕ) (block : Block) → Goes m (after_step m (Touch e i block)) e.request.id
 touch_goes m e i block = goes_at (touch i) (λ x. refl) (λ x. refl) m (after_step m (Touch e i block)) e.request.id refl refl (λ p. refl) (λ p. refl) (λ p. refl)
 
-pub touch_moves : (m : Machine) (e : Pending) (i : ℕ) (block : Block) → MayStillMove m e → MayStillMove (after_step m (Touch e i block)) (touch i e)
+pub touch_moves : (m : Machine) (e : Pending) (i : ℕ) (block : Block) → IsIssuedOrKept m e → IsIssuedOrKept (after_step m (Touch e i block)) (touch i e)
 touch_moves m e i block r = own_moves (touch i) (λ x. refl) (λ x. refl) m (after_step m (Touch e i block)) e refl refl r
 
 pub end_goes : (m : Machine) (e : Pending) → Goes m (after_step m (End e)) e.request.id
 end_goes m e = goes_at mark_ended (λ x. refl) (λ x. refl) m (after_step m (End e)) e.request.id refl refl (λ p. refl) (λ p. refl) (λ p. refl)
 
-pub end_moves : (m : Machine) (e : Pending) → MayStillMove m e → MayStillMove (after_step m (End e)) (mark_ended e)
+pub end_moves : (m : Machine) (e : Pending) → IsIssuedOrKept m e → IsIssuedOrKept (after_step m (End e)) (mark_ended e)
 end_moves m e r = own_moves mark_ended (λ x. refl) (λ x. refl) m (after_step m (End e)) e refl refl r

@@ -17,7 +17,7 @@ use Rattle.adapter.proofs.Changed.{changed_same, changed_other}
 use Rattle.block_machine.specs.State.{Accepted, Block, Memory, Pending, Machine, nth_frame, sector_of, is_reader, block_written}
 use Rattle.block_machine.specs.State as state
 use Rattle.block_machine.specs.DueRequests.{changes_sectors}
-use Rattle.block_machine.specs.Steps.{Touch, MayStillMove, after_step, put_sector, put_bytes}
+use Rattle.block_machine.specs.Steps.{Touch, IsIssuedOrKept, after_step, put_sector, put_bytes}
 use Rattle.block_machine.specs.Expected as left
 use Rattle.block_machine.specs.Expected.{AllStepsFaithful}
 use Rattle.block_machine.specs.Events.{AllEnabled}
@@ -111,7 +111,7 @@ record Swept (m : Machine) (e : Pending) (from n : ℕ) : Type 0 where
   may : AllEnabled m (touch_steps e from n)
   told : AllStepsFaithful m (touch_steps e from n)
   goes : Goes m (left.after m (touch_steps e from n)) e.request.id
-  moves : MayStillMove (left.after m (touch_steps e from n)) (with_sectors_touched e from n)
+  moves : IsIssuedOrKept (left.after m (touch_steps e from n)) (with_sectors_touched e from n)
   memory : (left.after m (touch_steps e from n)).memory ≡ m.memory
   zeros : (k b : ℕ) → e.request.asked.first.0 + from ≤ k → k < e.request.asked.first.0 + from + n → (left.after m (touch_steps e from n)).disk_bytes e.request.port k b ≡ 0
   others : (q : Port) (k b : ℕ) → (q.0 ≡ e.request.port.0 → e.request.asked.first.0 + from ≤ k → k < e.request.asked.first.0 + from + n → ⊥) → (left.after m (touch_steps e from n)).disk_bytes q k b ≡ m.disk_bytes q k b
@@ -122,7 +122,7 @@ trim_is_no_read e = absurd cc
 trim_is_no_write : {A : Type 0} → Trim ≡ Write → A
 trim_is_no_write e = absurd cc
 
-swept : (m : Machine) (e : Pending) (from n : ℕ) → e.request.asked.op ≡ Trim → MayStillMove m e → m.present e.request.port ≡ true → from + n ≤ e.request.asked.count
+swept : (m : Machine) (e : Pending) (from n : ℕ) → e.request.asked.op ≡ Trim → IsIssuedOrKept m e → m.present e.request.port ≡ true → from + n ≤ e.request.asked.count
     → e.request.asked.first.0 + from + n ≤ m.sizes e.request.port ⊎ (n ≡ 0) → Swept m e from n
 swept m e from zero op r there fits inside = record {
   may = tt;

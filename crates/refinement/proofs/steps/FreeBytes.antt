@@ -15,7 +15,7 @@ use Rattle.adapter.proofs.SaysLemmas.{says_table, says_prds, says_places}
 use Rattle.block_machine.specs.Confinement.{MovesBytes}
 use Rattle.block_machine.specs.Histories.{IsReachable}
 use Rattle.block_machine.specs.State.{Pending, Machine, nth_frame}
-use Rattle.block_machine.specs.Steps.{MayStillMove}
+use Rattle.block_machine.specs.Steps.{IsIssuedOrKept}
 use Rattle.block_machine.proofs.Standing.{standing}
 use Rattle.refinement.specs.MemoryLayout.{command_list_address, received_fis_address, command_table_address, scratch_frame_address, sector_address}
 use Rattle.refinement.specs.Slots as slots
@@ -55,7 +55,7 @@ pub record InScratch (uses : slots.SlotStates) (d : Device) (at : ℕ) : Type 0 
 
 pub record InSector (m : Machine) (at : ℕ) : Type 0 where
   pub pending : Pending
-  pub moves : MayStillMove m pending
+  pub moves : IsIssuedOrKept m pending
   pub number : ℕ
   pub framed : number / 8 < length pending.request.asked.frames.items
   pub from : sector_address pending.request.asked.frames.items number ≤ at
@@ -208,7 +208,7 @@ slots_apart port slot k at sb kb ne x y = ⊎_elim ne (λ z. ⊎_elim (λ (l : s
 
 -- ---- the driver's own stores
 
-pub stores_unused : (uses : slots.SlotStates) (m : Machine) (d : Device) (at n byte : ℕ) → IsInMemoryOfFreeSlot uses at n → at ≤ byte → byte < at + n → ((e : Pending) → MayStillMove m e → (i : ℕ) → i / 8 < length e.request.asked.frames.items → DRIVER_FRAMES ≤ (nth_frame e.request.asked.frames.items (i / 8)).0) → IsUsed uses m d byte → ⊥
+pub stores_unused : (uses : slots.SlotStates) (m : Machine) (d : Device) (at n byte : ℕ) → IsInMemoryOfFreeSlot uses at n → at ≤ byte → byte < at + n → ((e : Pending) → IsIssuedOrKept m e → (i : ℕ) → i / 8 < length e.request.asked.frames.items → DRIVER_FRAMES ≤ (nth_frame e.request.asked.frames.items (i / 8)).0) → IsUsed uses m d byte → ⊥
 stores_unused uses m d at n byte (inl x) low high clients used =
     let y = narrow x.port x.slot at n byte low high x.is_in_header_or_table in
     let r = in_free x.port x.slot byte x.slot_below y in

@@ -111,7 +111,7 @@ module _ (uses : SlotStates) (m : Machine) (d : Device) (a : StateRelation uses 
     means = means_taken port slot h.pending.request h.command t.meaning h.places t.places x.meaning x.places_are h.means
 
     -- the slot after a sector of a read or write
-    moved_slot : (m' : Machine) (memory' : ℕ → ℕ) (later : List Entry) (disk : Disk) (e' : Pending) (t' : FetchedCommand) → SameTable d.memory memory' port slot → machine.MayStillMove m' e' → e'.request ≡ h.pending.request → e'.ended ≡ h.pending.ended →
+    moved_slot : (m' : Machine) (memory' : ℕ → ℕ) (later : List Entry) (disk : Disk) (e' : Pending) (t' : FetchedCommand) → SameTable d.memory memory' port slot → machine.IsIssuedOrKept m' e' → e'.request ≡ h.pending.request → e'.ended ≡ h.pending.ended →
         t'.meaning ≡ t.meaning → t'.places ≡ t.places → TouchedAsMoved e'.request.asked.op memory' port e' t' →
         RelatesSlot m' memory' later (record (d.port port) { taken = changed (d.port port).taken slot (Some t'); disk = disk }) port slot (Serves id)
     moved_slot m' memory' later disk e' t' tables moves request ended meaning places progress = record {
@@ -186,7 +186,7 @@ module _ (uses : SlotStates) (m : Machine) (d : Device) (a : StateRelation uses 
         λ w b lt. own b w lt,
       )
 
-      moves_on : (port' slot' : ℕ) (id' : RequestId) → uses port' slot' ≡ Serves id' → (port' ≡ port → slot' ≡ slot → ⊥) → (y : Pending) → y.request.id ≡ id' → machine.MayStillMove m y → machine.MayStillMove touched y
+      moves_on : (port' slot' : ℕ) (id' : RequestId) → uses port' slot' ≡ Serves id' → (port' ≡ port → slot' ≡ slot → ⊥) → (y : Pending) → y.request.id ≡ id' → machine.IsIssuedOrKept m y → machine.IsIssuedOrKept touched y
       moves_on = others_move uses m touched d a port slot id u (subst (λ (n : RequestId). Goes m touched n) h.id_is (touch_goes m h.pending t.moved (slice_index bytes)))
 
     -- ---- a read

@@ -7,7 +7,7 @@ use Rattle.ata_types.specs.declared.request.Frame.{Frame}
 use Rattle.ata_types.specs.declared.request.RequestId.{RequestId}
 use Rattle.adapter.specs.Device.{Device}
 use Rattle.block_machine.specs.State.{Accepted, Block, Memory, Pending, Machine, nth_frame, unanswered, is_reader}
-use Rattle.block_machine.specs.Steps.{Step, Accept, Issue, Touch, End, Age, WaitAgain, Answer, Revoke, Release, Unplug, PlugDisk, Store, Load, IsEnabled, MayStillMove, NoneKept, after_step, update_pending, touch, mark_ended, put_bytes, memory_after_touch}
+use Rattle.block_machine.specs.Steps.{Step, Accept, Issue, Touch, End, Age, WaitAgain, Answer, Revoke, Release, Unplug, PlugDisk, Store, Load, IsEnabled, IsIssuedOrKept, NoneKept, after_step, update_pending, touch, mark_ended, put_bytes, memory_after_touch}
 use Rattle.block_machine.specs.Expected.{after}
 use Rattle.block_machine.specs.Events.{IsByDevice, AllByDevice, AllEnabled}
 use Rattle.block_machine.specs.Histories.{IsReachable}
@@ -144,7 +144,7 @@ entry_is_found_in_earlier_book (x ∷ xs) (y ∷ ys) e a i = ⊎_elim
 
 -- no request that may move has the frame
 abbrev IsUnmoved : Machine → Frame → Type 0
-IsUnmoved m frame = (e : Pending) → MayStillMove m e → m.lent frame ≡ Some e.request.id → ⊥
+IsUnmoved m frame = (e : Pending) → IsIssuedOrKept m e → m.lent frame ≡ Some e.request.id → ⊥
 
 unmoved_on : (m n : Machine) (frame : Frame) → KeepsLoansAndPendingsOnlyAdvance m n → IsUnmoved m frame → IsUnmoved n frame
 unmoved_on m n frame s none e may lent = ⊎_elim

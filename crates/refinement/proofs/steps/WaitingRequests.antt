@@ -17,7 +17,7 @@ use Rattle.block_machine.specs.declared.due.Unanswered.{Unanswered}
 use Rattle.block_machine.specs.State.{Accepted, Pending, Machine, unanswered}
 use Rattle.block_machine.specs.DueRequests.{IsDue, with_issued}
 use Rattle.block_machine.specs.Rules.{HasRow}
-use Rattle.block_machine.specs.Steps.{Step, Accept, Issue, Touch, End, Age, WaitAgain, Answer, Revoke, Release, Unplug, PlugDisk, Store, Load, IsEnabled, MayStillMove, after_step, update_pending, newly_issued, touch, mark_ended}
+use Rattle.block_machine.specs.Steps.{Step, Accept, Issue, Touch, End, Age, WaitAgain, Answer, Revoke, Release, Unplug, PlugDisk, Store, Load, IsEnabled, IsIssuedOrKept, after_step, update_pending, newly_issued, touch, mark_ended}
 use Rattle.block_machine.specs.Expected as left
 use Rattle.block_machine.specs.Events.{AllEnabled, IsByDevice, AllByDevice}
 use Rattle.block_machine.specs.Histories.{IsReachable}
@@ -122,7 +122,7 @@ leaves_more m mid later a b = record {
   rows = b.rows ∙ a.rows;
 }
 
-module _ (m : Machine) (s : Sound m) (x : Pending) (r : MayStillMove m x) where
+module _ (m : Machine) (s : Sound m) (x : Pending) (r : IsIssuedOrKept m x) where
   not_moving : (e : Pending) → Contains m.book e → e.issued ≡ false → e.request.id.0 ≢ x.request.id.0
   not_moving e here waits same = ⊎_elim
       (λ (z : Contains m.book x × (x.issued ≡ true)). true_false (ap (λ (y : Pending). y.issued) (s.one e x here z.0 same) ∙ z.1) waits)

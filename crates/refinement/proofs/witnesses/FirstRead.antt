@@ -25,7 +25,7 @@ use Rattle.block_machine.specs.declared.due.QueueMode.{QueueMode}
 use Rattle.block_machine.specs.Histories.{IsReachable}
 use Rattle.block_machine.specs.Expected.{IsInitial}
 use Rattle.block_machine.specs.State.{Accepted, Pending, Machine}
-use Rattle.block_machine.specs.Steps.{Accept, Issue, IsEnabled, MayAccept, MayStillMove, HoldsOrHeldSinceFlush, after_step, newly_accepted, newly_issued}
+use Rattle.block_machine.specs.Steps.{Accept, Issue, IsEnabled, MayAccept, IsIssuedOrKept, HoldsOrHeldSinceFlush, after_step, newly_accepted, newly_issued}
 use Rattle.block_machine.proofs.Setting.{empty, filled_starts}
 use Rattle.refinement.specs.StepLaws.{StepLaws}
 use Rattle.refinement.specs.Slots.{Free, Serves, SlotDecodesTo, IsEmptySlot}
@@ -86,7 +86,7 @@ issued = after_step accepting (Issue plain waits)
 pub reached : StepLaws → IsReachable issued
 reached laws = laws.reachable_goes_on accepting (Issue plain waits ∷ []) accepting_reached (tt, may_issue)
 
-moves : MayStillMove issued (newly_issued waits)
+moves : IsIssuedOrKept issued (newly_issued waits)
 moves = inl ((0, omega arith, refl), refl)
 
 -- ---- the relation

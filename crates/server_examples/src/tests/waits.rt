@@ -8,7 +8,7 @@ use super::watched::{ALL_PORTS, RegisterReadings, Watched, model};
 use adapter::{Adapter, DeviceStep, DiskNumber};
 use ata_types::{DRIVER_BYTES, PORTS, Port, PortState};
 use hba_regs::{PortReg, Reg};
-use host_boot::laws::law_taken_over_ports_are_as_their_state_says;
+use host_boot::laws::law_ready_ports_run_and_unusable_disks_show;
 use host_boot::{ProbeResult, take_over};
 use port_control::{PortFault, receive, stop};
 use refinement::access_kinds::law_simulated_fragments_keep_agreement;
@@ -53,7 +53,7 @@ fn received_anew<A: Adapter>(adapter: &mut A) -> PortState
 {
     law_simulated_fragments_keep_agreement::<Brand>();
     law_other_ports_are_untouched();
-    law_taken_over_ports_are_as_their_state_says();
+    law_ready_ports_run_and_unusable_disks_show();
     let host = take_over(adapter, &ONLY_IMAGE_DISK_WANTED);
     let ProbeResult::Ready(_) = host.ports[0] else {
         return PortState::Absent;

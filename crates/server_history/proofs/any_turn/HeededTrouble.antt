@@ -14,7 +14,7 @@ use Rattle.adapter.specs.Access.Access.{Reading, Writing, Loading, Storing}
 use Rattle.adapter.specs.Device.{Device}
 use Rattle.adapter.specs.Rules.{IsOn}
 use Rattle.adapter.specs.declared.tape.Entry.{Entry}
-use Rattle.refinement.specs.Fragments.{IsDrivenBy, SparesOtherPorts}
+use Rattle.refinement.specs.Fragments.{IsDrivenBy, AccessesNoOtherPort}
 use Rattle.refinement.specs.Errors.{IsFatalEntryOf}
 use Rattle.refinement.specs.PortFacts.{IsFaultOf, ShowsNoTrouble}
 use Rattle.refinement.specs.PreservedParts.{IsPlugEvent, DoesNotWrite}
@@ -90,7 +90,7 @@ module _ (laws : PrerequisiteLaws) where
         c = turn.polls_used_slots
 
     seen_on : IsOn turn.device_after_look
-    seen_on = laws.one_port_keeps_adapter_on port old.device turn.device_after_look on (driven_as (IsPxisSstsOrOwnIsAccess port) (SparesOtherPorts port) old.device turn.device_after_look (laws.look_laws.look_access_is_of_port port) (laws.look_laws.look_is_driven_by_its_accesses port turn.look old.device turn.device_after_look turn.takes_event))
+    seen_on = laws.one_port_keeps_adapter_on port old.device turn.device_after_look on (driven_as (IsPxisSstsOrOwnIsAccess port) (AccessesNoOtherPort port) old.device turn.device_after_look (laws.look_laws.look_access_is_of_port port) (laws.look_laws.look_is_driven_by_its_accesses port turn.look old.device turn.device_after_look turn.takes_event))
 
     module _ (calm : turn.look ≡ NoEvent) where
       -- it showed no trouble, then

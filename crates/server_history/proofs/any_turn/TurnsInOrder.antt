@@ -9,13 +9,13 @@ use Rattle.ata_types.specs.declared.request.Outcome.TheVariants.{Ok, DeviceError
 use Rattle.ata_types.specs.declared.request.RequestId.{RequestId}
 use Rattle.adapter.specs.declared.access.DeviceStep.{DeviceStep}
 use Rattle.refinement.specs.Relation.{port_at}
-use Rattle.block_machine.specs.Events.{AbstractCall, AbstractState, AnswersAndWaitsLawful, AllEnabled, AreStepsOfCall, IsIssuedIn, IsLawfulAnswer, IssueIsLastOfRequest, UnpluggedOutcomeEmptiesPort, changes_disk}
+use Rattle.block_machine.specs.Events.{AbstractCall, AbstractState, AnswersLawfulAndWaitsOnStoppedPorts, AllEnabled, AreStepsOfCall, IsIssuedIn, IsLawfulAnswer, IssueIsLastOfRequest, UnpluggedOutcomeEmptiesPort, changes_disk}
 use Rattle.block_machine.specs.Histories.{IsReachable}
 use Rattle.block_machine.specs.Expected.{after}
 use Rattle.block_machine.specs.Ports.{Evidence, Ports}
 use Rattle.block_machine.specs.State.{Machine, Pending}
 use Rattle.block_machine.specs.Steps.{Step, WaitAgain, Answer, Issue, PlugDisk, Unplug}
-use Rattle.driver_history.specs.EvidenceHandling.{OnlyFailedPortsRequeueAbortRevokeOrFault}
+use Rattle.driver_history.specs.EvidenceHandling.{OnlyPortsShowingErrorRequeueAbortRevokeFault}
 use Rattle.server_history.specs.Turns.{IsTurnOrDeviceStep, IsByDeviceOrOnSuchPort}
 use Rattle.server_history.proofs.any_turn.TurnSteps.{IsSame, StandsIn, handled_own, issued_before, others_left, others_were, same_as, same_more, stood}
 use Rattle.server_history.proofs.plain_calls.IssueRounds.{issued_parts}
@@ -45,7 +45,7 @@ pub belong_join : (ask : AbstractCall DeviceStep) (ports : Ports) (late early : 
 belong_join ask ports [] early a b = b
 belong_join ask ports (step ∷ late) early a b = (belong_join ask ports late early a.0 b, a.1)
 
-pub lawful_join : (old : AbstractState) (evidence : Evidence) (ports : Ports) (late early : List Step) → AnswersAndWaitsLawful old evidence ports late → AnswersAndWaitsLawful old evidence ports early → AnswersAndWaitsLawful old evidence ports (late ++ early)
+pub lawful_join : (old : AbstractState) (evidence : Evidence) (ports : Ports) (late early : List Step) → AnswersLawfulAndWaitsOnStoppedPorts old evidence ports late → AnswersLawfulAndWaitsOnStoppedPorts old evidence ports early → AnswersLawfulAndWaitsOnStoppedPorts old evidence ports (late ++ early)
 lawful_join old evidence ports [] early a b = b
 lawful_join old evidence ports (Answer e o ∷ late) early a b = (lawful_join old evidence ports late early a.0 b, a.1)
 lawful_join old evidence ports (WaitAgain e ∷ late) early a b = (lawful_join old evidence ports late early a.0 b, a.1)
@@ -55,7 +55,7 @@ lawful_join old evidence ports (step ∷ late) early a b = lawful_join old evide
 pub lawful_on : (old new : AbstractState) (evidence other : Evidence) (ports later : Ports) (steps : List Step)
     → ((e : Pending) (o : Outcome) → Contains steps (Answer e o) → IsLawfulAnswer old evidence ports e o → IsLawfulAnswer new other later e o)
     → ((e : Pending) → Contains steps (WaitAgain e) → Contains evidence.stopped e.request.port → Contains other.stopped e.request.port)
-    → AnswersAndWaitsLawful old evidence ports steps → AnswersAndWaitsLawful new other later steps
+    → AnswersLawfulAndWaitsOnStoppedPorts old evidence ports steps → AnswersLawfulAndWaitsOnStoppedPorts new other later steps
 lawful_on old new evidence other ports later [] each again a = tt
 lawful_on old new evidence other ports later (Answer e o ∷ steps) each again a = (
   lawful_on old new evidence other ports later steps (λ x y h. each x y (Contains-append_right ((Answer e o) ∷ []) steps (Answer x y) h)) (λ x h. again x (Contains-append_right ((Answer e o) ∷ []) steps (WaitAgain x) h)) a.0,
@@ -68,7 +68,7 @@ lawful_on old new evidence other ports later (WaitAgain e ∷ steps) each again 
 lawful_on old new evidence other ports later (step ∷ steps) each again a =
     lawful_on old new evidence other ports later steps (λ x y h. each x y (Contains-append_right (step ∷ []) steps (Answer x y) h)) (λ x h. again x (Contains-append_right (step ∷ []) steps (WaitAgain x) h)) a
 
-pub grounded_join : (evidence : Evidence) (late early : List Step) → OnlyFailedPortsRequeueAbortRevokeOrFault evidence late → OnlyFailedPortsRequeueAbortRevokeOrFault evidence early → OnlyFailedPortsRequeueAbortRevokeOrFault evidence (late ++ early)
+pub grounded_join : (evidence : Evidence) (late early : List Step) → OnlyPortsShowingErrorRequeueAbortRevokeFault evidence late → OnlyPortsShowingErrorRequeueAbortRevokeFault evidence early → OnlyPortsShowingErrorRequeueAbortRevokeFault evidence (late ++ early)
 grounded_join evidence [] early a b = b
 grounded_join evidence (WaitAgain e ∷ late) early a b = (grounded_join evidence late early a.0 b, a.1)
 grounded_join evidence (Answer e Aborted ∷ late) early a b = (grounded_join evidence late early a.0 b, a.1)
@@ -79,7 +79,7 @@ grounded_join evidence (Answer e Unplugged ∷ late) early a b = grounded_join e
 grounded_join evidence (Answer e PortDead ∷ late) early a b = grounded_join evidence late early a b
 grounded_join evidence (step ∷ late) early a b = grounded_join evidence late early a b
 
-pub grounded_on : (evidence other : Evidence) → ((q : Port) → Contains evidence.showing_error q → Contains other.showing_error q) → (steps : List Step) → OnlyFailedPortsRequeueAbortRevokeOrFault evidence steps → OnlyFailedPortsRequeueAbortRevokeOrFault other steps
+pub grounded_on : (evidence other : Evidence) → ((q : Port) → Contains evidence.showing_error q → Contains other.showing_error q) → (steps : List Step) → OnlyPortsShowingErrorRequeueAbortRevokeFault evidence steps → OnlyPortsShowingErrorRequeueAbortRevokeFault other steps
 grounded_on evidence other more [] a = tt
 grounded_on evidence other more (WaitAgain e ∷ steps) a = (grounded_on evidence other more steps a.0, more e.request.port a.1)
 grounded_on evidence other more (Answer e Aborted ∷ steps) a = (grounded_on evidence other more steps a.0, more e.request.port a.1)

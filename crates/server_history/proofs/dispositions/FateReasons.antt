@@ -10,12 +10,12 @@ use Rattle.ata_types.specs.declared.request.Outcome.TheVariants as outcome
 use Rattle.ata_types.specs.declared.request.Reply.{Reply}
 use Rattle.ata_types.specs.declared.request.RequestId.{RequestId}
 use Rattle.adapter.specs.declared.access.DeviceStep.{DeviceStep}
-use Rattle.block_machine.specs.Events.{AnswersAndWaitsLawful, AreStepsOfCall, IsOutcomeWithoutDeviceVerdict, IsByDevice, IsIssuedIn, IsLawfulAnswer, IsByServer, AbstractState, Service, Tick, issues_id}
+use Rattle.block_machine.specs.Events.{AnswersLawfulAndWaitsOnStoppedPorts, AreStepsOfCall, IsNeitherOkNorDeviceError, IsByDevice, IsIssuedIn, IsLawfulAnswer, IsByServer, AbstractState, Service, Tick, issues_id}
 use Rattle.block_machine.specs.Ports.{Evidence, Ports}
 use Rattle.block_machine.specs.State.{Pending}
 use Rattle.block_machine.specs.Steps.{Step, WaitAgain, Answer, Issue}
 use Rattle.block_machine.specs.declared.due.QueueMode.{QueueMode}
-use Rattle.driver_history.specs.EvidenceHandling.{OnlyFailedPortsRequeueAbortRevokeOrFault}
+use Rattle.driver_history.specs.EvidenceHandling.{OnlyPortsShowingErrorRequeueAbortRevokeFault}
 use Rattle.server_history.proofs.state.ListMembers.{contains_cases, contains_there}
 use Rattle.request_queue.specs.BookEntries.{BookEntry}
 use Rattle.request_queue.specs.Dispositions.{BookAndLoans, AreResolved, IsResolved, disposition_of, disposition_of_unfailed}
@@ -154,7 +154,7 @@ module _ (port : Port) where
   deciding_belong ports (step ∷ steps) all again = absurd (All-head (IsResolveStep port) step steps all)
 
   pub deciding_lawful : (old : AbstractState) (evidence : Evidence) (ports : Ports) (steps : List Step) → All (IsResolveStep port) steps → ((e : Pending) (o : Outcome) → Contains steps (Answer e o) → IsLawfulAnswer old evidence ports e o)
-      → ((e : Pending) → Contains steps (WaitAgain e) → Contains evidence.stopped e.request.port) → AnswersAndWaitsLawful old evidence ports steps
+      → ((e : Pending) → Contains steps (WaitAgain e) → Contains evidence.stopped e.request.port) → AnswersLawfulAndWaitsOnStoppedPorts old evidence ports steps
   deciding_lawful old evidence ports [] all answer again = tt
   deciding_lawful old evidence ports (WaitAgain e ∷ steps) all answer again = (
     deciding_lawful old evidence ports steps (All-tail (IsResolveStep port) (WaitAgain e) steps all) (λ x o there. answer x o (contains_there (WaitAgain e) steps (Answer x o) there)) (λ x there. again x (contains_there (WaitAgain e) steps (WaitAgain x) there)),
@@ -168,7 +168,7 @@ module _ (port : Port) where
 
   -- a request that goes again, or is aborted, told Revoked or told a fault in its place, is of a port that failed
   pub deciding_grounded : (evidence : Evidence) (steps : List Step) → All (IsResolveStep port) steps → ((e : Pending) → Contains steps (WaitAgain e) → Contains evidence.showing_error port)
-      → ((e : Pending) (o : Outcome) → Contains steps (Answer e o) → RestsOnFailure o → Contains evidence.showing_error port) → OnlyFailedPortsRequeueAbortRevokeOrFault evidence steps
+      → ((e : Pending) (o : Outcome) → Contains steps (Answer e o) → RestsOnFailure o → Contains evidence.showing_error port) → OnlyPortsShowingErrorRequeueAbortRevokeFault evidence steps
   deciding_grounded evidence [] all again answer = tt
   deciding_grounded evidence (WaitAgain e ∷ steps) all again answer = (
     deciding_grounded evidence steps (All-tail (IsResolveStep port) (WaitAgain e) steps all) (λ x there. again x (contains_there (WaitAgain e) steps (WaitAgain x) there)) (λ x o there. answer x o (contains_there (WaitAgain e) steps (Answer x o) there)),
@@ -216,7 +216,7 @@ module _ (port : Port) where
 -- ---- a tick
 
 -- steps that belong to a service belong to a tick, where no fault is told
-pub belong_tick : (ports : Ports) (steps : List Step) → ((e : Pending) (o : Outcome) → Contains steps (Answer e o) → IsOutcomeWithoutDeviceVerdict o ⊎ (o ≡ outcome.Ok))
+pub belong_tick : (ports : Ports) (steps : List Step) → ((e : Pending) (o : Outcome) → Contains steps (Answer e o) → IsNeitherOkNorDeviceError o ⊎ (o ≡ outcome.Ok))
     → AreStepsOfCall {D = DeviceStep} Service ports steps → AreStepsOfCall {D = DeviceStep} Tick ports steps
 belong_tick ports [] gives b = tt
 belong_tick ports (step ∷ steps) gives b = (
@@ -224,7 +224,7 @@ belong_tick ports (step ∷ steps) gives b = (
   ⊎_elim (λ device. inl device) (λ its. one step (λ e o is. gives e o (subst (λ (s : Step). Contains (step ∷ steps) s) (sym is) (first_here step steps))) its) b.1,
 )
   where
-    one : (step : Step) → ((e : Pending) (o : Outcome) → Answer e o ≡ step → IsOutcomeWithoutDeviceVerdict o ⊎ (o ≡ outcome.Ok)) → IsByServer {D = DeviceStep} Service ports step
+    one : (step : Step) → ((e : Pending) (o : Outcome) → Answer e o ≡ step → IsNeitherOkNorDeviceError o ⊎ (o ≡ outcome.Ok)) → IsByServer {D = DeviceStep} Service ports step
         → IsByDevice step ⊎ IsByServer {D = DeviceStep} Tick ports step
     one (Issue mode e) gives its = inr its
     one (WaitAgain e) gives its = inr its

@@ -20,7 +20,7 @@ use Rattle.block_machine.specs.State.{Machine, Pending}
 use Rattle.block_machine.specs.Steps.{Step, WaitAgain, Answer, IsEnabled, after_step, is_kept_at_answer, unlend}
 use Rattle.dma_frames.specs.Loan.{Lending}
 use Rattle.dma_frames.specs.FrameTables.{OwnersAndLoans, lent_to}
-use Rattle.request_queue.specs.BookEntries.{IssuesAreWithinLimit, BookEntry, IsWellFormedEntry, IsEarlier, BookIsWellFormed, update_if_id, waiting_again_request, without_entry}
+use Rattle.request_queue.specs.BookEntries.{IssuesAreWithinLimit, BookEntry, IsWellFormedEntry, IsEarlier, BookIsWellFormed, update_if_id, request_with_issued_cleared, without_entry}
 use Rattle.request_queue.specs.Dispositions.{KeepsOrEndsLoan, BookAndLoans, AreResolved, IsResolved, keeps_loan, reply_to}
 use Rattle.request_queue.specs.BookRelation.{BookRelation, EntryRelation}
 use Rattle.request_queue.specs.declared.PendingRequest.{PendingRequest}
@@ -463,17 +463,17 @@ module _ (laws : PrerequisiteLaws) (port : Port) (disposition : PendingRequest �
       of_port : x.request.port ≡ port
       of_port = (entry request rest now mid k m may).2.port ∙ its_port request rest now mid k m may
 
-      goes : AreResolvable port disposition rest (record now { book = map (update_if_id request.request.id waiting_again_request) now.book }) (left_known request rest now mid k m may) (after_step m (WaitAgain x))
+      goes : AreResolvable port disposition rest (record now { book = map (update_if_id request.request.id request_with_issued_cleared) now.book }) (left_known request rest now mid k m may) (after_step m (WaitAgain x))
       goes = record {
         reached = laws.steps_and_accesses.reachable_stays_reachable m (WaitAgain x ∷ []) may.reached (tt, comes);
         driver_relation = laws.slots.wait_again_agrees k m x (decided k.awaiting_disposition port.0 request.request.id) may.reached may.driver_relation comes.0 (unserved request rest now mid k m may (ap (λ (f : Disposition). completes_keeping_loan f request.request) is)) (forgets request rest now mid k m may);
-        book_relation = subst (λ (id : RequestId). BookRelation (map (update_if_id id waiting_again_request) now.book) (after_step m (WaitAgain x)).book) (id_is request rest now mid k m may) (laws.requeue_keeps_book_relation now.book m x may.book_relation);
+        book_relation = subst (λ (id : RequestId). BookRelation (map (update_if_id id request_with_issued_cleared) now.book) (after_step m (WaitAgain x)).book) (id_is request rest now mid k m may) (laws.requeue_keeps_book_relation now.book m x may.book_relation);
         loans_agree = may.loans_agree;
         book_is_well_formed = laws.requeueing_keeps_book_well_formed now.book request.request.id may.book_is_well_formed (request, here request rest now mid k m may, refl, its_issue.0, few);
         entries_are_well_formed = laws.requeue_keeps_entries_well_formed now.table now.book request.request.id may.entries_are_well_formed;
         are_in_book_of_port = λ e there.
             let w = may.are_in_book_of_port e (in_rest request rest now mid k m may e there) in
-            (laws.update_keeps_other_entries now.book request.request.id waiting_again_request e w.0 (differs request rest now mid k m may e there), w.1);
+            (laws.update_keeps_other_entries now.book request.request.id request_with_issued_cleared e w.0 (differs request rest now mid k m may e there), w.1);
         revoked_marks_agree = λ e there. may.revoked_marks_agree e (in_rest request rest now mid k m may e there);
         are_in_order = earlier request rest now mid k m may;
         released_have_no_slot = λ e there never. may.released_have_no_slot e (in_rest request rest now mid k m may e there) never;

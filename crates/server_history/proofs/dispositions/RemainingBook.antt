@@ -13,7 +13,7 @@ use Rattle.ata_types.specs.declared.request.Reply.{Reply}
 use Rattle.ata_types.specs.declared.request.RequestId.{RequestId}
 use Rattle.server_history.proofs.state.ListMembers.{contains_cases, contains_there, map_in}
 use Rattle.dma_frames.specs.FrameTables.{OwnersAndLoans}
-use Rattle.request_queue.specs.BookEntries.{IssuesAreWithinLimit, BookEntry, IsWellFormedEntry, IsEarlier, BookIsWellFormed, update_if_id, has_id, is_of_port, waiting_again_request, without_entry}
+use Rattle.request_queue.specs.BookEntries.{IssuesAreWithinLimit, BookEntry, IsWellFormedEntry, IsEarlier, BookIsWellFormed, update_if_id, has_id, is_of_port, request_with_issued_cleared, without_entry}
 use Rattle.request_queue.specs.Dispositions.{KeepsOrEndsLoan, BookAndLoans, AreResolved, IsResolved, disposition_of, disposition_of_unfailed, keeps_loan}
 use Rattle.request_queue.specs.declared.PendingRequest.{PendingRequest}
 use Rattle.request_queue.specs.declared.disposition.FailedRequest.{FailedRequest}
@@ -165,15 +165,15 @@ module _ (laws : PrerequisiteLaws) (port : Port) (disposition : PendingRequest �
     })
 
     -- it waits again
-    requeued_was : request.request.revoked ≡ false → (e : BookEntry) → Contains (map (update_if_id request.request.id waiting_again_request) old.book) e → WasIn old.book e
+    requeued_was : request.request.revoked ≡ false → (e : BookEntry) → Contains (map (update_if_id request.request.id request_with_issued_cleared) old.book) e → WasIn old.book e
     requeued_was plain e there =
-        let w = map_in (update_if_id request.request.id waiting_again_request) old.book e there in
+        let w = map_in (update_if_id request.request.id request_with_issued_cleared) old.book e there in
         subst (WasIn old.book) (sym w.2) (by w.0 w.1 (has_id request.request.id w.0) refl)
       where
         is_it : (x : BookEntry) → Contains old.book x → has_id request.request.id x ≡ true → x ≡ request
         is_it x here same = laws.an_id_is_one_entry old.book x request may.ordered here its (ap (λ (n : ℕ). record { 0 = n }) (eqb-true x.request.id.0 request.request.id.0 same))
 
-        by : (x : BookEntry) → Contains old.book x → (b : Bool) → has_id request.request.id x ≡ b → WasIn old.book (if b then record x { request = waiting_again_request x.request } else x)
+        by : (x : BookEntry) → Contains old.book x → (b : Bool) → has_id request.request.id x ≡ b → WasIn old.book (if b then record x { request = request_with_issued_cleared x.request } else x)
         by x here true same = record {
           was = x;
           there = here;
@@ -187,10 +187,10 @@ module _ (laws : PrerequisiteLaws) (port : Port) (disposition : PendingRequest �
         }
         by x here false same = was_itself old.book x here
 
-    goes_again : FitsEntry (disposition request.request) request.request → mid ≡ record old { book = map (update_if_id request.request.id waiting_again_request) old.book } → disposition request.request ≡ Requeue → HasMet request rest old mid
+    goes_again : FitsEntry (disposition request.request) request.request → mid ≡ record old { book = map (update_if_id request.request.id request_with_issued_cleared) old.book } → disposition request.request ≡ Requeue → HasMet request rest old mid
     goes_again fit is again = subst (HasMet request rest old) (sym is) (record {
       may = record {
-        here = λ e there. let w = of_rest e there in (laws.update_keeps_other_entries old.book request.request.id waiting_again_request e w.0 (differs e there), w.1);
+        here = λ e there. let w = of_rest e there in (laws.update_keeps_other_entries old.book request.request.id request_with_issued_cleared e w.0 (differs e there), w.1);
         earlier = earlier;
         ordered = laws.requeueing_keeps_book_well_formed old.book request.request.id may.ordered (request, its, refl, issue.0, few);
         accepted = laws.requeue_keeps_entries_well_formed old.table old.book request.request.id may.accepted;

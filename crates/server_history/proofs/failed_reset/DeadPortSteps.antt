@@ -9,7 +9,7 @@ use Rattle.block_machine.specs.Events.{IsLawfulAnswer, AbstractState, UnpluggedO
 use Rattle.block_machine.specs.Ports.{Evidence, Ports}
 use Rattle.block_machine.specs.State.{Machine, Pending}
 use Rattle.block_machine.specs.Steps.{Step, Answer}
-use Rattle.driver_history.specs.EvidenceHandling.{OnlyFailedPortsRequeueAbortRevokeOrFault}
+use Rattle.driver_history.specs.EvidenceHandling.{OnlyPortsShowingErrorRequeueAbortRevokeFault}
 use Rattle.server_history.proofs.state.AnswerSteps.{IsAnswerOf, answer_told}
 
 -- a request of a port that is dead by these is told so
@@ -20,10 +20,10 @@ module _ (ports : Ports) where
   pub death_lawful : (old : AbstractState) (evidence : Evidence) (e : Pending) (o : Outcome) → IsDeath ports e o → IsLawfulAnswer old evidence ports e o
   death_lawful old evidence e o death = subst (IsLawfulAnswer old evidence ports e) (sym death.0) death.1
 
-  pub deaths_grounded : (evidence : Evidence) (steps : List Step) → All (IsAnswerOf (IsDeath ports)) steps → OnlyFailedPortsRequeueAbortRevokeOrFault evidence steps
+  pub deaths_grounded : (evidence : Evidence) (steps : List Step) → All (IsAnswerOf (IsDeath ports)) steps → OnlyPortsShowingErrorRequeueAbortRevokeFault evidence steps
   deaths_grounded evidence [] all = tt
   deaths_grounded evidence (Answer e o ∷ steps) all =
-      subst (λ (p : Outcome). OnlyFailedPortsRequeueAbortRevokeOrFault evidence (Answer e p ∷ steps)) (sym (All-head (IsAnswerOf (IsDeath ports)) (Answer e o) steps all).0)
+      subst (λ (p : Outcome). OnlyPortsShowingErrorRequeueAbortRevokeFault evidence (Answer e p ∷ steps)) (sym (All-head (IsAnswerOf (IsDeath ports)) (Answer e o) steps all).0)
       (deaths_grounded evidence steps (All-tail (IsAnswerOf (IsDeath ports)) (Answer e o) steps all))
   deaths_grounded evidence (step ∷ steps) all = absurd (All-head (IsAnswerOf (IsDeath ports)) step steps all)
 

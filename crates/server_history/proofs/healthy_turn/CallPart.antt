@@ -17,14 +17,14 @@ use Rattle.adapter.specs.declared.access.DeviceStep.{DeviceStep}
 use Rattle.adapter.specs.declared.command.Operation.TheVariants.{ReadLog}
 use Rattle.refinement.specs.Fragments.{GainsNoMove}
 use Rattle.refinement.specs.Driver.{TapeBacksSteps}
-use Rattle.block_machine.specs.Events.{AllByDevice, AnswersAndWaitsLawful, AllEnabled, AreStepsOfCall, IsByDevice, IsLawfulAnswer, IssueIsLastOfRequest, IsLowerByPortThenId, AbstractState, Replied, Service, RepliesMatch, answers_of, issues_id}
+use Rattle.block_machine.specs.Events.{AllByDevice, AnswersLawfulAndWaitsOnStoppedPorts, AllEnabled, AreStepsOfCall, IsByDevice, IsLawfulAnswer, IssueIsLastOfRequest, IsLowerByPortThenId, AbstractState, Replied, Service, RepliesMatch, answers_of, issues_id}
 use Rattle.block_machine.specs.Histories.{IsReachable}
 use Rattle.block_machine.specs.Expected.{after}
-use Rattle.block_machine.specs.Ports.{Evidence, IsServiced, Ports, SamePort}
+use Rattle.block_machine.specs.Ports.{Evidence, ChangesOnlyIfStoppedOrStuck, Ports, SamePort}
 use Rattle.block_machine.specs.State.{Machine, Pending}
 use Rattle.block_machine.specs.Steps.{Step, WaitAgain, Answer, Issue}
 use Rattle.block_machine.specs.declared.due.QueueMode.{QueueMode}
-use Rattle.driver_history.specs.EvidenceHandling.{OnlyFailedPortsRequeueAbortRevokeOrFault}
+use Rattle.driver_history.specs.EvidenceHandling.{OnlyPortsShowingErrorRequeueAbortRevokeFault}
 use Rattle.driver_history.specs.Evidence.{IsEvidencedOf}
 use Rattle.driver_history.specs.Histories.{IssuesDue}
 use Rattle.host_boot.specs.TakeOver.{probe_result_of}
@@ -89,12 +89,12 @@ device_own port (WaitAgain e) is = absurd is
 device_own port (Answer e o) is = absurd is
 device_own port step is = is
 
-device_lawful : (old : AbstractState) (evidence : Evidence) (ports : Ports) (step : Step) (base : List Step) → IsByDevice step → AnswersAndWaitsLawful old evidence ports base → AnswersAndWaitsLawful old evidence ports (step ∷ base)
+device_lawful : (old : AbstractState) (evidence : Evidence) (ports : Ports) (step : Step) (base : List Step) → IsByDevice step → AnswersLawfulAndWaitsOnStoppedPorts old evidence ports base → AnswersLawfulAndWaitsOnStoppedPorts old evidence ports (step ∷ base)
 device_lawful old evidence ports (WaitAgain e) base is l = absurd is
 device_lawful old evidence ports (Answer e o) base is l = absurd is
 device_lawful old evidence ports step base is l = l
 
-pub device_grounded : (evidence : Evidence) (step : Step) (base : List Step) → IsByDevice step → OnlyFailedPortsRequeueAbortRevokeOrFault evidence base → OnlyFailedPortsRequeueAbortRevokeOrFault evidence (step ∷ base)
+pub device_grounded : (evidence : Evidence) (step : Step) (base : List Step) → IsByDevice step → OnlyPortsShowingErrorRequeueAbortRevokeFault evidence base → OnlyPortsShowingErrorRequeueAbortRevokeFault evidence (step ∷ base)
 device_grounded evidence (WaitAgain e) base is g = absurd is
 device_grounded evidence (Answer e o) base is g = absurd is
 device_grounded evidence step base is g = g
@@ -241,11 +241,11 @@ module _ (laws : PrerequisiteLaws) (port : Port) (replies : List Reply) (old new
         let l = laws.steps_and_accesses.entry_is_found_in_earlier_book m.book (after m b.before).book e (laws.steps_and_accesses.device_steps_spare_book m b.before b.device_steps_come_first).book (ended_stood laws (after m b.before) b.ended early_may.1 e here) in
         (record { pending = l.0; is_in_book = l.1; id_is = ap (λ r. r.id) (sym l.2.request); issued = sym l.2.issued ∙ y.2.issued }, y.2.issued, y.2.touched, y.2.ended)
 
-    lawful : AnswersAndWaitsLawful began its (ports_of new) x.steps
-    lawful = all_steps (AnswersAndWaitsLawful began its (ports_of new)) tt (device_lawful began its (ports_of new)) (λ e base here rest. (rest, ok_lawful e here)) (λ e base its_port rest. rest)
+    lawful : AnswersLawfulAndWaitsOnStoppedPorts began its (ports_of new) x.steps
+    lawful = all_steps (AnswersLawfulAndWaitsOnStoppedPorts began its (ports_of new)) tt (device_lawful began its (ports_of new)) (λ e base here rest. (rest, ok_lawful e here)) (λ e base its_port rest. rest)
 
-    grounded : OnlyFailedPortsRequeueAbortRevokeOrFault its x.steps
-    grounded = all_steps (OnlyFailedPortsRequeueAbortRevokeOrFault its) tt (device_grounded its) (λ e base here rest. rest) (λ e base its_port rest. rest)
+    grounded : OnlyPortsShowingErrorRequeueAbortRevokeFault its x.steps
+    grounded = all_steps (OnlyPortsShowingErrorRequeueAbortRevokeFault its) tt (device_grounded its) (λ e base here rest. rest) (λ e base its_port rest. rest)
 
     -- each answer is one of these
     only_ok : (e : Pending) (o : Outcome) → Contains x.steps (Answer e o) → Contains b.ended e × (o ≡ Ok)
@@ -270,7 +270,7 @@ module _ (laws : PrerequisiteLaws) (port : Port) (replies : List Reply) (old new
       replies_are_of_answers = b.replies_are ∙ told_so port b.requests b.ended b.each_has_ended;
     }
 
-    becomes : IsServiced (ports_of old) its (ports_of new) port
+    becomes : ChangesOnlyIfStoppedOrStuck (ports_of old) its (ports_of new) port
     becomes = (
       λ dead. port_same,
       λ lives. (

@@ -12,8 +12,8 @@ use Rattle.refinement.specs.Fragments.{IsDrivenBy, GainsNoMove}
 use Rattle.refinement.specs.Slots.{client_operation_of}
 use Rattle.refinement.specs.Driver.{TapeBacksSteps}
 use Rattle.server_history.proofs.state.DrivenAccesses.{by_none}
-use Rattle.block_machine.specs.DueRequests.{AreAllDueInOrder, IsDue, NoneDue, due_of, mark_issued, requests_of_port, with_issued}
-use Rattle.block_machine.specs.Events.{AbstractCall, AbstractState, AllByDevice, AnswersAndWaitsLawful, AllEnabled, AreStepsOfCall, IsIssuedIn, IsByServer, IssueIsLastOfRequest, accepts_of, issues_requeues_or_answers_id, issues_id}
+use Rattle.block_machine.specs.DueRequests.{AreDueInTurnAndLeaveNoneDue, IsDue, NoneDue, due_of, mark_issued, requests_of_port, with_issued}
+use Rattle.block_machine.specs.Events.{AbstractCall, AbstractState, AllByDevice, AnswersLawfulAndWaitsOnStoppedPorts, AllEnabled, AreStepsOfCall, IsIssuedIn, IsByServer, IssueIsLastOfRequest, accepts_of, issues_requeues_or_answers_id, issues_id}
 use Rattle.block_machine.specs.Histories.{IsReachable}
 use Rattle.block_machine.specs.Expected.{after}
 use Rattle.block_machine.specs.Ports.{Ports, Evidence}
@@ -104,7 +104,7 @@ module _ (mode : QueueMode) (port : Port) where
       issues (Issue its e) only id h = h
       issues step only id h = absurd (not_handled id step only.0 h)
 
-  pub lawful_on : (old : AbstractState) (evidence : Evidence) (ports : Ports) (late early : List Step) → AllByDeviceOrIssue mode port late → AnswersAndWaitsLawful old evidence ports early → AnswersAndWaitsLawful old evidence ports (late ++ early)
+  pub lawful_on : (old : AbstractState) (evidence : Evidence) (ports : Ports) (late early : List Step) → AllByDeviceOrIssue mode port late → AnswersLawfulAndWaitsOnStoppedPorts old evidence ports early → AnswersLawfulAndWaitsOnStoppedPorts old evidence ports (late ++ early)
   lawful_on old evidence ports [] early only l = l
   lawful_on old evidence ports (Issue its e ∷ late) early only l = lawful_on old evidence ports late early only.2 l
   lawful_on old evidence ports (WaitAgain e ∷ late) early only l = absurd only.0
@@ -268,14 +268,14 @@ module _ (laws : PrerequisiteLaws) (port : Port) where
       ap (λ (n : ServerState). unanswered_of n.book) x.server ∙ puts_asks ids x.tasks old x.taken x.puts
 
   -- once all that were due are issued, none is
-  puts_done : (mode : QueueMode) (ids : List RequestId) (tasks : List PlacedTask) (old new : ServerState) → PutsInSlots port ids tasks old new → AreAllDueInOrder mode port ids (unanswered_of old.book) → NoneDue mode (unanswered_of new.book) port
+  puts_done : (mode : QueueMode) (ids : List RequestId) (tasks : List PlacedTask) (old new : ServerState) → PutsInSlots port ids tasks old new → AreDueInTurnAndLeaveNoneDue mode port ids (unanswered_of old.book) → NoneDue mode (unanswered_of new.book) port
   puts_done mode [] [] old new none turns = subst (λ (n : ServerState). NoneDue mode (unanswered_of n.book) port) (sym none) turns
   puts_done mode (id ∷ ids) (t ∷ tasks) old new (mid, one, more) turns =
-      puts_done mode ids tasks mid new more (subst (AreAllDueInOrder mode port ids) (sym (put_asks old mid id t one)) turns.1)
+      puts_done mode ids tasks mid new more (subst (AreDueInTurnAndLeaveNoneDue mode port ids) (sym (put_asks old mid id t one)) turns.1)
   puts_done mode [] (t ∷ tasks) old new puts turns = absurd puts
   puts_done mode (id ∷ ids) [] old new puts turns = absurd puts
 
-  pub each_done : (mode : QueueMode) (ids : List RequestId) (old new : ServerState) → IssuesTogetherIfAny port ids old new → AreAllDueInOrder mode port ids (unanswered_of old.book) → NoneDue mode (unanswered_of new.book) port
+  pub each_done : (mode : QueueMode) (ids : List RequestId) (old new : ServerState) → IssuesTogetherIfAny port ids old new → AreDueInTurnAndLeaveNoneDue mode port ids (unanswered_of old.book) → NoneDue mode (unanswered_of new.book) port
   each_done mode ids old new issues turns =
       let x : ArePutInSlots port ids old new = are_put port ids old new issues in
       subst (λ (n : ServerState). NoneDue mode (unanswered_of n.book) port) (sym x.server) (puts_done mode ids x.tasks old x.taken x.puts turns)

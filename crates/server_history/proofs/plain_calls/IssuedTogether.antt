@@ -32,8 +32,8 @@ use Rattle.host_boot.specs.declared.ProbeResult.{ProbeResult}
 use Rattle.host_boot.specs.declared.ProbeResult.TheVariants.{Unready}
 use Rattle.port_control.specs.ServiceAccesses.{WritesOnlyHbaIsPxIsCiOrSact}
 use Rattle.refinement.specs.Acts.{ActsReach, DriverSlots, driver_state_of_slots}
-use Rattle.refinement.specs.Fragments.{IsDrivenBy, GainsNoMove, SparesOtherPorts}
-use Rattle.refinement.specs.Driver.{EndsInSteps, TapeBacksSteps}
+use Rattle.refinement.specs.Fragments.{IsDrivenBy, GainsNoMove, AccessesNoOtherPort}
+use Rattle.refinement.specs.Driver.{EndsInOwnStepsAfterDeviceSteps, TapeBacksSteps}
 use Rattle.refinement.specs.PreservedParts.{DoesNotWrite}
 use Rattle.refinement.specs.ReadySlots.{IsStoredOnPortWithStSet}
 use Rattle.refinement.specs.Relation.{port_at}
@@ -288,7 +288,7 @@ module _ (laws : PrerequisiteLaws) (s new : ServerState) (port : Port) (first : 
     abbrev slots_then : DriverSlots
     slots_then = with_serving_batch port tasks requests its_slots
 
-    ends : EndsInSteps (driver_state_of_slots its_slots s.device) m (issues_newest_first (mode_in s port) requests) (driver_state_of_slots slots_then new.device)
+    ends : EndsInOwnStepsAfterDeviceSteps (driver_state_of_slots its_slots s.device) m (issues_newest_first (mode_in s port) requests) (driver_state_of_slots slots_then new.device)
     ends = laws.batch_issue_is_simulated port tasks (mode_in s port) requests s.device new.device its_slots m i.issued.issues found.1.tasks_are reached is.driver_relation serves
 
     spares : KeepsLoansAndPendingsOnlyAdvance m (after m ends.steps)
@@ -346,7 +346,7 @@ module _ (laws : PrerequisiteLaws) (s new : ServerState) (port : Port) (first : 
   behind : (q : ℕ) → q < 4 → PortInvariant s.wanted s.probe_results q new.device
   behind =
       behind_served laws s new.device port k ready served
-      (λ q small other. laws.port_event_laws.other_ports_are_left port q s.device new.device other k.adapter_is_on (driven_as (IsCommandIssueAccess port) (SparesOtherPorts port) s.device new.device (laws.batch_access_is_of_port port) i.issued.issues.driven))
+      (λ q small other. laws.port_event_laws.other_ports_are_left port q s.device new.device other k.adapter_is_on (driven_as (IsCommandIssueAccess port) (AccessesNoOtherPort port) s.device new.device (laws.batch_access_is_of_port port) i.issued.issues.driven))
       (λ q other. together_silent q Identify refl other)
       (λ q.
       laws.port_error.halt_of_taken_stays_over_acts (port_at q) comes.acts (driver_state_of_slots (its_slots k.machine k.reached k.machine_relation) s.device) (driver_state_of_slots (slots_then k.machine k.reached k.machine_relation) new.device) k.machine k.reached k.machine_relation.driver_relation comes.acts_are_done

@@ -12,7 +12,7 @@ use Rattle.adapter.specs.Device.{Device}
 use Rattle.adapter.specs.declared.command.Operation.{Operation}
 use Rattle.adapter.specs.declared.command.Operation.TheVariants.{Identify}
 use Rattle.refinement.specs.Relation.{port_at}
-use Rattle.refinement.specs.Fragments.{AnySlotStates, IsDrivenBy, IsSimulated, SparesOtherPorts, OnlyDeviceChangesPort, NoneWrites, GainsNoMove}
+use Rattle.refinement.specs.Fragments.{AnySlotStates, IsDrivenBy, IsSimulated, AccessesNoOtherPort, OnlyDeviceChangesPort, NoneWrites, GainsNoMove}
 use Rattle.refinement.specs.Halting.{HaltFitsTakenCommandsIfSt}
 use Rattle.adapter.specs.OneCommand.{SlotHasNoCommand}
 use Rattle.refinement.specs.Slots.{SlotStates, client_operation_of}
@@ -122,14 +122,14 @@ module _ (s : ServerState) (new : Device) (port : Port) (k : InCallInvariant s) 
 
   pub looking_kept : PrerequisiteLaws → IsSimulated (IsPxisSstsOrOwnIsAccess port) AnySlotStates s.device new → InCallInvariant (record s { device = new })
   looking_kept laws followed =
-      kept_over laws (IsPxisSstsOrOwnIsAccess port) (laws.look_laws.look_access_is_service_access port) (looking_stores s new port k) (λ q. (looking_spares port q Ci (λ e. absurd cc), looking_spares port q Sact (λ e. absurd cc))) (λ q. looking_spares port q Cmd (λ e. absurd cc)) (λ q low other. laws.port_event_laws.other_ports_are_left port q s.device new other k.adapter_is_on (driven_as (IsPxisSstsOrOwnIsAccess port) (SparesOtherPorts port) s.device new (laws.look_laws.look_access_is_of_port port) followed.is_driven)) followed
+      kept_over laws (IsPxisSstsOrOwnIsAccess port) (laws.look_laws.look_access_is_service_access port) (looking_stores s new port k) (λ q. (looking_spares port q Ci (λ e. absurd cc), looking_spares port q Sact (λ e. absurd cc))) (λ q. looking_spares port q Cmd (λ e. absurd cc)) (λ q low other. laws.port_event_laws.other_ports_are_left port q s.device new other k.adapter_is_on (driven_as (IsPxisSstsOrOwnIsAccess port) (AccessesNoOtherPort port) s.device new (laws.look_laws.look_access_is_of_port port) followed.is_driven)) followed
 
   module _ (laws : PrerequisiteLaws) (mask done : ℕ) (finds : ReadsDone port mask done s.device new) where
     pub finding_kept : InCallInvariant (record s { device = new })
     finding_kept =
         let followed = laws.mask_reading_is_simulated port mask done s.device new finds in
         kept_over laws (ReadsCiOrSact port) (finding_serves port) (finding_stores s new port k) (λ q. (finding_spares s new port k q Ci, finding_spares s new port k q Sact)) (λ q. finding_spares s new port k q Cmd)
-        (λ q low other. laws.port_event_laws.other_ports_are_left port q s.device new other k.adapter_is_on (driven_as (ReadsCiOrSact port) (SparesOtherPorts port) s.device new (laws.mask_access_is_of_port port) followed.is_driven)) followed
+        (λ q low other. laws.port_event_laws.other_ports_are_left port q s.device new other k.adapter_is_on (driven_as (ReadsCiOrSact port) (AccessesNoOtherPort port) s.device new (laws.mask_access_is_of_port port) followed.is_driven)) followed
 
     pub finding_silent : (q : ℕ) (o : Operation) → client_operation_of o ≡ None → probe_result_of s.probe_results q ≢ Unready Dead → GainsNoMove q o s.device new
     finding_silent = silent_over s new port k laws (ReadsCiOrSact port) (λ q. (finding_spares s new port k q Ci, finding_spares s new port k q Sact)) (laws.mask_reading_is_simulated port mask done s.device new finds)

@@ -9,7 +9,7 @@ use Rattle.ata_types.specs.declared.Port.{Port}
 use Rattle.ata_types.specs.declared.PortState.TheVariants.{Ready as ReadyState}
 use Rattle.ata_types.specs.declared.request.Op.{Op}
 use Rattle.ata_types.specs.declared.request.RequestId.{RequestId}
-use Rattle.block_machine.specs.DueRequests.{IsDue, conflict_by_flush_or_overlap, is_plain, issued_count, mark_issued, waits_for, with_issued}
+use Rattle.block_machine.specs.DueRequests.{IsDue, conflict_on_port_by_flush_or_overlap, is_plain, issued_count, mark_issued, waits_for, with_issued}
 use Rattle.block_machine.specs.declared.due.QueueMode.{QueueMode}
 use Rattle.block_machine.specs.declared.due.Unanswered.{Unanswered}
 use Rattle.commands.specs.Batches.{PlacedTask}
@@ -137,15 +137,15 @@ module _ (s : ServerState) (port : Port) (k : BookAndSlotsInvariant s) (e : Book
       ap (λ (b : Bool). b && kept) (eq-eqb other.port.0 e.request.port.0 (own ∙ sym port_same)) ∙ by (is_plain due_mode e.request.op) plain
     where
       kept : Bool
-      kept = if is_plain due_mode e.request.op then other.issued || nat_lt other.id.0 e.request.id.0 else (is_plain due_mode other.op && other.issued) || (nat_lt other.id.0 e.request.id.0 && (is_plain due_mode other.op || conflict_by_flush_or_overlap other (as_unanswered e.request)))
+      kept = if is_plain due_mode e.request.op then other.issued || nat_lt other.id.0 e.request.id.0 else (is_plain due_mode other.op && other.issued) || (nat_lt other.id.0 e.request.id.0 && (is_plain due_mode other.op || conflict_on_port_by_flush_or_overlap other (as_unanswered e.request)))
 
       by : (b : Bool) → (b ≡ true) ⊎ (is_plain due_mode other.op ≡ true) →
-          (if b then other.issued || nat_lt other.id.0 e.request.id.0 else (is_plain due_mode other.op && other.issued) || (nat_lt other.id.0 e.request.id.0 && (is_plain due_mode other.op || conflict_by_flush_or_overlap other (as_unanswered e.request)))) ≡ true
+          (if b then other.issued || nat_lt other.id.0 e.request.id.0 else (is_plain due_mode other.op && other.issued) || (nat_lt other.id.0 e.request.id.0 && (is_plain due_mode other.op || conflict_on_port_by_flush_or_overlap other (as_unanswered e.request)))) ≡ true
       by true it = ap (λ (x : Bool). x || nat_lt other.id.0 e.request.id.0) issued
       by false (inl queued) = absurd (false≢true queued)
       by false (inr its) =
-          ap (λ (x : Bool). (x && other.issued) || (nat_lt other.id.0 e.request.id.0 && (x || conflict_by_flush_or_overlap other (as_unanswered e.request)))) its
-          ∙ ap (λ (x : Bool). x || (nat_lt other.id.0 e.request.id.0 && (true || conflict_by_flush_or_overlap other (as_unanswered e.request)))) issued
+          ap (λ (x : Bool). (x && other.issued) || (nat_lt other.id.0 e.request.id.0 && (x || conflict_on_port_by_flush_or_overlap other (as_unanswered e.request)))) its
+          ∙ ap (λ (x : Bool). x || (nat_lt other.id.0 e.request.id.0 && (true || conflict_on_port_by_flush_or_overlap other (as_unanswered e.request)))) issued
 
   -- so no slot of the port is used for a plain request, and none at all where this one is plain
   pub none_beside : (n : ℕ) (u : SlotUse) → used_for s.slots port.0 n ≡ Some u → (is_plain due_mode e.request.op ≡ true) ⊎ (u.queued ≡ false) → ⊥

@@ -15,7 +15,7 @@ use Rattle.ata_types.specs.declared.request.RequestId.{RequestId}
 use Rattle.adapter.specs.declared.access.DeviceStep.{DeviceStep}
 use Rattle.refinement.specs.Fragments.{AnySlotStates, IsSimulated}
 use Rattle.refinement.specs.Driver.{TapeBacksSteps}
-use Rattle.block_machine.specs.Events.{AllByDevice, AnswersAndWaitsLawful, AllEnabled, AreStepsOfCall, IsOutcomeWithoutDeviceVerdict, IsIssuedIn, IsLawfulAnswer, IssueIsLastOfRequest, IsLowerByPortThenId, AbstractState, Service, RepliesMatch, UnpluggedOutcomeEmptiesPort, IsIssuedInBook, answers_of, issues_id, reply_of, IsReadyAfterStopSerialAndSizeKept}
+use Rattle.block_machine.specs.Events.{AllByDevice, AnswersLawfulAndWaitsOnStoppedPorts, AllEnabled, AreStepsOfCall, IsNeitherOkNorDeviceError, IsIssuedIn, IsLawfulAnswer, IssueIsLastOfRequest, IsLowerByPortThenId, AbstractState, Service, RepliesMatch, UnpluggedOutcomeEmptiesPort, IsIssuedInBook, answers_of, issues_id, reply_of, IsReadyAfterStopSerialAndSizeKept}
 use Rattle.block_machine.specs.Histories.{IsReachable}
 use Rattle.block_machine.specs.Expected.{after}
 use Rattle.block_machine.specs.Ports.{Evidence, Ports, SameSerialAndSize}
@@ -25,7 +25,7 @@ use Rattle.block_machine.specs.declared.due.QueueMode.{QueueMode}
 use Rattle.block_machine.specs.declared.due.Unanswered.{Unanswered}
 use Rattle.server_history.proofs.state.ListMembers.{contains_here, map_in, in_filter}
 use Rattle.block_machine.specs.DueRequests.{due_of}
-use Rattle.driver_history.specs.EvidenceHandling.{OnlyFailedPortsRequeueAbortRevokeOrFault, ToldOkOr}
+use Rattle.driver_history.specs.EvidenceHandling.{OnlyPortsShowingErrorRequeueAbortRevokeFault, ToldOkOr}
 use Rattle.driver_history.specs.Histories.{IssuesDue}
 use Rattle.driver_history.specs.PortInvariants.{HasNoUnanswered}
 use Rattle.identify.specs.declared.error_log.FailedSlot.{FailedSlot}
@@ -83,13 +83,13 @@ pub record DecidesTurn (port : Port) (replies : List Reply) (old new : ServerSta
   pub own : All (IsTurnOrDeviceStep port) steps
   pub belong : AreStepsOfCall {D = DeviceStep} Service (ports_of new) steps
   pub last : IssueIsLastOfRequest steps
-  pub lawful : AnswersAndWaitsLawful (abstract_state_of old m) evidence (ports_of new) steps
-  pub grounded : r.has_resolved.error_handled.port_error ≢ TimedOut → OnlyFailedPortsRequeueAbortRevokeOrFault evidence steps
+  pub lawful : AnswersLawfulAndWaitsOnStoppedPorts (abstract_state_of old m) evidence (ports_of new) steps
+  pub grounded : r.has_resolved.error_handled.port_error ≢ TimedOut → OnlyPortsShowingErrorRequeueAbortRevokeFault evidence steps
   pub tells : RepliesMatch steps replies
   pub unplugs : UnpluggedOutcomeEmptiesPort steps (after m steps)
   pub keeps : SameSerialAndSize (ports_of old) (ports_of new) port ⊎ HasNoUnanswered (after m steps) port
   pub issues : (ports_of new).state port ≡ ReadyState → IssuesDue (mode_in new port) steps (after m steps) port
-  pub gives : r.has_resolved.error_handled.port_error ≢ TaskFileError → (e : Pending) (o : Outcome) → Contains steps (Answer e o) → IsOutcomeWithoutDeviceVerdict o ⊎ (o ≡ outcome.Ok)
+  pub gives : r.has_resolved.error_handled.port_error ≢ TaskFileError → (e : Pending) (o : Outcome) → Contains steps (Answer e o) → IsNeitherOkNorDeviceError o ⊎ (o ≡ outcome.Ok)
   pub unplugged : (e : Pending) → Contains steps (Answer e outcome.Unplugged) → (r.has_resolved.revalidation ≡ DiskLost) × (e.request.port ≡ port)
   pub emptied : r.has_resolved.error_handled.port_error ≡ LinkChanged → HasNoUnanswered (after m steps) port
   pub told : r.has_resolved.error_handled.port_error ≡ LinkChanged → ToldOkOr outcome.Unplugged steps port ⊎ ToldOkOr outcome.PortDead steps port
@@ -322,13 +322,13 @@ module _ (laws : PrerequisiteLaws) (port : Port) (replies : List Reply) (old new
         let l = laws.steps_and_accesses.entry_is_found_in_earlier_book m.book (after m f.first).book e (laws.steps_and_accesses.device_steps_spare_book m f.first f.first_only).book (ended_stood laws (after m f.first) f.ended early_may.1 e here) in
         (record { pending = l.0; is_in_book = l.1; id_is = ap (λ r. r.id) (sym l.2.request); issued = sym l.2.issued ∙ y.2.issued }, y.2.issued, y.2.touched, y.2.ended)
 
-    lawful : AnswersAndWaitsLawful began evidence (ports_of new) (z.steps ++ base)
+    lawful : AnswersLawfulAndWaitsOnStoppedPorts began evidence (ports_of new) (z.steps ++ base)
     lawful =
         lawful_on (mode_in r.server_after_resolving port) port began evidence (ports_of new) z.steps base z.only
         (lawful_join began evidence (ports_of new) f.dispositions (f.middle ++ (ok_answers_newest_first f.ended ++ f.first))
         (deciding_lawful port began evidence (ports_of new) f.dispositions f.own fate_lawful (λ e here. let s = again_same e here in subst (Contains evidence.stopped) (sym s.1) (same_stopped s.0)))
         (lawful_join began evidence (ports_of new) f.middle (ok_answers_newest_first f.ended ++ f.first) (devices_lawful began evidence (ports_of new) f.middle f.middle_only)
-        (answers_all (AnswersAndWaitsLawful began evidence (ports_of new)) f.ended f.first (λ e steps here l. (l, ok_lawful e here)) (devices_lawful began evidence (ports_of new) f.first f.first_only))))
+        (answers_all (AnswersLawfulAndWaitsOnStoppedPorts began evidence (ports_of new)) f.ended f.first (λ e steps here l. (l, ok_lawful e here)) (devices_lawful began evidence (ports_of new) f.first f.first_only))))
 
     again_failed : a.error_handled.port_error ≢ TimedOut → (e : Pending) → Contains f.dispositions (WaitAgain e) → Contains evidence.showing_error port
     again_failed unhung e here = ⊎_elim (λ lost. absurd (not_same lost (again_same e here).0)) (failed_named unhung) (lost_or_not a.error_handled.port_error)
@@ -346,12 +346,12 @@ module _ (laws : PrerequisiteLaws) (port : Port) (replies : List Reply) (old new
         none lost (inr (inr (inr (inl x)))) = subst RestsOnFailure x.1 rests
         none lost (inr (inr (inr (inr x)))) = not_same lost x.0
 
-    grounded : a.error_handled.port_error ≢ TimedOut → OnlyFailedPortsRequeueAbortRevokeOrFault evidence (z.steps ++ base)
+    grounded : a.error_handled.port_error ≢ TimedOut → OnlyPortsShowingErrorRequeueAbortRevokeFault evidence (z.steps ++ base)
     grounded unhung =
-        issues_all (OnlyFailedPortsRequeueAbortRevokeOrFault evidence) (mode_in r.server_after_resolving port) port (device_grounded evidence) (λ e steps own g. g) z.steps base z.only
+        issues_all (OnlyPortsShowingErrorRequeueAbortRevokeFault evidence) (mode_in r.server_after_resolving port) port (device_grounded evidence) (λ e steps own g. g) z.steps base z.only
         (grounded_join evidence f.dispositions (f.middle ++ (ok_answers_newest_first f.ended ++ f.first)) (deciding_grounded port evidence f.dispositions f.own (again_failed unhung) (answer_failed unhung))
-        (grounded_join evidence f.middle (ok_answers_newest_first f.ended ++ f.first) (devices_all (OnlyFailedPortsRequeueAbortRevokeOrFault evidence) (device_grounded evidence) tt f.middle f.middle_only)
-        (answers_all (OnlyFailedPortsRequeueAbortRevokeOrFault evidence) f.ended f.first (λ e steps here g. g) (devices_all (OnlyFailedPortsRequeueAbortRevokeOrFault evidence) (device_grounded evidence) tt f.first f.first_only))))
+        (grounded_join evidence f.middle (ok_answers_newest_first f.ended ++ f.first) (devices_all (OnlyPortsShowingErrorRequeueAbortRevokeFault evidence) (device_grounded evidence) tt f.middle f.middle_only)
+        (answers_all (OnlyPortsShowingErrorRequeueAbortRevokeFault evidence) f.ended f.first (λ e steps here g. g) (devices_all (OnlyPortsShowingErrorRequeueAbortRevokeFault evidence) (device_grounded evidence) tt f.first f.first_only))))
 
     -- ---- its steps
 
@@ -468,17 +468,17 @@ module _ (laws : PrerequisiteLaws) (port : Port) (replies : List Reply) (old new
         (Contains-append_cases z.steps base (Answer e o) here)
 
     -- no fault is told unless a command had failed
-    gives : a.error_handled.port_error ≢ TaskFileError → (e : Pending) (o : Outcome) → Contains (z.steps ++ base) (Answer e o) → IsOutcomeWithoutDeviceVerdict o ⊎ (o ≡ outcome.Ok)
+    gives : a.error_handled.port_error ≢ TaskFileError → (e : Pending) (o : Outcome) → Contains (z.steps ++ base) (Answer e o) → IsNeitherOkNorDeviceError o ⊎ (o ≡ outcome.Ok)
     gives other e o here = by_ok (ok_or_not o)
       where
-        by : (entry : PendingRequest) → Why a.failed a.revalidation entry o → IsOutcomeWithoutDeviceVerdict o
+        by : (entry : PendingRequest) → Why a.failed a.revalidation entry o → IsNeitherOkNorDeviceError o
         by entry (inl x) = let y : None ≡ Some x.0 = sym (nobody other) ∙ x.1 in absurd cc
-        by entry (inr (inl x)) = subst IsOutcomeWithoutDeviceVerdict (sym x.3) tt
-        by entry (inr (inr (inl x))) = subst IsOutcomeWithoutDeviceVerdict (sym x.1) tt
-        by entry (inr (inr (inr (inl x)))) = subst IsOutcomeWithoutDeviceVerdict (sym x.1) tt
-        by entry (inr (inr (inr (inr x)))) = subst IsOutcomeWithoutDeviceVerdict (sym x.3) tt
+        by entry (inr (inl x)) = subst IsNeitherOkNorDeviceError (sym x.3) tt
+        by entry (inr (inr (inl x))) = subst IsNeitherOkNorDeviceError (sym x.1) tt
+        by entry (inr (inr (inr (inl x)))) = subst IsNeitherOkNorDeviceError (sym x.1) tt
+        by entry (inr (inr (inr (inr x)))) = subst IsNeitherOkNorDeviceError (sym x.3) tt
 
-        by_ok : (o ≡ outcome.Ok) ⊎ (o ≢ outcome.Ok) → IsOutcomeWithoutDeviceVerdict o ⊎ (o ≡ outcome.Ok)
+        by_ok : (o ≡ outcome.Ok) ⊎ (o ≢ outcome.Ok) → IsNeitherOkNorDeviceError o ⊎ (o ≡ outcome.Ok)
         by_ok (inl ok) = inr ok
         by_ok (inr told) = let w = f.answered e o (fated e o told here) in inl (by w.0.request (why a.failed a.revalidation w.0.request o w.3))
 

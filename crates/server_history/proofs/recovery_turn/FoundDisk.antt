@@ -14,7 +14,7 @@ use Rattle.adapter.specs.Access.{Access, DoesAll, Writes}
 use Rattle.adapter.specs.Access.Access.{Reading, Writing}
 use Rattle.adapter.specs.Device.{Device, DevicePort}
 use Rattle.adapter.specs.Rules.{IsOn}
-use Rattle.refinement.specs.Fragments.{TapeGrows, ReadsPortOrWrites, IsDrivenBy, SparesOtherPorts}
+use Rattle.refinement.specs.Fragments.{TapeGrows, ReadsPortOrWrites, IsDrivenBy, AccessesNoOtherPort}
 use Rattle.refinement.specs.Driver.{TapeBacksSteps}
 use Rattle.block_machine.specs.Events.{ShowsDisk, changes_disk}
 use Rattle.block_machine.specs.State.{Machine}
@@ -61,12 +61,12 @@ module _ (laws : PrerequisiteLaws) (port : Port) where
       → FindsLinkAndClearsErrors port ended linked → IsDrivenBy (IsBeside port) linked new → SeesDevice port old new
   found_then old placed sent ended linked new on places sends ends found rest =
       let waited = (resetting laws port old placed sent ended found.reads_until_link.waited places sends ends (without laws port Ssts _ found.reads_until_link.count ended found.reads_until_link.waited found.reads_until_link.waits)).driven in
-      let there = laws.one_port_keeps_adapter_on port old found.reads_until_link.waited on (record { accesses = waited.accesses; all_are_done = waited.all_are_done; accesses_are_of_kind = All-weaker (IsBootAccess port) (SparesOtherPorts port) (laws.boot_access_is_of_port port) waited.accesses waited.accesses_are_of_kind }) in
+      let there = laws.one_port_keeps_adapter_on port old found.reads_until_link.waited on (record { accesses = waited.accesses; all_are_done = waited.all_are_done; accesses_are_of_kind = All-weaker (IsBootAccess port) (AccessesNoOtherPort port) (laws.boot_access_is_of_port port) waited.accesses waited.accesses_are_of_kind }) in
       record {
         seen = found.after_link_is_seen;
         early = (resetting laws port old placed sent ended found.after_link_is_seen places sends ends (until laws port Ssts _ ended found.after_link_is_seen found.reads_until_link)).driven;
         shows = sym (laws.port_event_laws.shown_after port Ssts found.reads_until_link.value found.reads_until_link.waited found.after_link_is_seen there.no_reset found.reads_until_link.reads) ∙ found.reads_until_link.shown;
-        own = own_then placed sent ended found.after_link_is_seen (laws.one_port_keeps_adapter_on port old placed on (driven_as (ReadsPortOrWrites IsCmdOrBaseRegister port) (SparesOtherPorts port) old placed (λ access is. laws.boot_access_is_of_port port access (placing_boots laws port access is)) places)) sends ends found.reads_until_link;
+        own = own_then placed sent ended found.after_link_is_seen (laws.one_port_keeps_adapter_on port old placed on (driven_as (ReadsPortOrWrites IsCmdOrBaseRegister port) (AccessesNoOtherPort port) old placed (λ access is. laws.boot_access_is_of_port port access (placing_boots laws port access is)) places)) sends ends found.reads_until_link;
         late = cleared_then laws port found.after_link_is_seen linked new found.clears rest;
       }
 
@@ -123,7 +123,7 @@ pub record SeesOver (port : Port) (old asked new : Device) : Type 0 where
   pub since : TapeGrows asked new
   pub later : TapeGrows seen new
 
-pub booted_sees : (laws : PrerequisiteLaws) (port : Port) (wanted : Wanted) (booted : Booted) (accesses : List Access) (old d new : Device) → IsOn old → DoesAll accesses old d → All (SparesOtherPorts port) accesses
+pub booted_sees : (laws : PrerequisiteLaws) (port : Port) (wanted : Wanted) (booted : Booted) (accesses : List Access) (old d new : Device) → IsOn old → DoesAll accesses old d → All (AccessesNoOtherPort port) accesses
     → (b : RebootsPort wanted port booted d new) → ShowsDisk (state_of booted.found) → SeesOver port old b.device_after_survey new
 booted_sees laws port wanted booted accesses old d new on does of b shows = record {
   seen = sees.seen;
@@ -147,14 +147,14 @@ booted_sees laws port wanted booted accesses old d new on does of b shows = reco
 
     sees : SeesDevice port b.device_after_survey new
     sees = boot_sees laws port wanted booted.found b.device_after_survey new
-        (laws.one_port_keeps_adapter_on port old b.device_after_survey on (record { accesses = until; all_are_done = asked; accesses_are_of_kind = All-append (SparesOtherPorts port) accesses made.accesses of (All-weaker (IsCapPiOrBootAccess port) (SparesOtherPorts port) (laws.recovery.boot_start_access_is_of_port port) made.accesses made.accesses_are_of_kind) }))
+        (laws.one_port_keeps_adapter_on port old b.device_after_survey on (record { accesses = until; all_are_done = asked; accesses_are_of_kind = All-append (AccessesNoOtherPort port) accesses made.accesses of (All-weaker (IsCapPiOrBootAccess port) (AccessesNoOtherPort port) (laws.recovery.boot_start_access_is_of_port port) made.accesses made.accesses_are_of_kind) }))
         b.boots shows
 
     late : TapeGrows sees.seen new
     late = grows_over laws sees.late.accesses sees.seen new sees.late.all_are_done
 
 -- The machine had a disk in the port then, or one went or came, where the device went on after the boot.
-pub booted_had : (laws : PrerequisiteLaws) (port : Port) (s : ServerState) (wanted : Wanted) (booted : Booted) (accesses : List Access) (d new end : Device) → IsOn s.device → DoesAll accesses s.device d → All (SparesOtherPorts port) accesses
+pub booted_had : (laws : PrerequisiteLaws) (port : Port) (s : ServerState) (wanted : Wanted) (booted : Booted) (accesses : List Access) (d new end : Device) → IsOn s.device → DoesAll accesses s.device d → All (AccessesNoOtherPort port) accesses
     → (b : RebootsPort wanted port booted d new) → ShowsDisk (state_of booted.found) → TapeGrows new end → (m : Machine) → MachineRelation s m → (steps : List Step) → TapeBacksSteps s.device end m steps
     → (m.present port ≡ true) ⊎ (list_any (changes_disk port) steps ≡ true)
 booted_had laws port s wanted booted accesses d new end on does of b shows later m stands steps backed =

@@ -20,7 +20,7 @@ use Rattle.refinement.specs.PreservedParts.{NoPlugEvents, DoesNotWrite}
 use Rattle.refinement.specs.HaltRecovery.{IsLinked, WorksOnUnqueuedCommandsOnly}
 use Rattle.block_machine.specs.State.{Machine}
 use Rattle.driver_history.specs.Histories.{RunsWellAnew}
-use Rattle.driver_history.specs.AccessTrace.{ResetsLink}
+use Rattle.driver_history.specs.AccessTrace.{LastSctlWritesResetLink}
 use Rattle.error_recovery.specs.Evidence.{GainsSinceStart}
 use Rattle.error_recovery.specs.declared.Next.{Next}
 use Rattle.error_recovery.specs.declared.Next.TheVariants as next
@@ -120,7 +120,7 @@ module _ (laws : PrerequisiteLaws) (port : Port) (low : port.0 < 4) (wanted : Wa
       (laws.port_event_laws.tape.growth_is_transitive old d b.device_after_survey until (grows_over laws b.surveys.is_driven.accesses d b.device_after_survey b.surveys.is_driven.all_are_done))
 
 -- a link wasn't reset where PxSCTL wasn't written
-never_reset : (port : Port) (accesses : List Access) → All (DoesNotWrite (Px port Sctl)) accesses → ResetsLink port accesses → ⊥
+never_reset : (port : Port) (accesses : List Access) → All (DoesNotWrite (Px port Sctl)) accesses → LastSctlWritesResetLink port accesses → ⊥
 never_reset port accesses all r = All-contains (DoesNotWrite (Px port Sctl)) accesses (Writing (Px port Sctl) r.comreset_value) all
     (subst (λ (list : List Access). Contains list (Writing (Px port Sctl) r.comreset_value)) (sym r.accesses_are_split)
     (Contains-append_right r.before (Writing (Px port Sctl) r.comreset_value ∷ (r.between ++ (Writing (Px port Sctl) r.end_of_comreset_value ∷ r.later))) (Writing (Px port Sctl) r.comreset_value)
@@ -196,10 +196,10 @@ module _ (laws : PrerequisiteLaws) (port : Port) (replies : List Reply) (old new
             (subst (λ (f : ProbeResult). StillBacksProbeResult (wanted_of a.server_after_handling.wanted port.0) f port.0 a.server_after_handling.device) f.1.1 (then_kept.port_invariant port.0 low).probe_result_is_backed).1.no_comreset
 
     runs_well : NoPlugEvents port.0 old.device new.device → (old.device.port port.0).ssts_det ≡ 3 → (GainsSinceStart (IsFaultOf port.0) port.0 old.device new.device → ⊥) → (GainsSinceStart (IsFatalEntryOf port.0) port.0 old.device new.device → ⊥)
-        → ResetsLink port evident.accesses ⊎ ((old.device.port port.0).fresh ≡ true) → RunsWell (new.device.port port.0)
+        → LastSctlWritesResetLink port evident.accesses ⊎ ((old.device.port port.0).fresh ≡ true) → RunsWell (new.device.port port.0)
     runs_well none det unfailed unbroken how =
         let fresh : (old.device.port port.0).fresh ≡ true = ⊎_elim
-        (λ reset. absurd (never_reset port (t.early.accesses ++ (x.recovers_or_stops.accesses ++ t.late.accesses)) unreset (subst (ResetsLink port) evident.accesses_are reset)))
+        (λ reset. absurd (never_reset port (t.early.accesses ++ (x.recovers_or_stops.accesses ++ t.late.accesses)) unreset (subst (LastSctlWritesResetLink port) evident.accesses_are reset)))
         (λ is. is) how in
         let rest = laws.port_event_laws.tape.growth_is_transitive a.server_after_handling.device a.device_after_handling new.device part_grows late_grows in
         let plugs = laws.port_event_laws.tape.no_plug_events_in_parts port.0 a.server_after_handling.device a.device_after_handling new.device part_grows.0 late_grows.0 part_grows.1 late_grows.1

@@ -11,10 +11,10 @@ use Rattle.adapter.specs.Access.{Access, named_causes_mask}
 use Rattle.adapter.specs.Access.Access.{Loading, Reading, Storing, Writing}
 use Rattle.adapter.specs.Device.{Device}
 use Rattle.adapter.specs.Rules.{IsOn}
-use Rattle.refinement.specs.Fragments.{AnySlotStates, IsDrivenBy, IsSimulated, SparesOtherPorts}
+use Rattle.refinement.specs.Fragments.{AnySlotStates, IsDrivenBy, IsSimulated, AccessesNoOtherPort}
 use Rattle.server_history.proofs.state.DrivenAccesses.{by_then, driven_as}
 use Rattle.block_machine.specs.State.{Machine}
-use Rattle.disk_page.specs.PageRequests.{IsSlot0CiOrPageMemoryAccess}
+use Rattle.disk_page.specs.PageRequests.{IsPxciOrSlot0PageMemoryAccess}
 use Rattle.driver_history.specs.Histories.{LosesNoPortError}
 use Rattle.error_recovery.specs.Evidence.{HidesNoTrouble}
 use Rattle.error_recovery.specs.Recovery.{EndsAsNext, RunsAgain}
@@ -86,7 +86,7 @@ issuing_leaves at port (Writing r v) is = ⊎_elim
 issuing_leaves at port (Loading a bytes) is = (tt, tt, tt, tt, stays_on (Loading a bytes) tt)
 issuing_leaves at port (Storing a bytes) is = (tt, tt, tt, tt, stays_on (Storing a bytes) tt)
 
-asking_leaves : (port : Port) (access : Access) → IsSlot0CiOrPageMemoryAccess port access → LeavesTrouble port access
+asking_leaves : (port : Port) (access : Access) → IsPxciOrSlot0PageMemoryAccess port access → LeavesTrouble port access
 asking_leaves port (Reading r v) is = (tt, tt, tt, tt, stays_on (Reading r v) tt)
 asking_leaves port (Writing r v) is = subst (λ (x : Reg). LeavesTrouble port (Writing x v)) (sym is.0) (ci_apart port port v)
 asking_leaves port (Loading at bytes) is = (tt, tt, tt, tt, stays_on (Loading at bytes) tt)
@@ -96,12 +96,12 @@ asking_leaves port (Storing at bytes) is = (tt, tt, tt, tt, stays_on (Storing at
 
 module _ (laws : PrerequisiteLaws) (port : Port) (old asked mid new : Device) (on : IsOn asked) (way : BringsReady port asked mid) (later : IsDrivenBy (LeavesTrouble port) mid new) where
   pub ready_up_on : IsOn way.up
-  ready_up_on = laws.one_port_keeps_adapter_on port asked way.up on (driven_as (IsBootAccess port) (SparesOtherPorts port) asked way.up (λ access x. laws.boot_access_is_of_port port access x) (up_driven laws port asked way.up way.brings_up))
+  ready_up_on = laws.one_port_keeps_adapter_on port asked way.up on (driven_as (IsBootAccess port) (AccessesNoOtherPort port) asked way.up (λ access x. laws.boot_access_is_of_port port access x) (up_driven laws port asked way.up way.brings_up))
 
   -- what came since ST was set leaves what the port shows
   pub ready_since : IsDrivenBy (LeavesTrouble port) way.up new
   ready_since =
-      by_then laws (driven_as (IsSlot0CiOrPageMemoryAccess port) (LeavesTrouble port) way.up way.asks_disk.asked (asking_leaves port) way.asks_disk.asks)
+      by_then laws (driven_as (IsPxciOrSlot0PageMemoryAccess port) (LeavesTrouble port) way.up way.asks_disk.asked (asking_leaves port) way.asks_disk.asks)
       (by_then laws
       (record { accesses = Writing (Px port Ie) named_causes_mask ∷ []; all_are_done = (mid, way.asks_disk.enables_interrupts, refl); accesses_are_of_kind = All-cons (LeavesTrouble port) (Writing (Px port Ie) named_causes_mask) [] (ie_apart port named_causes_mask) (All-nil (LeavesTrouble port)) })
       later)
@@ -114,7 +114,7 @@ module _ (laws : PrerequisiteLaws) (port : Port) (old asked mid new : Device) (o
 module _ (laws : PrerequisiteLaws) (port : Port) (low : port.0 < 4) (wanted : Wanted) (info : DiskInfo) (booted : Booted) (old d mid new : Device) (on : IsOn d) (b : RebootsPort wanted port booted d mid) (found : booted.found ≡ Ready info)
     (later : IsDrivenBy (LeavesTrouble port) mid new) where
   pub boot_asked_on : IsOn b.device_after_survey
-  boot_asked_on = laws.one_port_keeps_adapter_on port d b.device_after_survey on (driven_as (IsCapPiOrBootAccess port) (SparesOtherPorts port) d b.device_after_survey (λ access s. (start_part laws port low access s).1) b.surveys.is_driven)
+  boot_asked_on = laws.one_port_keeps_adapter_on port d b.device_after_survey on (driven_as (IsCapPiOrBootAccess port) (AccessesNoOtherPort port) d b.device_after_survey (λ access s. (start_part laws port low access s).1) b.surveys.is_driven)
 
   pub boot_ends : EndsReady (serial_of wanted) port info b.device_after_survey mid
   boot_ends = subst (λ (f : ProbeResult). EndsReadyOrUnready wanted port f b.device_after_survey mid) found b.boots
@@ -143,9 +143,9 @@ module _ (laws : PrerequisiteLaws) (port : Port) (replies : List Reply) (old new
   issuing = driven_as (IsCommandIssueAccess port) (LeavesTrouble port) r.server_after_resolving.device new.device (issuing_leaves port port) (each_driven laws port (due_ids (mode_in r.server_after_resolving port) port (unanswered_of r.server_after_resolving.book)) r.server_after_resolving new r.issued)
 
   -- the adapter is on when the port was recovered
-  pub recovered_driven : IsDrivenBy (SparesOtherPorts port) old.device a.device_after_handling
-  recovered_driven = by_then laws (driven_as (IsEarlyPart port) (SparesOtherPorts port) old.device a.server_after_handling.device (λ access is. is.0.1) t.early)
-      (record { accesses = x.recovers_or_stops.accesses; all_are_done = t.does; accesses_are_of_kind = All-weaker (IsPart port) (SparesOtherPorts port) (λ access is. is.1) x.recovers_or_stops.accesses t.kinds })
+  pub recovered_driven : IsDrivenBy (AccessesNoOtherPort port) old.device a.device_after_handling
+  recovered_driven = by_then laws (driven_as (IsEarlyPart port) (AccessesNoOtherPort port) old.device a.server_after_handling.device (λ access is. is.0.1) t.early)
+      (record { accesses = x.recovers_or_stops.accesses; all_are_done = t.does; accesses_are_of_kind = All-weaker (IsPart port) (AccessesNoOtherPort port) (λ access is. is.1) x.recovers_or_stops.accesses t.kinds })
 
   pub recovered_on : IsOn a.device_after_handling
   recovered_on = laws.one_port_keeps_adapter_on port old.device a.device_after_handling k.adapter_is_on recovered_driven

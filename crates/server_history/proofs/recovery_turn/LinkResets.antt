@@ -16,8 +16,8 @@ use Rattle.adapter.specs.Device.{Device}
 use Rattle.refinement.specs.Fragments.{ReadsPortOrWrites, IsDrivenBy}
 use Rattle.refinement.specs.PreservedParts.{DoesNotWrite}
 use Rattle.server_history.proofs.state.DrivenAccesses.{by_none, by_then, driven_as}
-use Rattle.disk_page.specs.PageRequests.{IsSlot0CiOrPageMemoryAccess}
-use Rattle.driver_history.specs.AccessTrace.{ResetsLink}
+use Rattle.disk_page.specs.PageRequests.{IsPxciOrSlot0PageMemoryAccess}
+use Rattle.driver_history.specs.AccessTrace.{LastSctlWritesResetLink}
 use Rattle.error_recovery.specs.Recovery.{IsCmdSerrOrIs, IsRecoveryAccess}
 use Rattle.port_boot.specs.States.{EndsBeforeStart, EndsAfterStart, BringsReady, BringsUpPort, IsWrittenInBootButCi, IsBootAccess}
 use Rattle.port_control.specs.Ports.{ClearsErrors, FindsLinkAndClearsErrors, FindsSignature, IsCmdOrBaseRegister, SeesResetFault, IsVainReading, ReadsUntil, ReadsInVain, IsCommandRegister}
@@ -28,10 +28,10 @@ use Rattle.server_history.specs.Prerequisites.{PrerequisiteLaws}
 -- By these accesses, of a boot, the link was reset.
 pub record ResetsBy (port : Port) (old new : Device) : Type 0 where
   pub driven : IsDrivenBy (IsBootAccess port) old new
-  pub resets : ResetsLink port driven.accesses
+  pub resets : LastSctlWritesResetLink port driven.accesses
 
 -- more accesses before, and after, that don't write PxSCTL
-pub resets_more : (port : Port) (early part late : List Access) → ResetsLink port part → All (DoesNotWrite (Px port Sctl)) late → ResetsLink port (early ++ (part ++ late))
+pub resets_more : (port : Port) (early part late : List Access) → LastSctlWritesResetLink port part → All (DoesNotWrite (Px port Sctl)) late → LastSctlWritesResetLink port (early ++ (part ++ late))
 resets_more port early part late r spared = record {
   before = early ++ r.before;
   between = r.between;
@@ -49,9 +49,9 @@ resets_more port early part late r spared = record {
   sctl_is_unwritten_later = All-append (DoesNotWrite (Px port Sctl)) r.later late r.sctl_is_unwritten_later spared;
 }
 
-pub resets_since : (port : Port) (early part : List Access) → ResetsLink port part → ResetsLink port (early ++ part)
+pub resets_since : (port : Port) (early part : List Access) → LastSctlWritesResetLink port part → LastSctlWritesResetLink port (early ++ part)
 resets_since port early part r =
-    subst (λ (list : List Access). ResetsLink port (early ++ list)) (append-nil part) (resets_more port early part [] r (All-nil (DoesNotWrite (Px port Sctl))))
+    subst (λ (list : List Access). LastSctlWritesResetLink port (early ++ list)) (append-nil part) (resets_more port early part [] r (All-nil (DoesNotWrite (Px port Sctl))))
 
 -- ---- accesses of a boot's way but those that reset the link
 
@@ -86,7 +86,7 @@ module _ (laws : PrerequisiteLaws) (port : Port) where
   pub placing_boots : (access : Access) → ReadsPortOrWrites IsCmdOrBaseRegister port access → IsBootAccess port access
   placing_boots access is = (control_beside IsCmdOrBaseRegister placing_beside access is).0
 
-  asking_beside : (access : Access) → IsSlot0CiOrPageMemoryAccess port access → IsBeside port access
+  asking_beside : (access : Access) → IsPxciOrSlot0PageMemoryAccess port access → IsBeside port access
   asking_beside (Reading r v) is = (inr is, tt)
   asking_beside (Writing r v) is = (inr is, λ same. let z : Px port Ci ≡ Px port Sctl = sym is.0 ∙ same in absurd cc)
   asking_beside (Loading at bytes) is = (inr is, tt)
@@ -142,8 +142,8 @@ module _ (laws : PrerequisiteLaws) (port : Port) where
   pub commanding : (old new : Device) → IsDrivenBy (ReadsPortOrWrites IsCommandRegister port) old new → IsDrivenBy (IsBeside port) old new
   commanding old new driven = driven_as (ReadsPortOrWrites IsCommandRegister port) (IsBeside port) old new (control_beside IsCommandRegister command_beside) driven
 
-  asking : (old new : Device) → IsDrivenBy (IsSlot0CiOrPageMemoryAccess port) old new → IsDrivenBy (IsBeside port) old new
-  asking old new driven = driven_as (IsSlot0CiOrPageMemoryAccess port) (IsBeside port) old new asking_beside driven
+  asking : (old new : Device) → IsDrivenBy (IsPxciOrSlot0PageMemoryAccess port) old new → IsDrivenBy (IsBeside port) old new
+  asking old new driven = driven_as (IsPxciOrSlot0PageMemoryAccess port) (IsBeside port) old new asking_beside driven
 
   -- what comes once the link was found of a port that is started, and then
   pub started_then : (old up new : Device) (g : BringsUpPort port old up) → IsDrivenBy (IsBeside port) up new → IsDrivenBy (IsBeside port) g.resets.does_rest.linked new

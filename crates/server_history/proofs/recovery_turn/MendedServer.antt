@@ -20,7 +20,7 @@ use Rattle.server_history.proofs.state.ListMembers.{contains_cases, contains_her
 use Rattle.error_recovery.specs.Recovery.{EndsAsNext}
 use Rattle.error_recovery.specs.declared.Next.{Next}
 use Rattle.error_recovery.specs.declared.Next.TheVariants as next
-use Rattle.host_boot.specs.TakeOver.{IsServed, StillBacksProbeResult, probe_result_of, wanted_of}
+use Rattle.host_boot.specs.TakeOver.{IsWantedAndImplemented, StillBacksProbeResult, probe_result_of, wanted_of}
 use Rattle.host_boot.specs.declared.ProbeResult.{ProbeResult}
 use Rattle.host_boot.specs.declared.ProbeResult.TheVariants.{Ready}
 use Rattle.identify.specs.declared.wanted.Wanted.{Wanted}
@@ -168,7 +168,7 @@ module _ (laws : PrerequisiteLaws) (port : Port) (later : List Reply) (old new :
   recovered_same : SameAdapter mid.device a.device_after_handling
   recovered_same = same_over laws port mid.device a.device_after_handling done.1.driven
 
-  served_then : IsServed wanted port.0 a.device_after_handling
+  served_then : IsWantedAndImplemented wanted port.0 a.device_after_handling
   served_then = (was_stands.0.0, ap (λ (pi : ℕ). bit pi port.0) recovered_same.pi ∙ was_stands.0.1)
 
   abbrev Stands : ProbeResult → Device → Type 0

@@ -18,7 +18,7 @@ use Rattle.port_control.specs.PortEvents.{TakesEvent}
 use Rattle.port_control.specs.declared.events.PortEvent.{PortEvent}
 use Rattle.port_control.specs.declared.events.PortEvent.TheVariants as look
 use Rattle.server_history.specs.Prerequisites.{PrerequisiteLaws}
-use Rattle.server_history.specs.ErrorHandling.{ErrorIsFound}
+use Rattle.server_history.specs.ErrorHandling.{LookTellsErrorUnlessTimedOut}
 use Rattle.port_control.specs.declared.events.PortError.{PortError}
 use Rattle.port_control.specs.declared.events.PortError.TheVariants.{FatalError, TaskFileError, TimedOut, LinkChanged}
 use Rattle.server_history.proofs.any_turn.ToldTrouble.{errors_shown, fatal_shown, loss_shown, no_change, no_fatal, not_missing}
@@ -45,7 +45,7 @@ module _ (laws : PrerequisiteLaws) (port : Port) (old seen new : Device) (on : I
   failed_all LinkChanged shows = is_named_if (shows_failure p) port (failure_shows p shows)
   failed_all TimedOut shows = is_named_if (shows_failure p) port (failure_shows p shows)
 
-  pub failed_only : (t : PortError) → ErrorIsFound port t old seen → Contains (failed_of port t p) port
+  pub failed_only : (t : PortError) → LookTellsErrorUnlessTimedOut port t old seen → Contains (failed_of port t p) port
       → ShowsFailure p ⊎ (TapeGainsEntry (IsFaultOf port.0) old new ⊎ TapeGainsEntry (IsFatalEntryOf port.0) old new)
   failed_only TaskFileError l here = errors_shown laws port look.TaskFileError old seen l on (inl refl) new (since_read look.TaskFileError l)
   failed_only FatalError l here = errors_shown laws port look.FatalError old seen l on (inr refl) new (since_read look.FatalError l)
@@ -54,13 +54,13 @@ module _ (laws : PrerequisiteLaws) (port : Port) (old seen new : Device) (on : I
 
   -- ---- fatal errors
 
-  pub fatal_all : (t : PortError) → ErrorIsFound port t old seen → ShowsFatal p → Contains (fatal_of port t p) port
+  pub fatal_all : (t : PortError) → LookTellsErrorUnlessTimedOut port t old seen → ShowsFatal p → Contains (fatal_of port t p) port
   fatal_all TaskFileError l fatal = absurd (no_fatal laws port look.TaskFileError old seen l on refl fatal)
   fatal_all FatalError l fatal = first_here port []
   fatal_all LinkChanged l fatal = is_named_if (shows_fatal p) port (fatal_shows p fatal)
   fatal_all TimedOut same fatal = is_named_if (shows_fatal p) port (fatal_shows p fatal)
 
-  pub fatal_only : (t : PortError) → ErrorIsFound port t old seen → Contains (fatal_of port t p) port → ShowsFatal p ⊎ TapeGainsEntry (IsFatalEntryOf port.0) old new
+  pub fatal_only : (t : PortError) → LookTellsErrorUnlessTimedOut port t old seen → Contains (fatal_of port t p) port → ShowsFatal p ⊎ TapeGainsEntry (IsFatalEntryOf port.0) old new
   fatal_only TaskFileError l here = absurd (nowhere port here)
   fatal_only FatalError l here = fatal_shown laws port look.FatalError old seen l on refl new (since_read look.FatalError l)
   fatal_only LinkChanged l here = inl (unfatal p (named_if_is (shows_fatal p) port here))
@@ -75,7 +75,7 @@ module _ (laws : PrerequisiteLaws) (port : Port) (old seen new : Device) (on : I
       (λ missing. not_missing laws port told old seen l on other new later undue missing.0 missing.1)
       shows
 
-  pub gone_all : (t : PortError) → ErrorIsFound port t old seen → ShowedLinkChangeOrNoDeviceAndNoneCame port old new → Contains (gone_of port t p) port
+  pub gone_all : (t : PortError) → LookTellsErrorUnlessTimedOut port t old seen → ShowedLinkChangeOrNoDeviceAndNoneCame port old new → Contains (gone_of port t p) port
   gone_all TaskFileError l shows = absurd (unlost_by look.TaskFileError l (λ e. let z : look.TaskFileError ≡ look.LinkChanged = e in cc) shows)
   gone_all FatalError l shows = absurd (unlost_by look.FatalError l (λ e. let z : look.FatalError ≡ look.LinkChanged = e in cc) shows)
   gone_all LinkChanged l shows = first_here port []
@@ -85,13 +85,13 @@ module _ (laws : PrerequisiteLaws) (port : Port) (old seen new : Device) (on : I
   abbrev pub IsLoss : Type 0
   IsLoss = ShowsLinkChange p ⊎ ((p.ssts_det ≢ 3) ⊎ TapeGainsEntry (IsPlugEvent port.0) old new)
 
-  pub loss : (t : PortError) → ErrorIsFound port t old seen → t ≡ LinkChanged → IsLoss
+  pub loss : (t : PortError) → LookTellsErrorUnlessTimedOut port t old seen → t ≡ LinkChanged → IsLoss
   loss TaskFileError l lost = let z : TaskFileError ≡ LinkChanged = lost in absurd cc
   loss FatalError l lost = let z : FatalError ≡ LinkChanged = lost in absurd cc
   loss LinkChanged l lost = loss_shown laws port look.LinkChanged old seen l on refl undue new later
   loss TimedOut same lost = let z : TimedOut ≡ LinkChanged = lost in absurd cc
 
-  pub gone_only : (t : PortError) → ErrorIsFound port t old seen → Contains (gone_of port t p) port → IsLoss
+  pub gone_only : (t : PortError) → LookTellsErrorUnlessTimedOut port t old seen → Contains (gone_of port t p) port → IsLoss
   gone_only TaskFileError l here = absurd (nowhere port here)
   gone_only FatalError l here = absurd (nowhere port here)
   gone_only LinkChanged l here = loss_shown laws port look.LinkChanged old seen l on refl undue new later

@@ -16,7 +16,7 @@ use Rattle.adapter.specs.declared.command.Operation.{Operation}
 use Rattle.adapter.specs.declared.command.Operation.TheVariants.{Identify, ReadLog}
 use Rattle.refinement.specs.Acts.{Act, ActsReach, DriverSlots, newest_first_steps_of_acts, driver_state_of_slots}
 use Rattle.refinement.specs.Relation.{port_at}
-use Rattle.refinement.specs.Fragments.{AnySlotStates, ReadsPortOrWrites, IsDrivenBy, IsSimulated, IsSimulatedChangingUses, SparesOtherPorts, GainsNoMove}
+use Rattle.refinement.specs.Fragments.{AnySlotStates, ReadsPortOrWrites, IsDrivenBy, IsSimulated, IsSimulatedChangingUses, AccessesNoOtherPort, GainsNoMove}
 use Rattle.refinement.specs.Driver.{AllFree, DriverAdvances, DriverRelation}
 use Rattle.refinement.specs.GivingUp.{slots_with_all_parked}
 use Rattle.refinement.specs.Halting.{HaltFitsTakenCommandsIfSt}
@@ -29,8 +29,8 @@ use Rattle.block_machine.specs.Histories.{IsReachable}
 use Rattle.block_machine.specs.Expected.{after}
 use Rattle.block_machine.specs.State.{Machine}
 use Rattle.command_table.specs.TableStores.{IsHeaderOrTableStore}
-use Rattle.disk_page.specs.PageRequests.{IsSlot0CiOrPageMemoryAccess}
-use Rattle.error_recovery.specs.Recovery.{IsCmdSerrOrIs, IsRecoveryAccess, IsSimulatedWithSlotsParkedUnlessDead, RecoversOrStops, with_own_command_in_slot_0}
+use Rattle.disk_page.specs.PageRequests.{IsPxciOrSlot0PageMemoryAccess}
+use Rattle.error_recovery.specs.Recovery.{IsCmdSerrOrIs, IsRecoveryAccess, IsSimulatedWithSlotsSurelyParkedUnlessDead, RecoversOrStops, with_own_command_in_slot_0}
 use Rattle.error_recovery.specs.declared.Next.{Next}
 use Rattle.error_recovery.specs.declared.Next.TheVariants as next
 use Rattle.error_recovery.specs.declared.Recovered.{Recovered}
@@ -57,16 +57,16 @@ use Rattle.server_history.proofs.state.StoredCommands.{never_both, of_store, of_
 
 -- it is of the port, and stores in header and table of its slot 0 alone
 abbrev pub IsMild : Port → Access → Type 0
-IsMild port access = SparesOtherPorts port access × ((at : ℕ) (bytes : List ℕ) → access ≡ Storing at bytes → IsHeaderOrTableStore port.0 0 (Storing at bytes))
+IsMild port access = AccessesNoOtherPort port access × ((at : ℕ) (bytes : List ℕ) → access ≡ Storing at bytes → IsHeaderOrTableStore port.0 0 (Storing at bytes))
 
-stored_in : (Written : PortReg → Type 0) (port : Port) (at : ℕ) (bytes : List ℕ) → (ReadsPortOrWrites Written port (Storing at bytes)) ⊎ (IsSlot0CiOrPageMemoryAccess port (Storing at bytes)) → IsHeaderOrTableStore port.0 0 (Storing at bytes)
+stored_in : (Written : PortReg → Type 0) (port : Port) (at : ℕ) (bytes : List ℕ) → (ReadsPortOrWrites Written port (Storing at bytes)) ⊎ (IsPxciOrSlot0PageMemoryAccess port (Storing at bytes)) → IsHeaderOrTableStore port.0 0 (Storing at bytes)
 stored_in Written port at bytes (inl none) = absurd none
 stored_in Written port at bytes (inr its) = its
 
 survey_mild : (port : Port) (access : Access) → ReadsCapOrPi access → IsMild port access
 survey_mild port access is = (by access is, λ at bytes e. absurd (subst ReadsCapOrPi e is))
   where
-    by : (a : Access) → ReadsCapOrPi a → SparesOtherPorts port a
+    by : (a : Access) → ReadsCapOrPi a → AccessesNoOtherPort port a
     by (Reading Cap v) its = tt
     by (Reading Pi v) its = tt
     by (Reading r v) its = absurd its
@@ -99,7 +99,7 @@ module _ (laws : PrerequisiteLaws) where
 -- no slot has a command of the driver's own, no page came, and the commands of used slots are stored; and halts of other ports are of taken commands
 -- still.
 pub record Passes (s : ServerState) (port : Port) (slots : DriverSlots) (d : Device) : Type 0 where
-  pub driven : IsDrivenBy (SparesOtherPorts port) s.device d
+  pub driven : IsDrivenBy (AccessesNoOtherPort port) s.device d
   pub on : IsOn d
   pub machine : Machine
   pub reached : IsReachable machine
@@ -115,7 +115,7 @@ slots_of s k = record { slot_states = k.machine_relation.uses; awaiting_disposit
 
 pub passes_none : (s : ServerState) (port : Port) (k : InCallInvariant s) → Passes s port (slots_of s k) s.device
 passes_none s port k = record {
-  driven = by_none (SparesOtherPorts port) s.device;
+  driven = by_none (AccessesNoOtherPort port) s.device;
   on = k.adapter_is_on;
   machine = k.machine;
   reached = k.reached;
@@ -159,8 +159,8 @@ module _ (laws : PrerequisiteLaws) (s : ServerState) (port : Port) (k : InCallIn
           };
     }
       where
-        its : IsDrivenBy (SparesOtherPorts port) d new
-        its = record { accesses = accesses; all_are_done = all; accesses_are_of_kind = All-weaker (IsMild port) (SparesOtherPorts port) (λ access is. is.0) accesses only }
+        its : IsDrivenBy (AccessesNoOtherPort port) d new
+        its = record { accesses = accesses; all_are_done = all; accesses_are_of_kind = All-weaker (IsMild port) (AccessesNoOtherPort port) (λ access is. is.0) accesses only }
 
         goes : DriverAdvances (driver_state_of_slots slots d) p.machine (newest_first_steps_of_acts c.acts) (driver_state_of_slots then new)
         goes = laws.slots.acts_advance_driver c.acts (driver_state_of_slots slots d) (driver_state_of_slots then new) p.machine p.driver_relation c.acts_are_done
@@ -204,7 +204,7 @@ module _ (laws : PrerequisiteLaws) (s : ServerState) (port : Port) (k : InCallIn
         passes_on slots (slots_with_all_parked port.0 slots) d new first r.accesses does mild Tells c
         (λ q o other alive is. first.clients q o other alive (ap (λ (f : ℕ → SlotState). f 0) (sym (given_others q other)) ∙ is)) silent
 
-    by_next : (after_it : Next) → IsSimulatedWithSlotsParkedUnlessDead port.0 after_it r.accesses d new → PassesTo after_it new
+    by_next : (after_it : Next) → IsSimulatedWithSlotsSurelyParkedUnlessDead port.0 after_it r.accesses d new → PassesTo after_it new
     by_next (next.Running token) p = (slots_with_all_parked port.0 slots, given _ p.accesses_are_done (p.acts_reach slots first.machine first.reached first.driver_relation tt), λ alive. given_free)
     by_next (next.Restart token) p = (slots_with_all_parked port.0 slots, given _ p.accesses_are_done (p.acts_reach slots first.machine first.reached first.driver_relation tt), λ alive. given_free)
     by_next next.Dead (inl p) = (slots, passes_on slots slots d new first r.accesses p.accesses_are_done mild _ (p.acts_reach slots first.machine first.reached first.driver_relation tt) first.clients silent, λ alive. absurd (alive refl))

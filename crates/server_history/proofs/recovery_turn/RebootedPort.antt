@@ -15,7 +15,7 @@ use Rattle.block_machine.specs.Events.{Replied, Service}
 use Rattle.block_machine.specs.Ports.{SamePort}
 use Rattle.block_machine.specs.State.{Machine}
 use Rattle.driver_history.specs.Histories.{BootsAnewWhereRequired}
-use Rattle.driver_history.specs.AccessTrace.{ResetsLink}
+use Rattle.driver_history.specs.AccessTrace.{LastSctlWritesResetLink}
 use Rattle.error_recovery.specs.declared.Next.{Next}
 use Rattle.error_recovery.specs.declared.Next.TheVariants as next
 use Rattle.host_boot.specs.TakeOver.{probe_result_of, wanted_of}
@@ -91,16 +91,16 @@ module _ (laws : PrerequisiteLaws) (port : Port) (replies : List Reply) (old new
 
   -- It is dead; or its link was reset; or its disk was lost, and it is absent.
   abbrev Stopped : Type 0
-  Stopped = ((ports_of new).state port ≡ DeadState) ⊎ (((x.port_error ≡ LinkChanged) × ((ports_of new).state port ≡ shown.Absent)) ⊎ ResetsLink port evident.accesses)
+  Stopped = ((ports_of new).state port ≡ DeadState) ⊎ (((x.port_error ≡ LinkChanged) × ((ports_of new).state port ≡ shown.Absent)) ⊎ LastSctlWritesResetLink port evident.accesses)
 
   abbrev Rebooted : Type 0
-  Rebooted = ((ports_of new).state port ≡ DeadState) ⊎ (((ports_of new).state port ≡ shown.Absent) ⊎ ResetsLink port evident.accesses)
+  Rebooted = ((ports_of new).state port ≡ DeadState) ⊎ (((ports_of new).state port ≡ shown.Absent) ⊎ LastSctlWritesResetLink port evident.accesses)
 
   rebooted : Stopped → Rebooted
   rebooted s = ⊎_elim (λ dead. inl dead) (λ more. inr (⊎_elim (λ absent. inl absent.1) (λ resets. inr resets) more)) s
 
-  reset : ResetsLink port t.late.accesses → ResetsLink port evident.accesses
-  reset late = subst (ResetsLink port) (sym evident.accesses_are) (resets_since port t.early.accesses (x.recovers_or_stops.accesses ++ t.late.accesses) (resets_since port x.recovers_or_stops.accesses t.late.accesses late))
+  reset : LastSctlWritesResetLink port t.late.accesses → LastSctlWritesResetLink port evident.accesses
+  reset late = subst (LastSctlWritesResetLink port) (sym evident.accesses_are) (resets_since port t.early.accesses (x.recovers_or_stops.accesses ++ t.late.accesses) (resets_since port x.recovers_or_stops.accesses t.late.accesses late))
 
   dead_or_not : (f : ProbeResult) → (f ≡ Unready DeadState) ⊎ (f ≢ Unready DeadState)
   dead_or_not Unserved = inr (λ is. let z : Unserved ≡ Unready DeadState = is in cc)
@@ -137,7 +137,7 @@ module _ (laws : PrerequisiteLaws) (port : Port) (replies : List Reply) (old new
   unless_failed other = stops x.result.next refl ((given_up x.port_error port x.outstanding x.queued x.result x.recovers_or_stops.accesses a.server_after_handling.device a.device_after_handling x.tells_error_handling other).1)
 
   -- and where its disk wasn't lost either, its link was reset, unless it is dead
-  pub restarts : x.port_error ≢ TaskFileError → x.port_error ≢ LinkChanged → ((ports_of new).state port ≡ DeadState) ⊎ ResetsLink port evident.accesses
+  pub restarts : x.port_error ≢ TaskFileError → x.port_error ≢ LinkChanged → ((ports_of new).state port ≡ DeadState) ⊎ LastSctlWritesResetLink port evident.accesses
   restarts other there = ⊎_elim (λ dead. inl dead) (λ more. inr (⊎_elim (λ absent. absurd (there absent.0)) (λ resets. resets) more)) (unless_failed other)
 
   pub reboots : (m : Machine) → BootsAnewWhereRequired Service (Replied replies) evident.accesses (joint_state_of old m) (ports_of new) new.device port

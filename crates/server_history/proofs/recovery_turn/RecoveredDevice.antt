@@ -25,7 +25,7 @@ use Rattle.block_machine.specs.Histories.{IsReachable}
 use Rattle.block_machine.specs.Expected.{after}
 use Rattle.block_machine.specs.State.{Machine}
 use Rattle.block_machine.specs.Steps.{Step}
-use Rattle.error_recovery.specs.Recovery.{IsSimulatedWithSlotsParkedUnlessDead, with_own_command_in_slot_0}
+use Rattle.error_recovery.specs.Recovery.{IsSimulatedWithSlotsSurelyParkedUnlessDead, with_own_command_in_slot_0}
 use Rattle.error_recovery.specs.declared.Next.{Next}
 use Rattle.error_recovery.specs.declared.Next.TheVariants.{Running, Restart, Dead as Stuck}
 use Rattle.host_boot.specs.Reboots.{RebootsPort, EndsReadyOrUnready, IsCapPiOrBootAccess}
@@ -190,7 +190,7 @@ module _ (laws : PrerequisiteLaws) (wanted : Wanted) (port : Port) (old mid new 
         by Foreign boots = plainly (StopsReceivingAndStartedEngine port Foreign) boots Foreign
         by (Unfit cause) boots = plainly (StopsReceivingAndStartedEngine port (Unfit cause)) boots (Unfit cause)
 
-pub passed : PrerequisiteLaws → (wanted : Wanted) (port : Port) (port_error : PortError) (was : DiskInfo) (way : Next) (accesses : List Access) (old mid new : Device) (found : ProbeResult) → IsSimulatedWithSlotsParkedUnlessDead port.0 way accesses old mid → IsFoundAfterError wanted port port_error was way mid new found
+pub passed : PrerequisiteLaws → (wanted : Wanted) (port : Port) (port_error : PortError) (was : DiskInfo) (way : Next) (accesses : List Access) (old mid new : Device) (found : ProbeResult) → IsSimulatedWithSlotsSurelyParkedUnlessDead port.0 way accesses old mid → IsFoundAfterError wanted port port_error was way mid new found
     → (s : DriverSlots) (m : Machine) → IsReachable m → DriverRelation m (driver_state_of_slots s old) → IsPassed port.0 way found old new s m
 passed laws wanted port port_error was (Running token) accesses old mid new found performs (is, same) s m reached knows = record {
   slots = slots_with_all_parked port.0 s;

@@ -16,7 +16,7 @@ use Rattle.adapter.specs.Access.Access.{Loading, Reading, Storing, Writing}
 use Rattle.adapter.specs.Device.{Device}
 use Rattle.adapter.specs.declared.command.Operation.{Operation}
 use Rattle.adapter.specs.declared.command.Operation.TheVariants.{Identify}
-use Rattle.refinement.specs.Fragments.{IsDrivenBy, IsSimulated, IsSimulatedChangingUses, SparesOtherPorts, IsSimulatedAlongChangingUses, GainsNoMove, driver_state_of}
+use Rattle.refinement.specs.Fragments.{IsDrivenBy, IsSimulated, IsSimulatedChangingUses, AccessesNoOtherPort, IsSimulatedAlongChangingUses, GainsNoMove, driver_state_of}
 use Rattle.refinement.specs.Driver.{AllFree, DriverRelation}
 use Rattle.refinement.specs.PreservedParts.{DoesNotWrite}
 use Rattle.refinement.specs.Slots.{Own, SlotStates, client_operation_of, set_slot_state}
@@ -24,8 +24,8 @@ use Rattle.server_history.proofs.state.FollowedAccesses.{followed_adds, followed
 use Rattle.block_machine.specs.Histories.{IsReachable}
 use Rattle.block_machine.specs.Expected.{after}
 use Rattle.block_machine.specs.State.{Machine}
-use Rattle.disk_page.specs.PageRequests.{IsSlot0CiOrPageMemoryAccess}
-use Rattle.driver_history.specs.AccessTrace.{StaysInDriverFrames, DoesNotWriteCmd, ResetsLink}
+use Rattle.disk_page.specs.PageRequests.{IsPxciOrSlot0PageMemoryAccess}
+use Rattle.driver_history.specs.AccessTrace.{StaysInDriverFrames, DoesNotWriteCmd, LastSctlWritesResetLink}
 use Rattle.error_recovery.specs.Recovery.{IsRecoveryAccess}
 use Rattle.error_recovery.specs.declared.Next.{Next}
 use Rattle.error_recovery.specs.declared.Next.TheVariants as next
@@ -54,7 +54,7 @@ use Rattle.server_history.proofs.recovery_turn.BootOrAbsence.{IsFoundAbsent, boo
 
 -- it is of this port, and what it loads or stores is the driver's own
 abbrev pub IsPart : Port → Access → Type 0
-IsPart port access = StaysInDriverFrames access × SparesOtherPorts port access
+IsPart port access = StaysInDriverFrames access × AccessesNoOtherPort port access
 
 -- and it doesn't write PxCMD
 abbrev pub IsEarlyPart : Port → Access → Type 0
@@ -70,7 +70,7 @@ module _ (laws : PrerequisiteLaws) (port : Port) (low : port.0 < 4) where
       own (Loading at bytes) is = laws.recovery_loads_drivers_own port at bytes low is
       own (Storing at bytes) is = laws.recovery_stores_drivers_own port at bytes low is
 
-  asking_own : (access : Access) → IsSlot0CiOrPageMemoryAccess port access → StaysInDriverFrames access
+  asking_own : (access : Access) → IsPxciOrSlot0PageMemoryAccess port access → StaysInDriverFrames access
   asking_own (Reading r v) is = tt
   asking_own (Writing r v) is = tt
   asking_own (Loading at bytes) is = let here = is.0 in let size = is.1 in omega (arith, low, here, size)
@@ -115,7 +115,7 @@ pub record AfterList (port : Port) (port_error : PortError) (then : Next) (found
   pub driven : IsDrivenBy (IsPart port) old new
   pub sticks : found ≡ Unready DeadState → then ≢ next.Dead → EngineSticks port driven.accesses
   pub stuck : found ≡ Unready DeadState → then ≢ next.Dead → (new.port port.0).notes.engine_wait_count ≡ MOST_READINGS
-  pub resets : (token : Stopped) → then ≡ next.Restart token → found ≢ Unready DeadState → ((port_error ≡ LinkChanged) × (found ≡ Unready shown.Absent)) ⊎ ResetsLink port driven.accesses
+  pub resets : (token : Stopped) → then ≡ next.Restart token → found ≢ Unready DeadState → ((port_error ≡ LinkChanged) × (found ≡ Unready shown.Absent)) ⊎ LastSctlWritesResetLink port driven.accesses
   pub unreset : ((token : Stopped) → then ≢ next.Restart token) → All (DoesNotWrite (Px port Sctl)) driven.accesses
   pub silent : (q : Port) (o : Operation) → q.0 ≢ port.0 → client_operation_of o ≡ None → ((token : Stopped) → then ≡ next.Restart token → (g : IsGivenUp port old) × (g.uses q.0 0 ≡ Own o → ⊥)) → GainsNoMove q.0 o old new
 
@@ -130,7 +130,7 @@ module _ (laws : PrerequisiteLaws) (port : Port) (low : port.0 < 4) (wanted : Wa
         (λ access is. laws.one_port_spares_registers port q Ci other access (laws.boot_access_is_of_port port access is)) (λ access is. laws.one_port_spares_registers port q Sact other access (laws.boot_access_is_of_port port access is)) none)
 
     boot_list : (found : ProbeResult) (by : IsDrivenBy (IsBootAccess port) asked new) → (found ≡ Unready DeadState → EngineSticks port by.accesses) → (found ≡ Unready DeadState → (new.port port.0).notes.engine_wait_count ≡ MOST_READINGS)
-        → (found ≢ Unready DeadState → ResetsLink port by.accesses) → AfterList port port_error (next.Restart token) found old new
+        → (found ≢ Unready DeadState → LastSctlWritesResetLink port by.accesses) → AfterList port port_error (next.Restart token) found old new
     boot_list found by sticks stuck resets = record {
       driven = record {
         accesses = asks.is_driven.accesses ++ by.accesses;

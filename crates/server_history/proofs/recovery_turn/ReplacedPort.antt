@@ -16,7 +16,7 @@ use Rattle.adapter.specs.Rules.{HasPort, IsOn}
 use Rattle.adapter.specs.declared.command.Operation.TheVariants.{Identify}
 use Rattle.refinement.specs.Acts.{DriverSlots}
 use Rattle.refinement.specs.Relation.{port_at}
-use Rattle.refinement.specs.Fragments.{AnyAccess, IsDrivenBy, SparesOtherPorts, OnlyDeviceChangesPort, GainsNoMove}
+use Rattle.refinement.specs.Fragments.{AnyAccess, IsDrivenBy, AccessesNoOtherPort, OnlyDeviceChangesPort, GainsNoMove}
 use Rattle.refinement.specs.Halting.{HaltFitsTakenCommands, HaltFitsTakenCommandsIfSt}
 use Rattle.refinement.specs.PreservedParts.{HasDet3IfDiskPresent, SameAdapter}
 use Rattle.block_machine.specs.DueRequests.{is_plain}
@@ -31,7 +31,7 @@ use Rattle.error_recovery.specs.Recovery.{EndsAsNext}
 use Rattle.error_recovery.specs.declared.Next.{Next}
 use Rattle.error_recovery.specs.declared.Next.TheVariants as next
 use Rattle.host_boot.specs.Reboots.{RebootsPort, EndsReadyOrUnready, IsCapPiOrBootAccess}
-use Rattle.host_boot.specs.TakeOver.{FoundUnusableDevice, IsServed, StillBacksProbeResult, probe_result_of, wanted_of}
+use Rattle.host_boot.specs.TakeOver.{FoundUnusableDevice, IsWantedAndImplemented, StillBacksProbeResult, probe_result_of, wanted_of}
 use Rattle.host_boot.specs.declared.Booted.{Booted}
 use Rattle.host_boot.specs.declared.ProbeResult.{ProbeResult}
 use Rattle.host_boot.specs.declared.ProbeResult.TheVariants.{Unserved, Ready, Unready}
@@ -70,7 +70,7 @@ its_port : (wanted : List Wanted) (found : List ProbeResult) (port : ℕ) (d : D
 its_port wanted found port d s = record { probe_result_is_backed = s.behind; ready_engine_runs = s.runs; bad_disk_is_shown_if_in = s.shown; ready_has_disk_if_det_3 = s.own; ready_halt_fits_taken_commands = s.halts }
 
 -- another port is left to the device
-other_stands : PrerequisiteLaws → (port : Port) (wanted : Wanted) (found : ProbeResult) (q : ℕ) (old new : Device) → q ≢ port.0 → IsOn old → IsDrivenBy (SparesOtherPorts port) old new → SameAdapter old new
+other_stands : PrerequisiteLaws → (port : Port) (wanted : Wanted) (found : ProbeResult) (q : ℕ) (old new : Device) → q ≢ port.0 → IsOn old → IsDrivenBy (AccessesNoOtherPort port) old new → SameAdapter old new
     → (found ≢ Unready DeadState → GainsNoMove q Identify old new) → (HaltFitsTakenCommandsIfSt (old.port q) → HaltFitsTakenCommandsIfSt (new.port q)) → StandsAt wanted found q old → StandsAt wanted found q new
 other_stands laws port wanted found q old new other on driven same silent halts s = record {
   behind = left_on laws wanted found q old new same left silent s.behind;
@@ -93,15 +93,15 @@ other_stands laws port wanted found q old new other on driven same silent halts 
     left : OnlyDeviceChangesPort (old.port q) (new.port q)
     left = laws.port_event_laws.other_ports_are_left port q old new other on driven
 
-pub same_over : PrerequisiteLaws → (port : Port) (old new : Device) → IsDrivenBy (SparesOtherPorts port) old new → SameAdapter old new
-same_over laws port old new driven = laws.port_event_laws.accesses_keep_adapter old new (driven_as (SparesOtherPorts port) AnyAccess old new (λ access is. tt) driven)
+pub same_over : PrerequisiteLaws → (port : Port) (old new : Device) → IsDrivenBy (AccessesNoOtherPort port) old new → SameAdapter old new
+same_over laws port old new driven = laws.port_event_laws.accesses_keep_adapter old new (driven_as (AccessesNoOtherPort port) AnyAccess old new (λ access is. tt) driven)
 
 pub still_there : (port : ℕ) (old new : Device) → SameAdapter old new → HasPort old port → HasPort new port
 still_there port old new same there = (there.0, ap (λ (pi : ℕ). bit pi port) same.pi ∙ there.1)
 
 -- ---- a port that was booted anew
 
-module _ (laws : PrerequisiteLaws) (wanted : Wanted) (port : Port) (d new : Device) (on : IsOn d) (served : IsServed wanted port.0 d) where
+module _ (laws : PrerequisiteLaws) (wanted : Wanted) (port : Port) (d new : Device) (on : IsOn d) (served : IsWantedAndImplemented wanted port.0 d) where
   -- its engine was awaited in vain
   pub dies_then : (d.port port.0).st ≡ false → BacksFault EngineStuck (d.port port.0).notes → StandsAt wanted (Unready DeadState) port.0 d
   dies_then st stuck = record {
@@ -146,7 +146,7 @@ module _ (laws : PrerequisiteLaws) (wanted : Wanted) (port : Port) (d new : Devi
     shown_as (Unready state) is bad = laws.recovery.reboot_shows_bad_disk wanted port booted state d new on b bad is
 
     pub asked_on : IsOn b.device_after_survey
-    asked_on = laws.one_port_keeps_adapter_on port d b.device_after_survey on (driven_as (IsCapPiOrBootAccess port) (SparesOtherPorts port) d b.device_after_survey (laws.recovery.boot_start_access_is_of_port port) b.surveys.is_driven)
+    asked_on = laws.one_port_keeps_adapter_on port d b.device_after_survey on (driven_as (IsCapPiOrBootAccess port) (AccessesNoOtherPort port) d b.device_after_survey (laws.recovery.boot_start_access_is_of_port port) b.surveys.is_driven)
 
     own_as : state_of booted.found ≡ ReadyState → ShownDiskIsIn (new.port port.0)
     own_as is =

@@ -41,7 +41,7 @@ use Rattle.request_queue.specs.declared.disposition.Disposition.TheVariants.{Com
 use Rattle.request_queue.specs.declared.disposition.Revalidation.{Revalidation}
 use Rattle.slots.specs.declared.SlotUse.{SlotUse}
 use Rattle.server_history.specs.Prerequisites.{PrerequisiteLaws}
-use Rattle.server_history.specs.ErrorHandling.{IsFailedRequest, ErrorIsFound, IsErrorHandled, HasResolved, HandlesPortError, book_and_loans_of, requests_of, ErrorHandlingIsBacked}
+use Rattle.server_history.specs.ErrorHandling.{IsFailedRequest, LookTellsErrorUnlessTimedOut, IsErrorHandled, HasResolved, HandlesPortError, book_and_loans_of, requests_of, ErrorHandlingIsBacked}
 use Rattle.server_history.specs.IssuingAndAnswering.{AnswersEach, is_used}
 use Rattle.server_history.specs.ServerState.{ServerState, InCallInvariant, MachineRelation, ports_of, slots_at, state_of, used_for}
 use Rattle.server_history.specs.Turns.{IsTurnOrDeviceStep}
@@ -143,7 +143,7 @@ module _ (laws : PrerequisiteLaws) (port : Port) (replies : List Reply) (old new
     is_zero = (k.plain_is_alone_in_slot_0 port.0 slot used its plain).0
 
     fault : ShowsFault (drop (x.device_after_read.port port.0).notes.st_set_at x.device_after_read.tape) (x.device_after_read.port port.0) port.0
-    fault = let may : PortMayRecover port.0 x.device_after_read = may_recover laws old x.device_after_look x.device_after_read port x.mask x.done k ready (subst (λ (t : PortError). ErrorIsFound port t old.device x.device_after_look) failing x.error_is_found) looks x.reads_done in may.faults_are_on_record.shows_last_fault may.halted
+    fault = let may : PortMayRecover port.0 x.device_after_read = may_recover laws old x.device_after_look x.device_after_read port x.mask x.done k ready (subst (λ (t : PortError). LookTellsErrorUnlessTimedOut port t old.device x.device_after_look) failing x.error_is_found) looks x.reads_done in may.faults_are_on_record.shows_last_fault may.halted
 
     unused_free : (other : ℕ) → other ≢ 0 → IsEmptySlot (x.device_after_read.port port.0) other
     unused_free other ne = subst (λ (u : SlotState). RelatesSlot from_kept.machine x.device_after_read.memory x.device_after_read.tape (x.device_after_read.port port.0) port.0 other u)

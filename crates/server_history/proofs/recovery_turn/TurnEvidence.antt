@@ -13,13 +13,13 @@ use Rattle.adapter.specs.Access.{Access, DoesAll}
 use Rattle.adapter.specs.Device.{Device}
 use Rattle.adapter.specs.declared.command.Operation.TheVariants.{ReadLog}
 use Rattle.adapter.specs.declared.tape.Fault as tape_fault
-use Rattle.refinement.specs.Fragments.{AnySlotStates, TapeGrows, IsSimulated, SparesOtherPorts, GainsNoMove}
+use Rattle.refinement.specs.Fragments.{AnySlotStates, TapeGrows, IsSimulated, AccessesNoOtherPort, GainsNoMove}
 use Rattle.refinement.specs.Driver.{TapeBacksSteps}
 use Rattle.refinement.specs.PreservedParts.{DoesNotWrite}
 use Rattle.block_machine.specs.Events.{AbstractCall, ShownDiskWasInOrCame, Replied, ShowsDisk, changes_disk}
 use Rattle.adapter.specs.declared.access.DeviceStep.{DeviceStep}
 use Rattle.block_machine.specs.Expected.{after}
-use Rattle.block_machine.specs.Ports.{RequestFault, IsServiced}
+use Rattle.block_machine.specs.Ports.{RequestFault, ChangesOnlyIfStoppedOrStuck}
 use Rattle.block_machine.specs.State.{Machine}
 use Rattle.block_machine.specs.Steps.{Step}
 use Rattle.server_history.proofs.state.ListMembers.{contains_cases}
@@ -42,7 +42,7 @@ use Rattle.slots.specs.SlotUses.{use_at}
 use Rattle.slots.specs.declared.SlotUse.{SlotUse}
 use Rattle.server_history.specs.Prerequisites.{PrerequisiteLaws}
 use Rattle.server_history.proofs.any_turn.ShownTrouble.{grows_over}
-use Rattle.server_history.specs.ErrorHandling.{IsFailedRequest, IsFoundAfterError, ErrorIsFound, IsRevalidation, IsErrorHandled, HasResolved, HandlesPortError}
+use Rattle.server_history.specs.ErrorHandling.{IsFailedRequest, IsFoundAfterError, LookTellsErrorUnlessTimedOut, IsRevalidation, IsErrorHandled, HasResolved, HandlesPortError}
 use Rattle.server_history.specs.IssuingAndAnswering.{AnswersEach}
 use Rattle.server_history.specs.ServerState.{ServerState, InCallInvariant, MachineRelation, ports_of, slots_at, state_of, used_for, mode_in}
 use Rattle.server_history.specs.Turns.{IsFaultOfCommand, LeavesOtherPortsGrantsAndLastId, PortListsNameOnly, IsFaultOfUsedSlot, joint_state_of, abstract_state_of}
@@ -110,12 +110,12 @@ pub record IsEvident (port : Port) (replies : List Reply) (old new : ServerState
   pub accesses : List Access
   pub accesses_are : accesses ≡ accesses_in parts
   pub does : DoesAll accesses old.device new.device
-  pub of : All (SparesOtherPorts port) accesses
+  pub of : All (AccessesNoOtherPort port) accesses
   pub own : All StaysInDriverFrames accesses
   pub others : LeavesOtherPortsGrantsAndLastId port old new
   pub silent : (q : ℕ) → q ≢ port.0 → state_of (probe_result_of old.probe_results q) ≢ DeadState → GainsNoMove q ReadLog old.device new.device
   pub names : PortListsNameOnly port (evidence_by r.has_resolved)
-  pub becomes : IsServiced (ports_of old) (evidence_by r.has_resolved) (ports_of new) port
+  pub becomes : ChangesOnlyIfStoppedOrStuck (ports_of old) (evidence_by r.has_resolved) (ports_of new) port
   pub evidenced : (ask : AbstractCall DeviceStep) (m : Machine) → IsEvidencedOf ask (Replied replies) accesses (joint_state_of old m) (ports_of new) new.device (evidence_by r.has_resolved) port
   pub faults : (told : RequestFault) → Contains (evidence_by r.has_resolved).faults told → IsFaultOfUsedSlot port accesses old new told
   pub had : (m : Machine) → MachineRelation old m → (steps : List Step) → TapeBacksSteps old.device new.device m steps
@@ -283,7 +283,7 @@ module _ (laws : PrerequisiteLaws) (port : Port) (replies : List Reply) (old new
     had_booted : (booted : Booted) → RebootsPort (wanted_of old.wanted port.0) port booted a.device_after_handling r.server_after_resolving.device → ShowsDisk (state_of booted.found) → Had
     had_booted booted b shows =
         booted_had laws port old (wanted_of old.wanted port.0) booted (t.early.accesses ++ part) a.device_after_handling r.server_after_resolving.device new.device k.adapter_is_on (laws.steps_and_accesses.does_append t.early.accesses part old.device a.server_after_handling.device a.device_after_handling t.early.all_are_done t.does)
-        (All-append (SparesOtherPorts port) t.early.accesses part (All-weaker (IsEarlyPart port) (SparesOtherPorts port) (λ access is. is.0.1) t.early.accesses t.early.accesses_are_of_kind) (All-weaker (IsPart port) (SparesOtherPorts port) (λ access is. is.1) part t.kinds))
+        (All-append (AccessesNoOtherPort port) t.early.accesses part (All-weaker (IsEarlyPart port) (AccessesNoOtherPort port) (λ access is. is.0.1) t.early.accesses t.early.accesses_are_of_kind) (All-weaker (IsPart port) (AccessesNoOtherPort port) (λ access is. is.1) part t.kinds))
         b shows grown_issuing m stands steps backed
 
     -- where no command had failed, the port was booted
@@ -307,7 +307,7 @@ module _ (laws : PrerequisiteLaws) (port : Port) (replies : List Reply) (old new
         shows_found : ShowsDisk (state_of a.found)
         shows_found = subst ShowsDisk (state_new laws port replies old new k ready r looks kept) shows
 
-        by : (port_error : PortError) → x.port_error ≡ port_error → ErrorIsFound port port_error old.device x.device_after_look → Had
+        by : (port_error : PortError) → x.port_error ≡ port_error → LookTellsErrorUnlessTimedOut port port_error old.device x.device_after_look → Had
         by TaskFileError is l = had_seen look.TaskFileError l (inl refl)
         by FatalError is l = had_seen look.FatalError l (inr refl)
         by LinkChanged is l = had_stopped (λ failed. let z : LinkChanged ≡ TaskFileError = sym is ∙ failed in cc) shows_found
@@ -326,7 +326,7 @@ module _ (laws : PrerequisiteLaws) (port : Port) (replies : List Reply) (old new
     accesses = accesses_in t;
     accesses_are = refl;
     does = laws.steps_and_accesses.does_append t.early.accesses (part ++ t.late.accesses) old.device a.server_after_handling.device new.device t.early.all_are_done (laws.steps_and_accesses.does_append part t.late.accesses a.server_after_handling.device a.device_after_handling new.device t.does t.late.all_are_done);
-    of = All-weaker (IsPart port) (SparesOtherPorts port) (λ access is. is.1) (accesses_in t) kinds;
+    of = All-weaker (IsPart port) (AccessesNoOtherPort port) (λ access is. is.1) (accesses_in t) kinds;
     own = All-weaker (IsPart port) StaysInDriverFrames (λ access is. is.0) (accesses_in t) kinds;
     others = leaves_others laws port replies old new k r kept;
     silent = t.silent;

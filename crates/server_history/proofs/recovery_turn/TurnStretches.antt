@@ -27,8 +27,8 @@ use Rattle.block_machine.specs.DueRequests.{due_of}
 use Rattle.block_machine.specs.Expected.{after}
 use Rattle.block_machine.specs.declared.due.Unanswered.{Unanswered}
 use Rattle.server_history.proofs.state.ListMembers.{map_in}
-use Rattle.driver_history.specs.AccessTrace.{DoesNotWriteCmd, ReadsMasksBeforeCmdWrite, ResetsLink}
-use Rattle.error_recovery.specs.Recovery.{IsRecoveryAccess, IsSimulatedWithSlotsParkedUnlessDead}
+use Rattle.driver_history.specs.AccessTrace.{DoesNotWriteCmd, ReadsMasksBeforeCmdWrite, LastSctlWritesResetLink}
+use Rattle.error_recovery.specs.Recovery.{IsRecoveryAccess, IsSimulatedWithSlotsSurelyParkedUnlessDead}
 use Rattle.error_recovery.specs.declared.Next.{Next}
 use Rattle.error_recovery.specs.declared.Next.TheVariants as next
 use Rattle.host_boot.specs.TakeOver.{probe_result_of, wanted_of}
@@ -40,7 +40,7 @@ use Rattle.port_control.specs.declared.events.PortEvent.{PortEvent}
 use Rattle.port_control.specs.declared.events.PortEvent.TheVariants as look
 use Rattle.request_queue.specs.BookEntries.{BookEntry, as_unanswered, unanswered_of, due_ids}
 use Rattle.server_history.specs.Prerequisites.{PrerequisiteLaws}
-use Rattle.server_history.specs.ErrorHandling.{ErrorIsFound, IsErrorHandled, HasResolved, HandlesPortError}
+use Rattle.server_history.specs.ErrorHandling.{LookTellsErrorUnlessTimedOut, IsErrorHandled, HasResolved, HandlesPortError}
 use Rattle.commands.specs.Batches.{IsCommandIssueAccess}
 use Rattle.server_history.specs.IssuingAndAnswering.{IssuesTogetherIfAny}
 use Rattle.server_history.specs.ServerState.{ServerState, InCallInvariant, mode_in, state_of, used_for}
@@ -58,7 +58,7 @@ use Rattle.server_history.proofs.state.PortSlots.{CommandsAreOver, not_own, of_r
 use Rattle.server_history.proofs.state.FirstMembers.{first_here}
 
 -- recovery's accesses were made
-pub recovery_does : (port : ℕ) (then : Next) (accesses : List Access) (old new : Device) → IsSimulatedWithSlotsParkedUnlessDead port then accesses old new → DoesAll accesses old new
+pub recovery_does : (port : ℕ) (then : Next) (accesses : List Access) (old new : Device) → IsSimulatedWithSlotsSurelyParkedUnlessDead port then accesses old new → DoesAll accesses old new
 recovery_does port (next.Running token) accesses old new p = p.accesses_are_done
 recovery_does port (next.Restart token) accesses old new p = p.accesses_are_done
 recovery_does port next.Dead accesses old new p = ⊎_elim (λ a. a.accesses_are_done) (λ b. ⊎_elim (λ x. x.accesses_are_done) (λ x. x.accesses_are_done) b) p
@@ -74,7 +74,7 @@ pub record TurnParts (port : Port) (replies : List Reply) (old new : ServerState
   pub sticks : r.has_resolved.found ≡ Unready DeadState → r.has_resolved.error_handled.result.next ≢ next.Dead → EngineSticks port late.accesses
   pub stuck : r.has_resolved.found ≡ Unready DeadState → r.has_resolved.error_handled.result.next ≢ next.Dead → (new.device.port port.0).notes.engine_wait_count ≡ MOST_READINGS
   pub resets : (token : Stopped) → r.has_resolved.error_handled.result.next ≡ next.Restart token → r.has_resolved.found ≢ Unready DeadState
-      → ((r.has_resolved.error_handled.port_error ≡ LinkChanged) × (r.has_resolved.found ≡ Unready AbsentState)) ⊎ ResetsLink port late.accesses
+      → ((r.has_resolved.error_handled.port_error ≡ LinkChanged) × (r.has_resolved.found ≡ Unready AbsentState)) ⊎ LastSctlWritesResetLink port late.accesses
   pub unreset : ((token : Stopped) → r.has_resolved.error_handled.result.next ≢ next.Restart token) → All (DoesNotWrite (Px port Sctl)) (early.accesses ++ (r.has_resolved.error_handled.recovers_or_stops.accesses ++ late.accesses))
   pub with_issue_undone : r.has_resolved.found ≡ Unready DeadState → new ≡ r.server_after_resolving
   pub silent : (q : ℕ) → q ≢ port.0 → state_of (probe_result_of old.probe_results q) ≢ DeadState → GainsNoMove q ReadLog old.device new.device
@@ -143,7 +143,7 @@ module _ (laws : PrerequisiteLaws) (port : Port) (replies : List Reply) (old new
         accesses_are_of_kind = λ i d small. let t = look_turns port l.causes l.port_mask l.status l.is_sole_bit i d small in let leaves = turn_leaves laws port port _ t in ((t.1, leaves.0), leaves.1);
       }
 
-      by : (port_error : PortError) → ErrorIsFound port port_error old.device x.device_after_look → IsDrivenBy IsLookingOn old.device x.device_after_look
+      by : (port_error : PortError) → LookTellsErrorUnlessTimedOut port port_error old.device x.device_after_look → IsDrivenBy IsLookingOn old.device x.device_after_look
       by TaskFileError l = looked look.TaskFileError l
       by FatalError l = looked look.FatalError l
       by LinkChanged l = looked look.LinkChanged l
@@ -237,7 +237,7 @@ module _ (laws : PrerequisiteLaws) (port : Port) (replies : List Reply) (old new
     given token is =
         let m = mid_kept.machine in
         let s : DriverSlots = record { slot_states = mid_kept.machine_relation.uses; awaiting_disposition = mid_kept.machine_relation.awaiting_disposition } in
-        let p : AccessesAreSimulatedByActs x.recovers_or_stops.accesses AnySlots (slots_with_all_parked port.0) ActsByDeviceAlone a.server_after_handling.device a.device_after_handling = subst (λ (n : Next). IsSimulatedWithSlotsParkedUnlessDead port.0 n x.recovers_or_stops.accesses a.server_after_handling.device a.device_after_handling) is x.recovers_or_stops.does.slots_after in
+        let p : AccessesAreSimulatedByActs x.recovers_or_stops.accesses AnySlots (slots_with_all_parked port.0) ActsByDeviceAlone a.server_after_handling.device a.device_after_handling = subst (λ (n : Next). IsSimulatedWithSlotsSurelyParkedUnlessDead port.0 n x.recovers_or_stops.accesses a.server_after_handling.device a.device_after_handling) is x.recovers_or_stops.does.slots_after in
         let c = p.acts_reach s m mid_kept.reached mid_kept.machine_relation.driver_relation tt in
         let g = laws.slots.acts_advance_driver c.acts (driver_state_of_slots s a.server_after_handling.device) (driver_state_of_slots (slots_with_all_parked port.0 s) a.device_after_handling) m mid_kept.machine_relation.driver_relation c.acts_are_done in (
           record {
@@ -287,7 +287,7 @@ module _ (laws : PrerequisiteLaws) (port : Port) (replies : List Reply) (old new
   late_sticks dead lives = laws.sticking_holds_with_later afterwards.driven.accesses issuing.accesses port (afterwards.sticks dead lives)
 
   late_resets : (token : Stopped) → x.result.next ≡ next.Restart token → a.found ≢ Unready DeadState
-      → ((x.port_error ≡ LinkChanged) × (a.found ≡ Unready AbsentState)) ⊎ ResetsLink port late.accesses
+      → ((x.port_error ≡ LinkChanged) × (a.found ≡ Unready AbsentState)) ⊎ LastSctlWritesResetLink port late.accesses
   unfolding late
   late_resets token is lives = ⊎_elim (λ absent. inl absent) (λ resets. inr (resets_more port [] afterwards.driven.accesses issuing.accesses resets issuing_spares)) (afterwards.resets token is lives)
 

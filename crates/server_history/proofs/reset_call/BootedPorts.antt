@@ -12,7 +12,7 @@ use Rattle.adapter.specs.Device.{Device}
 use Rattle.refinement.specs.Relation.{port_at}
 use Rattle.refinement.specs.Fragments.{ReadsPortOrWrites, IsDrivenBy}
 use Rattle.driver_history.specs.PortTurn.{HasTurnIn, KeepsToAnotherPort, call_accesses}
-use Rattle.driver_history.specs.AccessTrace.{ResetsLink}
+use Rattle.driver_history.specs.AccessTrace.{LastSctlWritesResetLink}
 use Rattle.host_boot.specs.TakeOver.{StopsAndBootsOrDoesNothing, BootsEachServedPortOrSticks, probe_result_of}
 use Rattle.host_boot.specs.declared.ProbeResult.{ProbeResult}
 use Rattle.host_boot.specs.declared.ProbeResult.TheVariants.{Unserved, Ready, Unready}
@@ -28,8 +28,8 @@ use Rattle.server_history.proofs.recovery_turn.LinkResets.{ResetsBy, early_reset
 -- What was done of a port that was found to be this. One that is ready got so once it was stopped. Its link was reset, unless it is dead: then one of its engines was seen to be stuck.
 abbrev pub DidBoot : Port → ProbeResult → List Access → Device → Device → Type 0
 DidBoot port Unserved accesses old new = Unit {0}
-DidBoot port (Ready info) accesses old new = ResetsLink port accesses × ((stopped : Device) × IsDrivenBy (ReadsPortOrWrites IsCommandRegister port) old stopped × BringsReady port stopped new)
-DidBoot port (Unready state) accesses old new = (state ≡ DeadState → EngineSticks port accesses) × (state ≢ DeadState → state ≢ ReadyState → ResetsLink port accesses)
+DidBoot port (Ready info) accesses old new = LastSctlWritesResetLink port accesses × ((stopped : Device) × IsDrivenBy (ReadsPortOrWrites IsCommandRegister port) old stopped × BringsReady port stopped new)
+DidBoot port (Unready state) accesses old new = (state ≡ DeadState → EngineSticks port accesses) × (state ≢ DeadState → state ≢ ReadyState → LastSctlWritesResetLink port accesses)
 
 -- an access of the port's boot, if it is served
 abbrev pub IsBootOf : Port → ProbeResult → Access → Type 0
@@ -59,7 +59,7 @@ module _ (laws : PrerequisiteLaws) where
           (All-weaker (IsBootAccess port) (IsBootOf port found) (λ access is. (served, is)) boot.accesses boot.accesses_are_of_kind);
     }
 
-    reset_by : ResetsBy port stopped new → (driven : IsDrivenBy (IsBootOf port found) old new) × ResetsLink port driven.accesses
+    reset_by : ResetsBy port stopped new → (driven : IsDrivenBy (IsBootOf port found) old new) × LastSctlWritesResetLink port driven.accesses
     unfolding then_boots
     reset_by r = (then_boots r.driven, resets_since port stops.accesses r.driven.accesses r.resets)
 

@@ -32,7 +32,7 @@ use Rattle.host_boot.specs.TakeOver.{IsUnusedOrIdentifyOfDeadPort, probe_result_
 use Rattle.host_boot.specs.declared.ProbeResult.{ProbeResult}
 use Rattle.host_boot.specs.declared.ProbeResult.TheVariants.{Unready}
 use Rattle.identify.specs.declared.DiskInfo.{DiskInfo}
-use Rattle.request_queue.specs.BookEntries.{BookEntry, IsWellFormedEntry, IsEarlier, BookIsWellFormed, is_of_port, waiting_again_request}
+use Rattle.request_queue.specs.BookEntries.{BookEntry, IsWellFormedEntry, IsEarlier, BookIsWellFormed, is_of_port, request_with_issued_cleared}
 use Rattle.request_queue.specs.Dispositions.{BookAndLoans, AreResolved, IsResolved, disposition_of}
 use Rattle.request_queue.specs.BookRelation.{BookRelation, EntryRelation}
 use Rattle.request_queue.specs.declared.PendingRequest.{PendingRequest}
@@ -77,7 +77,7 @@ fates_spare laws disposition (request ∷ requests) replies old new (mid, its, l
 
     spared : (f : Disposition) → IsResolved request f its old mid → Contains mid.book e
     spared Wait m = subst (λ (h : BookAndLoans). Contains h.book e) (sym m.1) here
-    spared Requeue m = subst (λ (h : BookAndLoans). Contains h.book e) (sym m.1) (laws.update_keeps_other_entries old.book request.request.id waiting_again_request e here differs)
+    spared Requeue m = subst (λ (h : BookAndLoans). Contains h.book e) (sym m.1) (laws.update_keeps_other_entries old.book request.request.id request_with_issued_cleared e here differs)
     spared (Complete o) m = subst (λ (book : List BookEntry). Contains book e) (sym m.1) ((laws.removal_keeps_other_entries old.book request.request.id e).1 (here, differs))
 
 -- a slot that was left so serves no request

@@ -7,7 +7,7 @@ use Rattle.adapter.specs.Device.{Device}
 use Rattle.adapter.specs.Idle.{IsIdle}
 use Rattle.adapter.specs.Rules.{IsOn}
 use Rattle.refinement.specs.Relation.{port_at}
-use Rattle.refinement.specs.Fragments.{TapeGrows, ReadsPortOrWrites, IsDrivenBy, SparesOtherPorts}
+use Rattle.refinement.specs.Fragments.{TapeGrows, ReadsPortOrWrites, IsDrivenBy, AccessesNoOtherPort}
 use Rattle.ata_types.specs.declared.Port.{Port}
 use Rattle.ata_types.specs.declared.PortState.{PortState as ShownState}
 use Rattle.ata_types.specs.declared.PortState.TheVariants.{Ready as ReadyState}
@@ -50,21 +50,21 @@ module _ (laws : PrerequisiteLaws) where
 
   -- ---- one port's way
 
-  boot_of : (port : Port) (old new : Device) → IsDrivenBy (IsBootAccess port) old new → IsDrivenBy (SparesOtherPorts port) old new
-  boot_of port old new driven = driven_as (IsBootAccess port) (SparesOtherPorts port) old new (laws.boot_access_is_of_port port) driven
+  boot_of : (port : Port) (old new : Device) → IsDrivenBy (IsBootAccess port) old new → IsDrivenBy (AccessesNoOtherPort port) old new
+  boot_of port old new driven = driven_as (IsBootAccess port) (AccessesNoOtherPort port) old new (laws.boot_access_is_of_port port) driven
 
-  stopping_of : (port : Port) (old new : Device) → IsDrivenBy (ReadsPortOrWrites IsCommandRegister port) old new → IsDrivenBy (SparesOtherPorts port) old new
+  stopping_of : (port : Port) (old new : Device) → IsDrivenBy (ReadsPortOrWrites IsCommandRegister port) old new → IsDrivenBy (AccessesNoOtherPort port) old new
   stopping_of port old new driven = boot_of port old new (driven_as (IsBeside port) (IsBootAccess port) old new (λ access is. is.0) (commanding laws port old new driven))
 
-  of_both : (port : Port) (old mid new : Device) → IsDrivenBy (SparesOtherPorts port) old mid → IsDrivenBy (SparesOtherPorts port) mid new → IsDrivenBy (SparesOtherPorts port) old new
+  of_both : (port : Port) (old mid new : Device) → IsDrivenBy (AccessesNoOtherPort port) old mid → IsDrivenBy (AccessesNoOtherPort port) mid new → IsDrivenBy (AccessesNoOtherPort port) old new
   of_both port old mid new early late = record {
     accesses = early.accesses ++ late.accesses;
     all_are_done = laws.steps_and_accesses.does_append early.accesses late.accesses old mid new early.all_are_done late.all_are_done;
-    accesses_are_of_kind = All-append (SparesOtherPorts port) early.accesses late.accesses early.accesses_are_of_kind late.accesses_are_of_kind;
+    accesses_are_of_kind = All-append (AccessesNoOtherPort port) early.accesses late.accesses early.accesses_are_of_kind late.accesses_are_of_kind;
   }
 
-  through_of : (port : Port) (found : ProbeResult) (old new : Device) → StopsAndBootsOrDoesNothing port found old new → IsDrivenBy (SparesOtherPorts port) old new
-  through_of port Unserved old new same = subst (IsDrivenBy (SparesOtherPorts port) old) (sym same) (by_none (SparesOtherPorts port) old)
+  through_of : (port : Port) (found : ProbeResult) (old new : Device) → StopsAndBootsOrDoesNothing port found old new → IsDrivenBy (AccessesNoOtherPort port) old new
+  through_of port Unserved old new same = subst (IsDrivenBy (AccessesNoOtherPort port) old) (sym same) (by_none (AccessesNoOtherPort port) old)
   through_of port (Ready info) old new (stopped, stops, boots, gets, shows) = of_both port old stopped new (stopping_of port old stopped stops) (boot_of port stopped new boots)
   through_of port (Unready state) old new (stopped, stops, boots, first, last, sticks) = of_both port old stopped new (stopping_of port old stopped stops) (boot_of port stopped new boots)
 
@@ -104,7 +104,7 @@ module _ (laws : PrerequisiteLaws) where
 
   -- ---- the whole
 
-  survey_of : (port : Port) (access : Access) → ReadsCapOrPi access → SparesOtherPorts port access
+  survey_of : (port : Port) (access : Access) → ReadsCapOrPi access → AccessesNoOtherPort port access
   survey_of port (Reading Cap v) is = tt
   survey_of port (Reading Pi v) is = tt
   survey_of port (Reading r v) is = absurd is
@@ -117,7 +117,7 @@ pub taken_saw : (laws : ResetLaws) (port : Port) (found : ProbeResult) → ((sta
 taken_saw laws port found other shows ports old new rest is way =
     let below : PrerequisiteLaws = laws.prerequisites in
     let on = laws.prerequisites.ghc_write_switches_on 0x80000000 old way.device_switched_on rest.no_reset refl refl way.switches in
-    let surveys = driven_as ReadsCapOrPi (SparesOtherPorts port) way.device_switched_on way.device_after_survey (survey_of below port) way.surveys in
+    let surveys = driven_as ReadsCapOrPi (AccessesNoOtherPort port) way.device_switched_on way.device_after_survey (survey_of below port) way.surveys in
     saw_before below port (Writing Ghc 0x80000000 ∷ surveys.accesses) old way.device_after_survey new (way.device_switched_on, way.switches, surveys.all_are_done)
     (saw_after below port way.device_after_survey way.device_after_boots new (below.port_event_laws.tape.access_grows (Writing Ghc 0x80000002) way.device_after_boots new way.enables_interrupts)
     (go_saw below port found other shows 0 ports port.0 way.device_after_survey way.device_after_boots (omega arith) is (below.one_port_keeps_adapter_on port way.device_switched_on way.device_after_survey on surveys) way.boots))

@@ -17,7 +17,7 @@ use Rattle.ata_types.specs.declared.request.Reply.{Reply}
 use Rattle.ata_types.specs.declared.request.RequestId.{RequestId}
 use Rattle.server_history.proofs.state.ListMembers.{contains_cases}
 use Rattle.block_machine.specs.DueRequests.{requests_of_port}
-use Rattle.block_machine.specs.Events.{AnswersAndWaitsLawful, AllEnabled, AnswersReset, AreStepsOfCall, UnpluggedExcludesDeadAndSameDisk, IsOutcomeWithoutDeviceVerdict, ShownDiskWasInOrCame, IsLawfulAnswer, IssueIsLastOfRequest, UnansweredKeepSerialAndSize, AbstractState, IssuedOnPortAreIssuedInSteps, ReleasesOnceBeforeServerSteps, Reset, ShowsDisk, RepliesMatch, UnpluggedOutcomeEmptiesPort, IsIssuedInBook, WasReset, answers_of, issues_id, IsReadyAfterStopSerialAndSizeKept}
+use Rattle.block_machine.specs.Events.{AnswersLawfulAndWaitsOnStoppedPorts, AllEnabled, AnswersReset, AreStepsOfCall, UnpluggedExcludesDeadAndSameDisk, IsNeitherOkNorDeviceError, ShownDiskWasInOrCame, IsLawfulAnswer, IssueIsLastOfRequest, UnansweredKeepSerialAndSize, AbstractState, IssuedOnPortAreIssuedInSteps, ReleasesOnceBeforeServerSteps, Reset, ShowsDisk, RepliesMatch, UnpluggedOutcomeEmptiesPort, IsIssuedInBook, WasReset, answers_of, issues_id, IsReadyAfterStopSerialAndSizeKept}
 use Rattle.block_machine.specs.Histories.{JointEvent, JointState, IsReachable, joint_state_after}
 use Rattle.block_machine.specs.Expected.{after}
 use Rattle.block_machine.specs.Ports.{MayBecome, Ports, SameSerialAndSize}
@@ -28,7 +28,7 @@ use Rattle.driver_history.specs.Evidence.{IsEvidenced, IsEvidencedOf}
 use Rattle.driver_history.specs.Histories.{BootsAnewWhereRequired, IssuesDue, LosesNoPortError, RunsWellAnew, IsPortServed, PortCorresponds}
 use Rattle.driver_history.specs.AccessTrace.{UsesPortRegistersOf}
 use Rattle.hba_regs.specs.Bits.{bit}
-use Rattle.host_boot.specs.TakeOver.{IsServed, BacksProbeResult, StillBacksProbeResult, probe_result_of, wanted_of}
+use Rattle.host_boot.specs.TakeOver.{IsWantedAndImplemented, BacksProbeResult, StillBacksProbeResult, probe_result_of, wanted_of}
 use Rattle.host_boot.specs.declared.ProbeResult.{ProbeResult}
 use Rattle.host_boot.specs.declared.ProbeResult.TheVariants.{Ready, Unready, Unserved}
 use Rattle.identify.specs.declared.DiskInfo.{DiskInfo}
@@ -189,10 +189,10 @@ module _ (laws : ResetLaws) (s taken settled new : ServerState) (replies : List 
       by_device : port < 4 → is_served (probe_result_of taken.probe_results port) ≡ is_served (probe_result_of s.probe_results port)
       by_device low = alike (probe_result_of takes.host.ports port) (ap (λ (ports : List ProbeResult). probe_result_of ports port) (ports_are laws s taken settled booked takes replies settles m reached is)) (takes.takes_over.results_are_backed port low)
         where
-          over : IsServed (wanted_of s.wanted port) port taken.device → is_served (probe_result_of s.probe_results port) ≡ true
+          over : IsWantedAndImplemented (wanted_of s.wanted port) port taken.device → is_served (probe_result_of s.probe_results port) ≡ true
           over served = (booked.served_iff_wanted_and_there port low).1 (served.0, ap (λ (pi : ℕ). bit pi port) (sym pi_same) ∙ served.1)
 
-          none : (IsServed (wanted_of s.wanted port) port taken.device → ⊥) → is_served (probe_result_of s.probe_results port) ≡ false
+          none : (IsWantedAndImplemented (wanted_of s.wanted port) port taken.device → ⊥) → is_served (probe_result_of s.probe_results port) ≡ false
           none not = ⊎_elim
               (λ (so : is_served (probe_result_of s.probe_results port) ≡ true). let served = (booked.served_iff_wanted_and_there port low).0 so in absurd (not (served.0, ap (λ (pi : ℕ). bit pi port) pi_same ∙ served.1)))
               (λ (not_so : is_served (probe_result_of s.probe_results port) ≡ false). not_so)
@@ -269,16 +269,16 @@ module _ (laws : ResetLaws) (s taken settled new : ServerState) (replies : List 
       let has = f.again e here in
       is_ready e.request.port (subst (IsResetRevalidation (last_disk_in s e.request.port) (probe_result_of new.probe_results e.request.port.0)) (why_again None has.revalidation has.request.request has.disposition) (expects_new e Requeue has))
 
-  gives_up : (e : Pending) (o : Outcome) → Contains f.steps (Answer e o) → IsOutcomeWithoutDeviceVerdict o
+  gives_up : (e : Pending) (o : Outcome) → Contains f.steps (Answer e o) → IsNeitherOkNorDeviceError o
   gives_up e o here =
       let has = f.answered e o here in
       ⊎_elim
       (λ named. let none : None ≡ Some named.0 = named.1 in absurd cc)
       (λ rest. ⊎_elim
-      (λ aborted. subst IsOutcomeWithoutDeviceVerdict (sym aborted.3) tt)
+      (λ aborted. subst IsNeitherOkNorDeviceError (sym aborted.3) tt)
       (λ rest. ⊎_elim
-      (λ gone. subst IsOutcomeWithoutDeviceVerdict (sym gone.1) tt)
-      (λ rest. ⊎_elim (λ dead. subst IsOutcomeWithoutDeviceVerdict (sym dead.1) tt) (λ revoked. subst IsOutcomeWithoutDeviceVerdict (sym revoked.3) tt) rest)
+      (λ gone. subst IsNeitherOkNorDeviceError (sym gone.1) tt)
+      (λ rest. ⊎_elim (λ dead. subst IsNeitherOkNorDeviceError (sym dead.1) tt) (λ revoked. subst IsNeitherOkNorDeviceError (sym revoked.3) tt) rest)
       rest)
       rest)
       (why None has.revalidation has.request.request o has.disposition)
@@ -360,7 +360,7 @@ module _ (laws : ResetLaws) (s taken settled new : ServerState) (replies : List 
       because (inr (inr (inr (inl dead)))) = subst (IsLawfulAnswer was by.evidence (ports_of new) e) (sym dead.1) (ap state_of (expects NoEnd dead.0))
       because (inr (inr (inr (inr revoked)))) = subst (IsLawfulAnswer was by.evidence (ports_of new) e) (sym revoked.3) (inr (goes_on revoked.0))
 
-  lawful : AnswersAndWaitsLawful was by.evidence (ports_of new) steps
+  lawful : AnswersLawfulAndWaitsOnStoppedPorts was by.evidence (ports_of new) steps
   lawful = lawful_join was by.evidence (ports_of new) a.steps base (reissued_lawful (ports_of settled) was by.evidence (ports_of new) a.steps a.only)
       (lawful_join was by.evidence (ports_of new) f.steps begun
       (decided_lawful was by.evidence (ports_of new) f.steps f.decides is_lawful (λ e here. by.stopped e.request.port (of_served e Requeue (f.again e here))))

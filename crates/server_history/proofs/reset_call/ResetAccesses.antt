@@ -14,16 +14,16 @@ use Rattle.adapter.specs.Device.{Device}
 use Rattle.adapter.specs.Rules.{IsOn}
 use Rattle.adapter.specs.Steps.{Steps}
 use Rattle.refinement.specs.Relation.{port_at}
-use Rattle.refinement.specs.Fragments.{TapeGrows, ReadsPortOrWrites, IsDrivenBy, SparesOtherPorts}
+use Rattle.refinement.specs.Fragments.{TapeGrows, ReadsPortOrWrites, IsDrivenBy, AccessesNoOtherPort}
 use Rattle.refinement.specs.Errors.{IsFatalEntryOf}
 use Rattle.refinement.specs.PortFacts.{IsFaultOf, RunsWell}
 use Rattle.refinement.specs.PreservedParts.{NoPlugEvents, DoesNotWrite}
 use Rattle.error_recovery.specs.Evidence.{GainsSinceStart, HidesNoTrouble}
 use Rattle.driver_history.specs.Histories.{HasAeAndIe, IsPortServed}
 use Rattle.driver_history.specs.PortTurn.{HasTurnIn, KeepsToAnotherPort}
-use Rattle.driver_history.specs.AccessTrace.{StaysInDriverFrames, UsesPortRegistersOf, ResetsLink}
+use Rattle.driver_history.specs.AccessTrace.{StaysInDriverFrames, UsesPortRegistersOf, LastSctlWritesResetLink}
 use Rattle.host_boot.specs.Resets.{BeginsWithReset, IsResetAccess}
-use Rattle.host_boot.specs.TakeOver.{SwitchesOnBootsAndEnablesInterrupts, IsServed, ReadsCapOrPi, BacksProbeResult, probe_result_of, wanted_of}
+use Rattle.host_boot.specs.TakeOver.{SwitchesOnBootsAndEnablesInterrupts, IsWantedAndImplemented, ReadsCapOrPi, BacksProbeResult, probe_result_of, wanted_of}
 use Rattle.host_boot.specs.declared.ProbeResult.{ProbeResult}
 use Rattle.host_boot.specs.declared.ProbeResult.TheVariants.{Unserved, Ready, Unready}
 use Rattle.identify.specs.declared.DiskInfo.{DiskInfo}
@@ -165,7 +165,7 @@ module _ (Such : Port → Type 0) where
   survey_of (Loading at bytes) is = tt
   survey_of (Storing at bytes) is = tt
 
-  its_of : (port : Port) → Such port → (access : Access) → SparesOtherPorts port access → UsesPortRegistersOf Such access
+  its_of : (port : Port) → Such port → (access : Access) → AccessesNoOtherPort port access → UsesPortRegistersOf Such access
   its_of port such (Reading (Px at r) v) is = subst Such (sym is) such
   its_of port such (Reading r v) is = tt
   its_of port such (Writing (Px at r) v) is = subst Such (sym is) such
@@ -273,7 +273,7 @@ module _ (laws : PrerequisiteLaws) (s new : ServerState) (replies : List Reply) 
   pub low_of : (port : Port) (n : ℕ) → port.0 ≡ 0 + n → probe_result_of ports n ≢ Unserved → port.0 < 4
   low_of port n at other = let listed = is_listed ports n (served_if (probe_result_of ports n) other) in let four = t.host_has_four_ports in omega (arith, at, listed, four)
 
-  served_then : (port : ℕ) → port < 4 → (found : ProbeResult) → found ≢ Unserved → BacksProbeResult (wanted_of s.wanted port) found port r.server_after_take_over.device → IsServed (wanted_of s.wanted port) port s.device
+  served_then : (port : ℕ) → port < 4 → (found : ProbeResult) → found ≢ Unserved → BacksProbeResult (wanted_of s.wanted port) found port r.server_after_take_over.device → IsWantedAndImplemented (wanted_of s.wanted port) port s.device
   served_then port low Unserved other stands = absurd (other refl)
   served_then port low (Ready info) other stands = (stands.0.0, ap (λ (pi : ℕ). bit pi port) (sym t.resets.adapter_is_kept.pi) ∙ ap (λ (pi : ℕ). bit pi port) (sym t.takes_over.adapter_is_kept.pi) ∙ stands.0.1)
   served_then port low (Unready state) other stands = (stands.0.0, ap (λ (pi : ℕ). bit pi port) (sym t.resets.adapter_is_kept.pi) ∙ ap (λ (pi : ℕ). bit pi port) (sym t.takes_over.adapter_is_kept.pi) ∙ stands.0.1)
@@ -343,10 +343,10 @@ module _ (laws : PrerequisiteLaws) (s new : ServerState) (replies : List Reply) 
     its = turn.turn
 
     -- what resets its link in its part does so in the whole
-    pub resets : ResetsLink port turn.turn.turn → ResetsLink port accesses
+    pub resets : LastSctlWritesResetLink port turn.turn.turn → LastSctlWritesResetLink port accesses
     resets is =
         let later = All-weaker (KeepsToAnotherPort port) (DoesNotWrite (Px port Sctl)) (λ access other. (other_leaves laws port access other).3) its.later its.later_are_of_others in
-        let part = subst (ResetsLink port) turn.all (resets_more port its.before its.turn its.later is later) in
+        let part = subst (LastSctlWritesResetLink port) turn.all (resets_more port its.before its.turn its.later is later) in
         resets_since port first (Writing Ghc 0x80000000 ∷ (survey ++ (went.driven.accesses ++ last))) (resets_since port (Writing Ghc 0x80000000 ∷ []) (survey ++ (went.driven.accesses ++ last))
         (resets_more port survey went.driven.accesses last part (All-weaker (LeavesTrouble port) (DoesNotWrite (Px port Sctl)) (λ access leaves. leaves.3) last (last_leaves port))))
 
@@ -372,10 +372,10 @@ module _ (laws : PrerequisiteLaws) (s new : ServerState) (replies : List Reply) 
       start_on = on_over laws its.before way.device_after_survey its.start surveyed_on (All-weaker (KeepsToAnotherPort port) StaysOn (λ access other. (other_leaves laws port access other).4) its.before its.earlier_are_of_others) its.leads_to_start
 
       stopped_on : IsOn stopped
-      stopped_on = laws.one_port_keeps_adapter_on port its.start stopped start_on (driven_as (ReadsPortOrWrites IsCommandRegister port) (SparesOtherPorts port) its.start stopped (λ access x. laws.boot_access_is_of_port port access (command_boots port access x)) did.1.1)
+      stopped_on = laws.one_port_keeps_adapter_on port its.start stopped start_on (driven_as (ReadsPortOrWrites IsCommandRegister port) (AccessesNoOtherPort port) its.start stopped (λ access x. laws.boot_access_is_of_port port access (command_boots port access x)) did.1.1)
 
       end_on : IsOn its.end
-      end_on = laws.one_port_keeps_adapter_on port stopped its.end stopped_on (driven_as (IsBootAccess port) (SparesOtherPorts port) stopped its.end (laws.boot_access_is_of_port port) (ready_resets laws port stopped its.end gets).driven)
+      end_on = laws.one_port_keeps_adapter_on port stopped its.end stopped_on (driven_as (IsBootAccess port) (AccessesNoOtherPort port) stopped its.end (laws.boot_access_is_of_port port) (ready_resets laws port stopped its.end gets).driven)
 
       early : TapeGrows s.device stopped
       early =

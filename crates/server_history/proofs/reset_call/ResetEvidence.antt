@@ -18,7 +18,7 @@ use Rattle.block_machine.specs.State.{Machine}
 use Rattle.driver_history.specs.Evidence.{IsEvidencedOf}
 use Rattle.driver_history.specs.Histories.{LosesNoPortError, RunsWellAnew, IsPortServed}
 use Rattle.driver_history.specs.PortTurn.{KeepsToAnotherPort}
-use Rattle.driver_history.specs.AccessTrace.{UsesPortRegistersOf, WritesNeitherCmdNorSctl, ResetsLink}
+use Rattle.driver_history.specs.AccessTrace.{UsesPortRegistersOf, WritesNeitherCmdNorSctl, LastSctlWritesResetLink}
 use Rattle.host_boot.specs.TakeOver.{BacksProbeResult, probe_result_of, wanted_of}
 use Rattle.host_boot.specs.declared.ProbeResult.{ProbeResult}
 use Rattle.host_boot.specs.declared.ProbeResult.TheVariants.{Unserved, Ready, Unready}
@@ -242,13 +242,13 @@ module _ (laws : PrerequisiteLaws) (s new : ServerState) (replies : List Reply) 
       }
 
   -- each port that isn't dead was booted
-  booted : (port : Port) → old_ports.served port ≡ true → (new_ports.state port ≡ DeadState) ⊎ ResetsLink port list
+  booted : (port : Port) → old_ports.served port ≡ true → (new_ports.state port ≡ DeadState) ⊎ LastSctlWritesResetLink port list
   booted port served = by (probe_result_of ports port.0) refl
     where
       found : probe_result_of ports port.0 ≢ Unserved
       found = is_found laws s new replies k r port.0 served
 
-      by : (f : ProbeResult) → probe_result_of ports port.0 ≡ f → (new_ports.state port ≡ DeadState) ⊎ ResetsLink port list
+      by : (f : ProbeResult) → probe_result_of ports port.0 ≡ f → (new_ports.state port ≡ DeadState) ⊎ LastSctlWritesResetLink port list
       by Unserved is = absurd (found is)
       by (Ready info) is = inr (resets laws s new replies k r port (low_found port found) (did laws s new replies k r port (low_found port found) info is).0)
       by (Unready state) is = ⊎_elim

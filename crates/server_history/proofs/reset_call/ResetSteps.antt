@@ -8,7 +8,7 @@ use Rattle.ata_types.specs.declared.PortState.TheVariants.{Ready as ReadyState}
 use Rattle.ata_types.specs.declared.request.Outcome.{Outcome}
 use Rattle.ata_types.specs.declared.request.RequestId.{RequestId}
 use Rattle.server_history.proofs.state.ListMembers.{at_cases, contains_cases, contains_there, map_in, without_in}
-use Rattle.block_machine.specs.Events.{AllByDevice, AnswersAndWaitsLawful, AllEnabled, AreStepsOfCall, IsOutcomeWithoutDeviceVerdict, IsByDevice, IsIssuedIn, IsLawfulAnswer, IssueIsLastOfRequest, AbstractState, Reset, IsIssuedInBook, answers_of, is_release, issues_id}
+use Rattle.block_machine.specs.Events.{AllByDevice, AnswersLawfulAndWaitsOnStoppedPorts, AllEnabled, AreStepsOfCall, IsNeitherOkNorDeviceError, IsByDevice, IsIssuedIn, IsLawfulAnswer, IssueIsLastOfRequest, AbstractState, Reset, IsIssuedInBook, answers_of, is_release, issues_id}
 use Rattle.block_machine.specs.Expected.{after}
 use Rattle.block_machine.specs.Ports.{Evidence, Ports}
 use Rattle.block_machine.specs.State.{Machine, Pending}
@@ -28,7 +28,7 @@ decided_none id (Answer e o ∷ steps) all = decided_none id steps (All-tail Dec
 decided_none id (step ∷ steps) all = absurd (All-head Decides step steps all).1
 
 module _ (ports : Ports) where
-  pub decided_belong : (steps : List Step) → All Decides steps → ((e : Pending) (o : Outcome) → Contains steps (Answer e o) → IsOutcomeWithoutDeviceVerdict o) → ((e : Pending) → Contains steps (WaitAgain e) → ports.state e.request.port ≡ ReadyState)
+  pub decided_belong : (steps : List Step) → All Decides steps → ((e : Pending) (o : Outcome) → Contains steps (Answer e o) → IsNeitherOkNorDeviceError o) → ((e : Pending) → Contains steps (WaitAgain e) → ports.state e.request.port ≡ ReadyState)
       → AreStepsOfCall {D = DeviceStep} Reset ports steps
   decided_belong [] all answer again = tt
   decided_belong (WaitAgain e ∷ steps) all answer again = (
@@ -42,7 +42,7 @@ module _ (ports : Ports) where
   decided_belong (step ∷ steps) all answer again = absurd (All-head Decides step steps all).1
 
 pub decided_lawful : (old : AbstractState) (evidence : Evidence) (ports : Ports) (steps : List Step) → All Decides steps → ((e : Pending) (o : Outcome) → Contains steps (Answer e o) → IsLawfulAnswer old evidence ports e o)
-    → ((e : Pending) → Contains steps (WaitAgain e) → Contains evidence.stopped e.request.port) → AnswersAndWaitsLawful old evidence ports steps
+    → ((e : Pending) → Contains steps (WaitAgain e) → Contains evidence.stopped e.request.port) → AnswersLawfulAndWaitsOnStoppedPorts old evidence ports steps
 decided_lawful old evidence ports [] all answer again = tt
 decided_lawful old evidence ports (WaitAgain e ∷ steps) all answer again = (
   decided_lawful old evidence ports steps (All-tail Decides (WaitAgain e) steps all) (λ x o there. answer x o (contains_there (WaitAgain e) steps (Answer x o) there)) (λ x there. again x (contains_there (WaitAgain e) steps (WaitAgain x) there)),
@@ -62,7 +62,7 @@ module _ (ports : Ports) where
   reissued_belong (Issue mode e ∷ steps) all = (reissued_belong steps (All-tail (IsReissue ports) (Issue mode e) steps all), inr (All-head (IsReissue ports) (Issue mode e) steps all))
   reissued_belong (step ∷ steps) all = (reissued_belong steps (All-tail (IsReissue ports) step steps all), inl (All-head (IsReissue ports) step steps all))
 
-  pub reissued_lawful : (old : AbstractState) (evidence : Evidence) (later : Ports) (steps : List Step) → All (IsReissue ports) steps → AnswersAndWaitsLawful old evidence later steps
+  pub reissued_lawful : (old : AbstractState) (evidence : Evidence) (later : Ports) (steps : List Step) → All (IsReissue ports) steps → AnswersLawfulAndWaitsOnStoppedPorts old evidence later steps
   reissued_lawful old evidence later [] all = tt
   reissued_lawful old evidence later (WaitAgain e ∷ steps) all = absurd (All-head (IsReissue ports) (WaitAgain e) steps all)
   reissued_lawful old evidence later (Answer e o ∷ steps) all = absurd (All-head (IsReissue ports) (Answer e o) steps all)

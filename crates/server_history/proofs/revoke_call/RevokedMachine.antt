@@ -16,7 +16,7 @@ use Rattle.ata_types.specs.declared.request.RequestId.{RequestId}
 use Rattle.adapter.specs.declared.access.DeviceStep.{DeviceStep}
 use Rattle.refinement.specs.Fragments.{driver_state_of}
 use Rattle.refinement.specs.Driver.{HasNoSlot, TapeBacksSteps, DriverState}
-use Rattle.block_machine.specs.Events.{AnswersAndWaitsLawful, AllEnabled, AreStepsOfCall, IsLawfulAnswer, IssueIsLastOfRequest, AbstractState, RevokeOf, RepliesMatch, answers_of, issues_id}
+use Rattle.block_machine.specs.Events.{AnswersLawfulAndWaitsOnStoppedPorts, AllEnabled, AreStepsOfCall, IsLawfulAnswer, IssueIsLastOfRequest, AbstractState, RevokeOf, RepliesMatch, answers_of, issues_id}
 use Rattle.block_machine.specs.Histories.{IsReachable}
 use Rattle.block_machine.specs.Expected.{after}
 use Rattle.block_machine.specs.Ports.{Evidence, Ports}
@@ -263,7 +263,7 @@ module _ (laws : PrerequisiteLaws) (s : ServerState) (client : ClientId) (number
   pub last : IssueIsLastOfRequest steps
   last = none_last steps issue_none
 
-  pub lawful : (then_at : AbstractState) (evidence : Evidence) (ports : Ports) → AnswersAndWaitsLawful then_at evidence ports steps
+  pub lawful : (then_at : AbstractState) (evidence : Evidence) (ports : Ports) → AnswersLawfulAndWaitsOnStoppedPorts then_at evidence ports steps
   lawful then_at evidence ports = lawful_join then_at evidence ports met.steps (Revoke client number ∷ [])
       (answers_lawful IsRevoked then_at evidence ports (λ e o told. told_lawful e o told.0 told.1) met.steps all_answers) tt
     where

@@ -10,7 +10,7 @@ use Rattle.ata_types.specs.declared.request.Reply.{Reply}
 use Rattle.ata_types.specs.declared.request.RequestId.{RequestId}
 use Rattle.adapter.specs.declared.access.DeviceStep.{DeviceStep}
 use Rattle.block_machine.specs.declared.due.QueueMode.{QueueMode}
-use Rattle.block_machine.specs.Events.{AllByDevice, AnswersAndWaitsLawful, AllEnabled, AbstractCall, AreStepsOfCall, IsByDevice, IsLawfulAnswer, IsByServer, AbstractState, answers_of, issues_id, reply_of}
+use Rattle.block_machine.specs.Events.{AllByDevice, AnswersLawfulAndWaitsOnStoppedPorts, AllEnabled, AbstractCall, AreStepsOfCall, IsByDevice, IsLawfulAnswer, IsByServer, AbstractState, answers_of, issues_id, reply_of}
 use Rattle.block_machine.specs.Expected.{after}
 use Rattle.block_machine.specs.Ports.{Evidence, Ports}
 use Rattle.block_machine.specs.State.{Pending, Machine}
@@ -122,7 +122,7 @@ module _ (Told : Pending → Outcome → Type 0) where
   answers_issue_none id (step ∷ steps) all = absurd (All-head (IsAnswerOf Told) step steps all)
 
   pub answers_lawful : (old : AbstractState) (evidence : Evidence) (ports : Ports) → ((e : Pending) (o : Outcome) → Told e o → IsLawfulAnswer old evidence ports e o) → (steps : List Step) → All (IsAnswerOf Told) steps
-      → AnswersAndWaitsLawful old evidence ports steps
+      → AnswersLawfulAndWaitsOnStoppedPorts old evidence ports steps
   answers_lawful old evidence ports lawful [] all = tt
   answers_lawful old evidence ports lawful (Answer e o ∷ steps) all =
       (answers_lawful old evidence ports lawful steps (All-tail (IsAnswerOf Told) (Answer e o) steps all), lawful e o (All-head (IsAnswerOf Told) (Answer e o) steps all))

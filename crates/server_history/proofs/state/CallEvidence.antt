@@ -10,7 +10,7 @@ use Rattle.adapter.specs.Access.{Access}
 use Rattle.adapter.specs.Device.{DevicePort, Device}
 use Rattle.adapter.specs.declared.access.DeviceStep.{DeviceStep}
 use Rattle.refinement.specs.Relation.{port_at}
-use Rattle.block_machine.specs.Events.{AbstractCall, AbstractCallResult, AbstractState, AnswersAndWaitsLawful}
+use Rattle.block_machine.specs.Events.{AbstractCall, AbstractCallResult, AbstractState, AnswersLawfulAndWaitsOnStoppedPorts}
 use Rattle.block_machine.specs.Histories.{JointState}
 use Rattle.block_machine.specs.Ports.{Ports, Evidence, IsStoppedOrStuck}
 use Rattle.block_machine.specs.Steps.{Step, WaitAgain, Answer}
@@ -215,7 +215,7 @@ module _ (d : Device) (ports : Ports) where
   pub uninterrupted : (port : Port) → IsStoppedOrStuck told port → ⊥
   uninterrupted port i = ⊎_elim (nowhere port) (nowhere port) i
 
-  pub lawful_told : (old : AbstractState) (after : Ports) (steps : List Step) → AnswersAndWaitsLawful old no_evidence after steps → AnswersAndWaitsLawful old told after steps
+  pub lawful_told : (old : AbstractState) (after : Ports) (steps : List Step) → AnswersLawfulAndWaitsOnStoppedPorts old no_evidence after steps → AnswersLawfulAndWaitsOnStoppedPorts old told after steps
   lawful_told old after [] l = l
   lawful_told old after (Answer e outcome.Ok ∷ steps) l = (lawful_told old after steps l.0, l.1)
   lawful_told old after (Answer e (outcome.DeviceError status error) ∷ steps) l = (lawful_told old after steps l.0, l.1)

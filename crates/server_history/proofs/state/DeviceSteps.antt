@@ -2,7 +2,7 @@
 use Rattle.std.proofs.Common.{◌≡◌, true, List, [], ◌∷◌, refl, inl}
 use Rattle.std.proofs.lemmas.Bool.{false≢true}
 use Rattle.ata_types.specs.declared.request.RequestId.{RequestId}
-use Rattle.block_machine.specs.Events.{AbstractCall, AbstractState, IsByDevice, AllByDevice, AreStepsOfCall, IssueIsLastOfRequest, AnswersAndWaitsLawful, issues_requeues_or_answers_id, client_bytes_of}
+use Rattle.block_machine.specs.Events.{AbstractCall, AbstractState, IsByDevice, AllByDevice, AreStepsOfCall, IssueIsLastOfRequest, AnswersLawfulAndWaitsOnStoppedPorts, issues_requeues_or_answers_id, client_bytes_of}
 use Rattle.block_machine.specs.Ports.{Ports, Evidence}
 use Rattle.block_machine.specs.Steps.{Step, Issue, WaitAgain, Answer, Store, Load}
 
@@ -23,7 +23,7 @@ devices_last [] a = tt
 devices_last (step ∷ before) a = (devices_last before a.0, λ id h i. not_handled id step a.1 h)
 
 -- they answer nobody
-pub devices_lawful : (old : AbstractState) (evidence : Evidence) (ports : Ports) (steps : List Step) → AllByDevice steps → AnswersAndWaitsLawful old evidence ports steps
+pub devices_lawful : (old : AbstractState) (evidence : Evidence) (ports : Ports) (steps : List Step) → AllByDevice steps → AnswersLawfulAndWaitsOnStoppedPorts old evidence ports steps
 devices_lawful old evidence ports [] a = tt
 devices_lawful old evidence ports (WaitAgain e ∷ before) a = absurd a.1
 devices_lawful old evidence ports (Answer e o ∷ before) a = absurd a.1

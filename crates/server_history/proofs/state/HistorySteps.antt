@@ -15,8 +15,8 @@ use Rattle.refinement.specs.Fragments.{driver_state_of}
 use Rattle.refinement.specs.Driver.{DriverRelation, TapeBacksSteps}
 use Rattle.refinement.specs.PreservedParts.{SameAdapter}
 use Rattle.refinement.specs.SparedBook.{AllAsFarOrFurther, IsAsFarOrFurther, KeepsLoansAndPendingsOnlyAdvance}
-use Rattle.block_machine.specs.Events.{AbstractCall, AbstractCallResult, AllEnabled, AllByDevice, AreStepsOfCall, IssueIsLastOfRequest, AnswersAndWaitsLawful, ResultMatchesSteps, UnansweredKeepSerialAndSize}
-use Rattle.block_machine.specs.Histories.{JointState, JointEvent, IsHistory, IsReachable, joint_state_after}
+use Rattle.block_machine.specs.Events.{AbstractCall, AbstractCallResult, AllEnabled, AllByDevice, AreStepsOfCall, IssueIsLastOfRequest, AnswersLawfulAndWaitsOnStoppedPorts, ResultMatchesSteps, UnansweredKeepSerialAndSize}
+use Rattle.block_machine.specs.Histories.{JointState, JointEvent, IsJointRun, IsReachable, joint_state_after}
 use Rattle.block_machine.specs.Expected.{IsValidRow, after}
 use Rattle.block_machine.specs.Ports.{Ports, PortsWellFormed, Evidence, SamePorts, SameSerialAndSize}
 use Rattle.block_machine.specs.State.{Machine, Pending}
@@ -185,7 +185,7 @@ holding s k m reached is = (slots s k m reached is, holds_with s k m reached is)
 pub lead_with : PrerequisiteLaws → (first : JointState Device) (past : List (JointEvent Device DeviceStep)) (s new : ServerState) (ask : AbstractCall DeviceStep) (said : AbstractCallResult) (evidence : Evidence) (steps : List Step)
     → new.wanted ≡ s.wanted → LeadsToServer first past s → IsHolding new → PortsWellFormed (ports_of new)
     → AllEnabled (joint_state_after first past).abstract.machine steps → AreStepsOfCall ask (ports_of new) steps → IssueIsLastOfRequest steps
-    → AnswersAndWaitsLawful (joint_state_after first past).abstract evidence (ports_of new) steps
+    → AnswersLawfulAndWaitsOnStoppedPorts (joint_state_after first past).abstract evidence (ports_of new) steps
     → UnansweredKeepSerialAndSize (joint_state_after first past).abstract (record { machine = after (joint_state_after first past).abstract.machine steps; ports = ports_of new })
     → ResultMatchesSteps ask said (joint_state_after first past).abstract evidence steps (record { machine = after (joint_state_after first past).abstract.machine steps; ports = ports_of new })
     → OnlyFailedPortsRequeueIfService ask evidence steps
@@ -202,7 +202,7 @@ lead_with laws first past s new ask said evidence steps wanted_is leads holds fi
   refl,
   record {
     history = (
-      subst (λ wanted. IsHistory (HasDriverInvariantAeAndIe wanted) (CallCorresponds wanted) first past) (sym wanted_is) leads.history,
+      subst (λ wanted. IsJointRun (HasDriverInvariantAeAndIe wanted) (CallCorresponds wanted) first past) (sym wanted_is) leads.history,
       record { steps_are_enabled = may; steps_are_of_call = belong; issue_is_last_of_request = last; answers_are_lawful = lawful; ports_are_well_formed = fit; unanswered_keep_serial_and_size = disks; result_matches_steps = answered },
       subst (λ (d : Device). CallCorresponds new.wanted (with_device d old) h) (sym leads.state_is_at_history_end.device_is) ties,
     );
@@ -238,7 +238,7 @@ lead_with laws first past s new ask said evidence steps wanted_is leads holds fi
 pub lead_by : PrerequisiteLaws → (first : JointState Device) (past : List (JointEvent Device DeviceStep)) (s new : ServerState) (ask : AbstractCall DeviceStep) (said : AbstractCallResult) (steps : List Step)
     → new.wanted ≡ s.wanted → ports_of new ≡ ports_of s → LeadsToServer first past s → IsHolding new
     → AllEnabled (joint_state_after first past).abstract.machine steps → AreStepsOfCall ask (ports_of new) steps → IssueIsLastOfRequest steps
-    → AnswersAndWaitsLawful (joint_state_after first past).abstract no_evidence (ports_of new) steps
+    → AnswersLawfulAndWaitsOnStoppedPorts (joint_state_after first past).abstract no_evidence (ports_of new) steps
     → ResultMatchesSteps ask said (joint_state_after first past).abstract (told_by s.device (joint_state_after first past).abstract.ports) steps (record { machine = after (joint_state_after first past).abstract.machine steps; ports = ports_of new })
     → OnlyFailedPortsRequeueIfService ask (told_by s.device (joint_state_after first past).abstract.ports) steps
     → (accesses : List Access) → ExplainsAccesses (joint_state_after first past).abstract ask said accesses s.device new.device

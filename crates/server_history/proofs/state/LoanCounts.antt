@@ -10,7 +10,7 @@ use Rattle.ata_types.specs.declared.request.Outcome.{Outcome}
 use Rattle.ata_types.specs.declared.request.Outcome.TheVariants as outcome
 use Rattle.ata_types.specs.declared.request.RequestId.{RequestId}
 use Rattle.server_history.proofs.state.ListMembers.{contains_cases}
-use Rattle.request_queue.specs.BookEntries.{BookEntry, with_requests_under_grant_revoked, update_if_id, has_id, is_of_port, with_revoked_mark_if_under_grant, waiting_again_request}
+use Rattle.request_queue.specs.BookEntries.{BookEntry, with_requests_under_grant_revoked, update_if_id, has_id, is_of_port, with_revoked_mark_if_under_grant, request_with_issued_cleared}
 use Rattle.request_queue.specs.Dispositions.{keeps_loan}
 use Rattle.request_queue.specs.declared.PendingRequest.{PendingRequest}
 use Rattle.server_history.specs.ErrorHandling.{requests_of}
@@ -64,12 +64,12 @@ one_fewer port passes (x ∷ book) e here out = ⊎_elim
     by false less = let right = issued_first port x book in omega (arith, less, right)
 
 -- where one waits again, no more are issued
-pub requeued_issued : (port : Port) (id : RequestId) (book : List BookEntry) → issued_of port (map (update_if_id id waiting_again_request) book) ≤ issued_of port book
+pub requeued_issued : (port : Port) (id : RequestId) (book : List BookEntry) → issued_of port (map (update_if_id id request_with_issued_cleared) book) ≤ issued_of port book
 requeued_issued port id [] = le_refl 0
 requeued_issued port id (x ∷ book) =
     let rest = requeued_issued port id book in
     let one = by (has_id id x) in
-    let left = issued_first port (update_if_id id waiting_again_request x) (map (update_if_id id waiting_again_request) book) in
+    let left = issued_first port (update_if_id id request_with_issued_cleared x) (map (update_if_id id request_with_issued_cleared) book) in
     let right = issued_first port x book in
     omega (arith, rest, one, left, right)
   where
@@ -77,7 +77,7 @@ requeued_issued port id (x ∷ book) =
     own true = omega arith
     own false = le_refl 0
 
-    by : (b : Bool) → counts port (if b then record x { request = waiting_again_request x.request } else x) ≤ counts port x
+    by : (b : Bool) → counts port (if b then record x { request = request_with_issued_cleared x.request } else x) ≤ counts port x
     by true = own (is_of_port port x.request)
     by false = le_refl (counts port x)
 

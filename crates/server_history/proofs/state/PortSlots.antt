@@ -18,7 +18,7 @@ use Rattle.adapter.specs.declared.command.Operation.{Operation}
 use Rattle.block_machine.specs.DueRequests.{is_plain}
 use Rattle.block_machine.specs.Ports.{IsValidMode}
 use Rattle.block_machine.specs.State.{Machine, Pending}
-use Rattle.block_machine.specs.Steps.{MayStillMove, NoneKept}
+use Rattle.block_machine.specs.Steps.{IsIssuedOrKept, NoneKept}
 use Rattle.block_machine.specs.declared.due.QueueMode.{QueueMode}
 use Rattle.adapter.specs.OneCommand.{SlotHasNoCommand}
 use Rattle.refinement.specs.Slots.{Free, Own, Serves, SlotState, IsDropped, IsEnded, RelatesSlot, ServesRequest, IsInSomeStage}
@@ -207,7 +207,7 @@ module _ (s : ServerState) (m : Machine) (port : ℕ) (is : MachineRelation s m)
       (used_or_not (used_for s.slots port slot))
 
 -- a request of a ready port that the device may move is unanswered
-pub still_booked : (s : ServerState) (m : Machine) (port : ℕ) → MachineRelation s m → state_of (probe_result_of s.probe_results port) ≡ ReadyState → (e : Pending) → MayStillMove m e → e.request.port.0 ≡ port
+pub still_booked : (s : ServerState) (m : Machine) (port : ℕ) → MachineRelation s m → state_of (probe_result_of s.probe_results port) ≡ ReadyState → (e : Pending) → IsIssuedOrKept m e → e.request.port.0 ≡ port
     → Contains m.book e × (e.issued ≡ true)
 still_booked s m port is ready e (inl booked) own = booked
 still_booked s m port is ready e (inr kept) own = absurd (not_dead s port ready (ap (λ (q : ℕ). probe_result_of s.probe_results q) (sym own) ∙ is.quarantine_relation.quarantine_ports_are_dead e kept))

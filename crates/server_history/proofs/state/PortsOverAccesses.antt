@@ -8,7 +8,7 @@ use Rattle.adapter.specs.Device.{Device}
 use Rattle.adapter.specs.Rules.{IsOn}
 use Rattle.adapter.specs.declared.command.Operation.TheVariants.{Identify}
 use Rattle.refinement.specs.Relation.{port_at}
-use Rattle.refinement.specs.Fragments.{IsDrivenBy, SparesOtherPorts, OnlyDeviceChangesPort, GainsNoMove}
+use Rattle.refinement.specs.Fragments.{IsDrivenBy, AccessesNoOtherPort, OnlyDeviceChangesPort, GainsNoMove}
 use Rattle.refinement.specs.Halting.{HaltFitsTakenCommandsIfSt}
 use Rattle.refinement.specs.PreservedParts.{SameAdapter}
 use Rattle.server_history.proofs.state.DrivenAccesses.{by_one}
@@ -30,7 +30,7 @@ IsOfBytes (Loading at bytes) = Unit {0}
 IsOfBytes (Storing at bytes) = Unit {0}
 IsOfBytes access = ⊥
 
-bytes_of : (port : Port) (access : Access) → IsOfBytes access → SparesOtherPorts port access
+bytes_of : (port : Port) (access : Access) → IsOfBytes access → AccessesNoOtherPort port access
 bytes_of port (Loading at bytes) is = tt
 bytes_of port (Storing at bytes) is = tt
 bytes_of port (Reading r v) is = absurd is
@@ -46,7 +46,7 @@ bytes_serve (Writing r v) is = absurd is
 pub bytes_leave : PrerequisiteLaws → (access : Access) (old new : Device) → IsOfBytes access → IsOn old → Does access old new → (port : ℕ) → OnlyDeviceChangesPort (old.port port) (new.port port)
 bytes_leave laws access old new is on does port =
     laws.port_event_laws.other_ports_are_left (port_at (suc port)) port old new (λ same. absurd (omega (arith, same))) on
-    (by_one (SparesOtherPorts (port_at (suc port))) access old new (bytes_of (port_at (suc port)) access is) does)
+    (by_one (AccessesNoOtherPort (port_at (suc port))) access old new (bytes_of (port_at (suc port)) access is) does)
 
 -- ---- what stands behind a port
 

@@ -15,7 +15,7 @@ use Rattle.block_machine.specs.declared.due.QueueMode.{QueueMode}
 use Rattle.block_machine.specs.Histories.{JointState, IsReachable}
 use Rattle.block_machine.specs.State.{Machine, Pending}
 use Rattle.driver_history.specs.PortInvariants.{HasAllSlotsFreeAndNoneParked, ReadySlotsInvariant, PortStateInvariant, DriverInvariantWith, IsFreeOrServes, SlotCommandIsQueuedUnlessPlain, HasNoUnanswered, EngineRuns, SlotServesUnanswered}
-use Rattle.host_boot.specs.TakeOver.{FoundUnusableDevice, IsServed as IsServedPort, StillBacksProbeResult, probe_result_of, wanted_of}
+use Rattle.host_boot.specs.TakeOver.{FoundUnusableDevice, IsWantedAndImplemented as IsServedPort, StillBacksProbeResult, probe_result_of, wanted_of}
 use Rattle.host_boot.specs.declared.ProbeResult.{ProbeResult}
 use Rattle.host_boot.specs.declared.ProbeResult.TheVariants.{Unserved, Ready, Unready}
 use Rattle.identify.specs.declared.DiskInfo.{DiskInfo}

@@ -17,7 +17,7 @@ use Rattle.adapter.specs.Device.{Device}
 use Rattle.adapter.specs.Memory as memory
 use Rattle.adapter.specs.Rules.{IsOn}
 use Rattle.adapter.specs.Steps.{Steps}
-use Rattle.refinement.specs.Fragments.{IsSoleBit, IsDrivenBy, SparesOtherPorts}
+use Rattle.refinement.specs.Fragments.{IsSoleBit, IsDrivenBy, AccessesNoOtherPort}
 use Rattle.refinement.specs.PortFacts.{RunsWell, Undisturbed}
 use Rattle.command_table.specs.TableStores.{IsHeaderTableOrBlockStore, IsHeaderOrTableStore}
 use Rattle.driver_history.specs.Histories.{StoresOrWritesSactOrCi}
@@ -43,7 +43,7 @@ none_loaded old new steps = record { steps = steps; shows = refl }
 
 -- it serves ports, is of this one, and what it loads or stores is the driver's own
 abbrev pub IsTurn : Port → Access → Type 0
-IsTurn port access = WritesOnlyHbaIsPxIsCiOrSact access × (StaysInDriverFrames access × SparesOtherPorts port access)
+IsTurn port access = WritesOnlyHbaIsPxIsCiOrSact access × (StaysInDriverFrames access × AccessesNoOtherPort port access)
 
 -- header and table of a slot lie in the driver's frames
 pub table_own : (port slot at : ℕ) (bytes : List ℕ) → port < 4 → slot < 32 → IsHeaderOrTableStore port slot (Storing at bytes) → at + length bytes ≤ DRIVER_BYTES
@@ -126,15 +126,15 @@ module _ (port : Port) where
   -- The accesses of a turn. Where the port goes well, the look tells nothing; and where slots were checked, they read the masks.
   pub record TurnList (slots : PortSlots) (replies : List Reply) (old new : Device) (t : PollsInTurnWithoutEvent port slots replies old new) : Type 0 where
     pub driven : IsDrivenBy (IsTurn port) old new
-    pub of : All (SparesOtherPorts port) driven.accesses
+    pub of : All (AccessesNoOtherPort port) driven.accesses
     pub own : All StaysInDriverFrames driven.accesses
     pub leaves : All (WritesNeitherCmdNorSctl port) driven.accesses
     pub no_disturbance : IsOn old → RunsWell (old.port port.0) → Undisturbed port.0 old new → t.look ≡ NoEvent
     pub masks : t.look ≡ NoEvent → IsBusy slots → (mask : ℕ) × IsMaskOf slots mask × ((c : PollsSlots port slots mask replies t.device_after_look new) × ReadsMasksBeforeCmdWrite port c.reads.issued c.reads.active driven.accesses)
 
   module _ (laws : PrerequisiteLaws) (low : port.0 < 4) (slots : PortSlots) (replies : List Reply) (old new : Device) (t : PollsInTurnWithoutEvent port slots replies old new) where
-    of_all : (driven : IsDrivenBy (IsTurn port) old new) → All (SparesOtherPorts port) driven.accesses
-    of_all driven = All-weaker (IsTurn port) (SparesOtherPorts port) (λ access is. is.1.1) driven.accesses driven.accesses_are_of_kind
+    of_all : (driven : IsDrivenBy (IsTurn port) old new) → All (AccessesNoOtherPort port) driven.accesses
+    of_all driven = All-weaker (IsTurn port) (AccessesNoOtherPort port) (λ access is. is.1.1) driven.accesses driven.accesses_are_of_kind
 
     own_all : (driven : IsDrivenBy (IsTurn port) old new) → All StaysInDriverFrames driven.accesses
     own_all driven = All-weaker (IsTurn port) StaysInDriverFrames (λ access is. is.1.0) driven.accesses driven.accesses_are_of_kind

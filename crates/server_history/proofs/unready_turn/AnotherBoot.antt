@@ -14,14 +14,14 @@ use Rattle.adapter.specs.Device.{Device}
 use Rattle.adapter.specs.Rules.{HasPort, IsOn}
 use Rattle.adapter.specs.declared.command.Operation.TheVariants.{ReadLog}
 use Rattle.refinement.specs.Acts.{DriverSlots}
-use Rattle.refinement.specs.Fragments.{SomeMachineAgreesWith, AnySlotStates, IsSimulated, SparesOtherPorts, GainsNoMove}
-use Rattle.block_machine.specs.Ports.{IsStoppedOrStuck, IsServiced}
+use Rattle.refinement.specs.Fragments.{SomeMachineAgreesWith, AnySlotStates, IsSimulated, AccessesNoOtherPort, GainsNoMove}
+use Rattle.block_machine.specs.Ports.{IsStoppedOrStuck, ChangesOnlyIfStoppedOrStuck}
 use Rattle.driver_history.specs.AccessTrace.{StaysInDriverFrames}
 use Rattle.error_recovery.specs.Recovery.{EndsAsNext, StopsOrSticksForReset, IsRecoveryAccess}
 use Rattle.error_recovery.specs.declared.Next.{Next}
 use Rattle.error_recovery.specs.declared.Next.TheVariants as next
 use Rattle.error_recovery.specs.declared.Recovered.{Recovered}
-use Rattle.host_boot.specs.TakeOver.{IsServed, StillBacksProbeResult, probe_result_of, wanted_of}
+use Rattle.host_boot.specs.TakeOver.{IsWantedAndImplemented, StillBacksProbeResult, probe_result_of, wanted_of}
 use Rattle.host_boot.specs.declared.ProbeResult.{ProbeResult}
 use Rattle.host_boot.specs.declared.ProbeResult.TheVariants.{Ready, Unready, Unserved}
 use Rattle.identify.specs.declared.DiskInfo.{DiskInfo}
@@ -56,7 +56,7 @@ never_ready s port state k is ready =
     absurd (subst (λ (f : ProbeResult). StillBacksProbeResult (wanted_of s.wanted port.0) f port.0 s.device) (is ∙ ap Unready ready) (k.port_invariant port.0 (k.served_ports_exist port.0 (ap is_served is)).0).probe_result_is_backed).1
 
 -- it is served
-pub its_service : (s : ServerState) (port : Port) (state : PortState) → InCallInvariant s → probe_result_of s.probe_results port.0 ≡ Unready state → IsServed (wanted_of s.wanted port.0) port.0 s.device
+pub its_service : (s : ServerState) (port : Port) (state : PortState) → InCallInvariant s → probe_result_of s.probe_results port.0 ≡ Unready state → IsWantedAndImplemented (wanted_of s.wanted port.0) port.0 s.device
 its_service s port state k is = (subst (λ (f : ProbeResult). StillBacksProbeResult (wanted_of s.wanted port.0) f port.0 s.device) is (k.port_invariant port.0 (k.served_ports_exist port.0 (ap is_served is)).0).probe_result_is_backed).0
 
 -- the accesses of a look
@@ -229,15 +229,15 @@ module _ (laws : PrerequisiteLaws) (s new : ServerState) (seen : Device) (port :
   part_only : All (IsPart port) part
   part_only = All-weaker (IsRecoveryAccess port) (IsPart port) (recovering_part laws port small) part g.handling.does.accesses_are_recovery
 
-  pub until_of : All (SparesOtherPorts port) (looks.is_driven.accesses ++ part)
-  until_of = All-weaker (IsPart port) (SparesOtherPorts port) (λ access its. its.1) (looks.is_driven.accesses ++ part) (All-append (IsPart port) looks.is_driven.accesses part looking_only part_only)
+  pub until_of : All (AccessesNoOtherPort port) (looks.is_driven.accesses ++ part)
+  until_of = All-weaker (IsPart port) (AccessesNoOtherPort port) (λ access its. its.1) (looks.is_driven.accesses ++ part) (All-append (IsPart port) looks.is_driven.accesses part looking_only part_only)
 
   pub only : All (IsPart port) accesses
   only = All-append (IsPart port) looks.is_driven.accesses (part ++ afterwards.driven.accesses) looking_only (All-append (IsPart port) part afterwards.driven.accesses part_only afterwards.driven.accesses_are_of_kind)
 
   -- ---- what is told
 
-  becomes : IsServiced (ports_of s) (evidence_tried (stopped_of port b.probes_anew.result.next) (stuck_if port b.found)) (ports_of then_is) port
+  becomes : ChangesOnlyIfStoppedOrStuck (ports_of s) (evidence_tried (stopped_of port b.probes_anew.result.next) (stuck_if port b.found)) (ports_of then_is) port
   becomes = (
     λ dead. absurd (lives (sym (ap state_of is) ∙ dead)),
     λ _. (

@@ -13,7 +13,7 @@ use Rattle.adapter.specs.Access.{Access}
 use Rattle.adapter.specs.Device.{Device}
 use Rattle.adapter.specs.declared.command.Operation.TheVariants.{Identify, ReadLog}
 use Rattle.refinement.specs.Relation.{port_at}
-use Rattle.refinement.specs.Fragments.{AnySlotStates, IsDrivenBy, IsSimulated, SparesOtherPorts}
+use Rattle.refinement.specs.Fragments.{AnySlotStates, IsDrivenBy, IsSimulated, AccessesNoOtherPort}
 use Rattle.refinement.specs.Driver.{TapeBacksSteps}
 use Rattle.refinement.specs.Slots.{Free, Serves}
 use Rattle.refinement.specs.SparedBook.{KeepsLoansAndPendingsOnlyAdvance}
@@ -201,7 +201,7 @@ module _ (laws : PrerequisiteLaws) (s new : ServerState) (seen : Device) (port :
       record {
         accesses = accesses laws s new seen port state k is lives looks b;
         accesses_are_done = does laws s new seen port state k is lives looks b;
-        accesses_are_of_port = All-weaker (IsPart port) (SparesOtherPorts port) (λ access x. x.1) _ its;
+        accesses_are_of_port = All-weaker (IsPart port) (AccessesNoOtherPort port) (λ access x. x.1) _ its;
         accesses_are_drivers_own = All-weaker (IsPart port) StaysInDriverFrames (λ access x. x.0) _ its;
         leaves_others = others laws s new seen port state k is lives looks b;
         others_get_no_log_unless_dead = silent laws s new seen port state k is lives looks b;
@@ -261,7 +261,7 @@ module _ (laws : PrerequisiteLaws) (s : ServerState) (seen : Device) (port : Por
     other_port : (q : ℕ) → q < 4 → q ≢ port.0 → PortInvariant s.wanted s.probe_results q seen
     other_port q small other =
         port_on laws s.wanted s.probe_results q s.device seen (laws.look_laws.service_keeps_adapter s.device seen serves) t.in_call_invariant.adapter_is_on serves
-        (λ _. laws.port_event_laws.other_ports_are_left port q s.device seen other t.in_call_invariant.adapter_is_on (driven_as (IsPxisSstsOrOwnIsAccess port) (SparesOtherPorts port) s.device seen (laws.look_laws.look_access_is_of_port port) looks.is_driven))
+        (λ _. laws.port_event_laws.other_ports_are_left port q s.device seen other t.in_call_invariant.adapter_is_on (driven_as (IsPxisSstsOrOwnIsAccess port) (AccessesNoOtherPort port) s.device seen (laws.look_laws.look_access_is_of_port port) looks.is_driven))
         (looking_silent s seen port t.in_call_invariant laws looks q Identify refl)
         (followed_halts laws (port_at q) (IsPxisSstsOrOwnIsAccess port) s t.in_call_invariant seen looks (λ access its. (leaving port (port_at q) access its).0))
         (t.in_call_invariant.port_invariant q small)
@@ -281,7 +281,7 @@ module _ (laws : PrerequisiteLaws) (s : ServerState) (seen : Device) (port : Por
       record {
         accesses = looks.is_driven.accesses;
         accesses_are_done = looks.is_driven.all_are_done;
-        accesses_are_of_port = All-weaker (IsPxisSstsOrOwnIsAccess port) (SparesOtherPorts port) (laws.look_laws.look_access_is_of_port port) looks.is_driven.accesses looks.is_driven.accesses_are_of_kind;
+        accesses_are_of_port = All-weaker (IsPxisSstsOrOwnIsAccess port) (AccessesNoOtherPort port) (laws.look_laws.look_access_is_of_port port) looks.is_driven.accesses looks.is_driven.accesses_are_of_kind;
         accesses_are_drivers_own = All-weaker (IsPxisSstsOrOwnIsAccess port) StaysInDriverFrames (λ access its. (looking_part laws port access its).0) looks.is_driven.accesses looks.is_driven.accesses_are_of_kind;
         leaves_others = record { grants = refl; wanted = refl; last_id = refl; other_probe_results_are_same = λ q ne. refl; other_remembered_are_same = λ q ne. refl; other_modes_are_same = λ q ne. refl; other_slots_are_same = λ q ne. refl; others_requests_are_same = λ q ne. refl };
         others_get_no_log_unless_dead = λ q other alive. looking_silent s seen port t.in_call_invariant laws looks q ReadLog refl (λ dead. alive (ap state_of dead));

@@ -19,7 +19,7 @@ use Rattle.refinement.specs.Vacant.{HasFirstFisIfDet3, IsVacant}
 use Rattle.block_machine.specs.Events.{ShowsDisk}
 use Rattle.driver_history.specs.Evidence.{TapeGainsEntry, ShowsLinkChange}
 use Rattle.driver_history.specs.Histories.{HasFirstFisOrNoDevice}
-use Rattle.driver_history.specs.AccessTrace.{ResetsLink}
+use Rattle.driver_history.specs.AccessTrace.{LastSctlWritesResetLink}
 use Rattle.host_boot.specs.Reboots.{EndsReadyOrUnready}
 use Rattle.port_boot.specs.Outcomes.{EndsUnready}
 use Rattle.host_boot.specs.declared.ProbeResult.{ProbeResult}
@@ -54,7 +54,7 @@ module _ (laws : PrerequisiteLaws) (port : Port) where
   stays_vacant = stays_so laws port IsVacant (laws.vacant_port_stays_vacant_if_no_disk_comes port)
 
   -- once the link was reset, the first FIS of a disk that shows has come
-  reset_fresh : (accesses : List Access) (old new : Device) → ResetsLink port accesses → DoesAll accesses old new → NoDiskComes port.0 old new → HasFirstFisIfDet3 (new.port port.0)
+  reset_fresh : (accesses : List Access) (old new : Device) → LastSctlWritesResetLink port accesses → DoesAll accesses old new → NoDiskComes port.0 old new → HasFirstFisIfDet3 (new.port port.0)
   reset_fresh accesses old new r does none =
       let rest = r.between ++ (Writing (Px port Sctl) r.end_of_comreset_value ∷ r.later) in
       let x = split r.before (Writing (Px port Sctl) r.comreset_value ∷ rest) old new (subst (λ (list : List Access). DoesAll list old new) r.accesses_are_split does) in
@@ -65,7 +65,7 @@ module _ (laws : PrerequisiteLaws) (port : Port) where
   fresh_or_gone : (p : DevicePort) → HasFirstFisIfDet3 p → HasFirstFisOrNoDevice p
   fresh_or_gone p fresh = ⊎_elim (λ (shows : p.ssts_det ≡ 3). inl (fresh shows)) (λ (gone : p.ssts_det ≢ 3). inr gone) (cases_eq p.ssts_det 3)
 
-  pub reset_fresh_or_gone : (accesses : List Access) (old new : Device) → ResetsLink port accesses → DoesAll accesses old new → NoDiskComes port.0 old new → HasFirstFisOrNoDevice (new.port port.0)
+  pub reset_fresh_or_gone : (accesses : List Access) (old new : Device) → LastSctlWritesResetLink port accesses → DoesAll accesses old new → NoDiskComes port.0 old new → HasFirstFisOrNoDevice (new.port port.0)
   reset_fresh_or_gone accesses old new r does none = fresh_or_gone (new.port port.0) (reset_fresh accesses old new r does none)
 
   -- a device that showed, and shows no more, has gone

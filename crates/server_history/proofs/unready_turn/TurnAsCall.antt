@@ -21,8 +21,8 @@ use Rattle.block_machine.specs.Events.{ShowsDisk}
 use Rattle.block_machine.specs.Ports.{Evidence, IsStoppedOrStuck}
 use Rattle.block_machine.specs.State.{Machine}
 use Rattle.driver_history.specs.Histories.{IsForeignOrUnfit, HasFirstFisOrNoDevice, ProbesDisk}
-use Rattle.driver_history.specs.AccessTrace.{ResetsLink}
-use Rattle.driver_history.specs.PortTurn.{ForeignOrUnfitShowingXEndsNoLinkDue}
+use Rattle.driver_history.specs.AccessTrace.{LastSctlWritesResetLink}
+use Rattle.driver_history.specs.PortTurn.{UnusableWithXEndsNotDueAbsentOrDeadIfNoneComes}
 use Rattle.error_recovery.specs.Evidence.{GainsSinceStart, HidesNoTrouble}
 use Rattle.error_recovery.specs.declared.Next.{Next}
 use Rattle.error_recovery.specs.declared.Next.TheVariants as next
@@ -143,7 +143,7 @@ module _ (laws : PrerequisiteLaws) (s new : ServerState) (seen : Device) (port :
     booted : Booted
     same : booted.found ≡ b.found
     boots : RebootsPort (wanted_of s.wanted port.0) port booted b.probes_anew.stopped new.device
-    resets : ResetsLink port made
+    resets : LastSctlWritesResetLink port made
     shows : ShowsDisk (state_of booted.found) ⊎ ((ports_of then).state port ≡ Absent)
 
   state_then : (ports_of then).state port ≡ state_of b.found
@@ -152,7 +152,7 @@ module _ (laws : PrerequisiteLaws) (s new : ServerState) (seen : Device) (port :
   finds : ((ports_of then).state port ≡ DeadState) ⊎ FindsSome
   finds = by b.probes_anew.result.next refl b.probes_anew.is_probed_anew
     where
-      reset : (token : Stopped) → b.probes_anew.result.next ≡ next.Restart token → b.found ≢ Unready DeadState → ResetsLink port made
+      reset : (token : Stopped) → b.probes_anew.result.next ≡ next.Restart token → b.found ≢ Unready DeadState → LastSctlWritesResetLink port made
       reset token so alive =
           let late = afterwards laws s new seen port state k is lives looks b in
           resets_since port looks.is_driven.accesses (b.probes_anew.stops_for_reset.handling.accesses ++ late.driven.accesses) (resets_since port b.probes_anew.stops_for_reset.handling.accesses late.driven.accesses
@@ -204,7 +204,7 @@ module _ (laws : PrerequisiteLaws) (s new : ServerState) (seen : Device) (port :
   since : (f : FindsSome) → ShowsDisk (state_of f.booted.found) → NoDiskComes port.0 s.device new.device → NoDiskComes port.0 f.boots.device_after_survey new.device
   since f shows comes = let x = sees f shows in (none_parts laws port s.device f.boots.device_after_survey new.device x.before x.since comes).1
 
-  boot_linked : (m : Machine) → ForeignOrUnfitShowingXEndsNoLinkDue port (joint_state_of s m) (ports_of then) new.device
+  boot_linked : (m : Machine) → UnusableWithXEndsNotDueAbsentOrDeadIfNoneComes port (joint_state_of s m) (ports_of then) new.device
   boot_linked m bad came comes = ⊎_elim
       (λ dead. inr (inl dead))
       (λ f. ⊎_elim (λ shows. inr (inr ((clear f shows).undue (since f shows comes)))) (λ absent. inl absent) f.shows)

@@ -16,9 +16,9 @@ use Rattle.adapter.specs.Device.{Device}
 use Rattle.adapter.specs.declared.access.DeviceStep.{DeviceStep}
 use Rattle.adapter.specs.Rules.{IsOn}
 use Rattle.refinement.specs.Relation.{port_at}
-use Rattle.refinement.specs.Fragments.{IsDrivenBy, SparesOtherPorts}
+use Rattle.refinement.specs.Fragments.{IsDrivenBy, AccessesNoOtherPort}
 use Rattle.refinement.specs.Slots.{IsMove, ServesRequest}
-use Rattle.block_machine.specs.Events.{AbstractCall, AnswersAndWaitsLawful, AreStepsOfCall, IsIssuedIn, AbstractState, Replied, ShowsDisk, IsIssuedInBook, changes_disk, issues_id}
+use Rattle.block_machine.specs.Events.{AbstractCall, AnswersLawfulAndWaitsOnStoppedPorts, AreStepsOfCall, IsIssuedIn, AbstractState, Replied, ShowsDisk, IsIssuedInBook, changes_disk, issues_id}
 use Rattle.block_machine.specs.Histories.{JointState, IsReachable}
 use Rattle.block_machine.specs.Expected.{after}
 use Rattle.block_machine.specs.Ports.{Evidence, RequestFault, Ports, SameSerialAndSize, SamePort}
@@ -109,7 +109,7 @@ module _ (plan : Plan) (laws : PrerequisiteLaws) (s : ServerState) (start : Inva
     silent_or_ready : (state_at n ≡ ReadyState) ⊎ ((x.evidence.faults ≡ []) × (x.evidence.lost ≡ []))
     silent_or_ready = ready_or_silent plan (probe_result_of s.probe_results n) n (port_at n) part.accesses c mid m x.evidence x.steps takes x.requeues_and_aborts_fit_turn
 
-    its_driven : IsDrivenBy (SparesOtherPorts (port_at n)) c.device mid.device
+    its_driven : IsDrivenBy (AccessesNoOtherPort (port_at n)) c.device mid.device
     its_driven = record { accesses = part.accesses; all_are_done = part.accesses_are_done; accesses_are_of_kind = part.accesses_are_of_port }
 
     on_mid : IsOn mid.device
@@ -127,7 +127,7 @@ module _ (plan : Plan) (laws : PrerequisiteLaws) (s : ServerState) (start : Inva
 
     -- the turn's accesses are of another port then
     of_other : (q : Port) → q.0 ≢ n → All (KeepsToAnotherPort q) part.accesses
-    of_other q ne = All-weaker (SparesOtherPorts (port_at n)) (KeepsToAnotherPort q) (λ access of. (port_at n, ne, of)) part.accesses part.accesses_are_of_port
+    of_other q ne = All-weaker (AccessesNoOtherPort (port_at n)) (KeepsToAnotherPort q) (λ access of. (port_at n, ne, of)) part.accesses part.accesses_are_of_port
 
     same_n : SamePort old.ports (ports_of c) (port_at n)
     same_n = subst (λ (ports : Ports). SamePort ports (ports_of c) (port_at n)) (sym ports_are) (same_at s c (port_at n) (p.found (port_at n) not_yet) (p.remembered (port_at n) not_yet) (p.modes (port_at n) not_yet))
@@ -275,7 +275,7 @@ module _ (plan : Plan) (laws : PrerequisiteLaws) (s : ServerState) (start : Inva
 
     -- ---- what is lawful
 
-    joined_lawful : AnswersAndWaitsLawful old evidence (ports_of mid) all
+    joined_lawful : AnswersLawfulAndWaitsOnStoppedPorts old evidence (ports_of mid) all
     joined_lawful = lawful_join old evidence (ports_of mid) x.steps p.steps
         (lawful_on (abstract_state_of c m) old x.evidence evidence (ports_of mid) (ports_of mid) x.steps
         (λ e o here.

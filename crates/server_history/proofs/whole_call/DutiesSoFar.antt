@@ -15,7 +15,7 @@ use Rattle.adapter.specs.Access.Access.{Loading, Reading, Storing, Writing}
 use Rattle.adapter.specs.Device.{Device}
 use Rattle.adapter.specs.Rules.{IsOn}
 use Rattle.refinement.specs.Relation.{port_at}
-use Rattle.refinement.specs.Fragments.{SparesOtherPorts}
+use Rattle.refinement.specs.Fragments.{AccessesNoOtherPort}
 use Rattle.refinement.specs.PreservedParts.{DoesNotWrite}
 use Rattle.block_machine.specs.Events.{AbstractState}
 use Rattle.block_machine.specs.Histories.{JointState, IsReachable}
@@ -24,12 +24,12 @@ use Rattle.block_machine.specs.Ports.{Evidence, Ports, SameSerialAndSize, SamePo
 use Rattle.block_machine.specs.State.{Machine, Pending}
 use Rattle.block_machine.specs.Steps.{Step, WaitAgain, Answer}
 use Rattle.driver_history.specs.PortTurn.{KeepsToAnotherPort, EvidenceAgreesOn}
-use Rattle.driver_history.specs.AccessTrace.{StaysInDriverFrames, UsesPortsAndNotGhc, WritesNeitherCmdNorSctl, ResetsLink}
+use Rattle.driver_history.specs.AccessTrace.{StaysInDriverFrames, UsesPortsAndNotGhc, WritesNeitherCmdNorSctl, LastSctlWritesResetLink}
 use Rattle.host_boot.specs.TakeOver.{probe_result_of}
 use Rattle.host_boot.specs.declared.ProbeResult.{ProbeResult}
 use Rattle.server_history.specs.Prerequisites.{PrerequisiteLaws}
 use Rattle.server_history.specs.ServerState.{ServerState, MachineRelation, InvariantWithNoneDue, is_served, ports_of, state_of}
-use Rattle.server_history.specs.Turns.{RestingInTick, IsPortTurn, InRestart, SimulatesTurn, RequeuesAndAbortsFitTurn, RestartsPort, TurnCorresponds}
+use Rattle.server_history.specs.Turns.{RestingInTick, IsPortTurn, InRestart, SimulatesTurn, RequeuesAndAbortsFitTurn, RestartsPort, CorrespondsOrHandlesErrorsByTurn}
 use Rattle.server_history.proofs.whole_call.EarlierResults as carrying
 use Rattle.server_history.proofs.any_turn.JoinedParts.{ready_or_not, same_then}
 use Rattle.server_history.proofs.whole_call.TurnResults as lifting
@@ -44,7 +44,7 @@ use Rattle.server_history.proofs.unready_turn.UnfitPort.{ready_fits}
 -- ---- accesses
 
 -- the link was reset among more accesses, of which the others leave it
-resets_then : (port : Port) (early late : List Access) → All (DoesNotWrite (Px port Sctl)) late → ResetsLink port early → ResetsLink port (early ++ late)
+resets_then : (port : Port) (early late : List Access) → All (DoesNotWrite (Px port Sctl)) late → LastSctlWritesResetLink port early → LastSctlWritesResetLink port (early ++ late)
 resets_then port early late spares r = record {
   before = r.before;
   between = r.between;
@@ -60,7 +60,7 @@ resets_then port early late spares r = record {
   sctl_is_unwritten_later = All-append (DoesNotWrite (Px port Sctl)) r.later late r.sctl_is_unwritten_later spares;
 }
 
-resets_since : (port : Port) (early late : List Access) → ResetsLink port late → ResetsLink port (early ++ late)
+resets_since : (port : Port) (early late : List Access) → LastSctlWritesResetLink port late → LastSctlWritesResetLink port (early ++ late)
 resets_since port early late r = record {
   before = early ++ r.before;
   between = r.between;
@@ -76,13 +76,13 @@ resets_since port early late r = record {
 
 -- a turn's accesses serve ports that the call uses
 module _ (laws : PrerequisiteLaws) (n : ℕ) where
-  of_such : (Such : Port → Type 0) → Such (port_at n) → (list : List Access) → All (SparesOtherPorts (port_at n)) list → All StaysInDriverFrames list → All (UsesPortsAndNotGhc Such) list
+  of_such : (Such : Port → Type 0) → Such (port_at n) → (list : List Access) → All (AccessesNoOtherPort (port_at n)) list → All StaysInDriverFrames list → All (UsesPortsAndNotGhc Such) list
   of_such Such its [] of own = All-nil (UsesPortsAndNotGhc Such)
   of_such Such its (access ∷ list) of own = All-cons (UsesPortsAndNotGhc Such) access list
-      (one access (All-head (SparesOtherPorts (port_at n)) access list of) (All-head StaysInDriverFrames access list own))
-      (of_such Such its list (All-tail (SparesOtherPorts (port_at n)) access list of) (All-tail StaysInDriverFrames access list own))
+      (one access (All-head (AccessesNoOtherPort (port_at n)) access list of) (All-head StaysInDriverFrames access list own))
+      (of_such Such its list (All-tail (AccessesNoOtherPort (port_at n)) access list of) (All-tail StaysInDriverFrames access list own))
     where
-      one : (access : Access) → SparesOtherPorts (port_at n) access → StaysInDriverFrames access → UsesPortsAndNotGhc Such access
+      one : (access : Access) → AccessesNoOtherPort (port_at n) access → StaysInDriverFrames access → UsesPortsAndNotGhc Such access
       one (Reading (Px at r) v) of own = (own, tt, subst Such (sym of) its)
       one (Reading r v) of own = (own, tt, tt)
       one (Writing (Px at r) v) of own = (own, laws.one_port_spares_ghc (port_at n) (Writing (Px at r) v) of, subst Such (sym of) its)
@@ -160,8 +160,8 @@ module _ (hung : ℕ → Bool) (laws : PrerequisiteLaws) (s : ServerState) (star
           r : RestartsPort (port_at n) part.accesses c mid m x.evidence x.steps
           r = (subst (λ (b : Bool). RequeuesAndAbortsFitTurn (if b then InRestart else RestingInTick) (port_at n) part.accesses c mid m x.evidence x.steps) so x.requeues_and_aborts_fit_turn).0
 
-          ties : TurnCorresponds InRestart (port_at n) its part.accesses c mid m x.evidence x.steps
-          ties = subst (λ (b : Bool). TurnCorresponds (if b then InRestart else RestingInTick) (port_at n) its part.accesses c mid m x.evidence x.steps) so x.turn_corresponds
+          ties : CorrespondsOrHandlesErrorsByTurn InRestart (port_at n) its part.accesses c mid m x.evidence x.steps
+          ties = subst (λ (b : Bool). CorrespondsOrHandlesErrorsByTurn (if b then InRestart else RestingInTick) (port_at n) its part.accesses c mid m x.evidence x.steps) so x.turn_corresponds
 
       rested : hung n ≡ false → HasRested old (port_at n) accesses mid evidence all
       rested not_so = record {
@@ -205,7 +205,7 @@ module _ (hung : ℕ → Bool) (laws : PrerequisiteLaws) (s : ServerState) (star
     accesses_then = p.accesses ++ part.accesses
 
     of_others : All (KeepsToAnotherPort q) part.accesses
-    of_others = All-weaker (SparesOtherPorts (port_at n)) (KeepsToAnotherPort q) (λ access of. (port_at n, carrying.other plan laws s start old reached at ports_are n c mid before its p part m_reached q apart, of)) part.accesses part.accesses_are_of_port
+    of_others = All-weaker (AccessesNoOtherPort (port_at n)) (KeepsToAnotherPort q) (λ access of. (port_at n, carrying.other plan laws s start old reached at ports_are n c mid before its p part m_reached q apart, of)) part.accesses part.accesses_are_of_port
 
     pub still_ticked : HasTicked hung s old q accesses_then mid evidence steps_then
     still_ticked = record {

@@ -15,7 +15,7 @@ use Rattle.adapter.specs.Access.{Access}
 use Rattle.adapter.specs.Access.Access.{Reading}
 use Rattle.adapter.specs.Device.{Device}
 use Rattle.refinement.specs.Relation.{port_at}
-use Rattle.refinement.specs.Fragments.{SparesOtherPorts}
+use Rattle.refinement.specs.Fragments.{AccessesNoOtherPort}
 use Rattle.refinement.specs.PreservedParts.{DoesNotWrite}
 use Rattle.block_machine.specs.Events.{AnswersOkWhatHadEnded, ShownDiskWasInOrCame, AbstractState, IssuedOnPortAreIssuedInSteps, ShowsDisk, changes_disk, issues_id}
 use Rattle.block_machine.specs.Histories.{JointState, IsReachable}
@@ -27,7 +27,7 @@ use Rattle.host_boot.specs.TakeOver.{probe_result_of}
 use Rattle.driver_history.specs.Evidence.{ShowsLinkChange, ShowsFailure}
 use Rattle.driver_history.specs.Histories.{FindsDone}
 use Rattle.driver_history.specs.PortTurn.{HasTurnIn, KeepsToAnotherPort, EvidenceAgreesOn}
-use Rattle.driver_history.specs.AccessTrace.{UsesPortsAndNotGhc, ResetsLink}
+use Rattle.driver_history.specs.AccessTrace.{UsesPortsAndNotGhc, LastSctlWritesResetLink}
 use Rattle.driver_history.specs.PortInvariants.{EngineRuns}
 use Rattle.server_history.specs.Prerequisites.{PrerequisiteLaws}
 use Rattle.server_history.specs.Turns.{IsPortTurn, HandlesShownErrors, SimulatesTurn, abstract_state_of}
@@ -88,7 +88,7 @@ module _ (plan : Plan) (laws : PrerequisiteLaws) (s : ServerState) (start : Inva
         turn_leads_to_end = p.turn_is_taken;
         leads_to_new = part.accesses_are_done;
         earlier_are_of_others = All-nil (KeepsToAnotherPort q);
-        later_are_of_others = All-weaker (SparesOtherPorts (port_at n)) (KeepsToAnotherPort q) (λ access of. (port_at n, other, of)) part.accesses part.accesses_are_of_port;
+        later_are_of_others = All-weaker (AccessesNoOtherPort (port_at n)) (KeepsToAnotherPort q) (λ access of. (port_at n, other, of)) part.accesses part.accesses_are_of_port;
       }
 
       -- the turn answers nobody of it, and lets nobody of it wait again
@@ -178,7 +178,7 @@ module _ (plan : Plan) (laws : PrerequisiteLaws) (s : ServerState) (start : Inva
 
         pub trouble_still : (evidence : Evidence) → EvidenceAgreesOn q p.evidence evidence → SamePort (ports_of c) (ports_of mid) q
             → ((old.ports.state q ≡ ReadyState) ⊎ (state_of (probe_result_of c.probe_results q.0) ≡ ReadyState) → ShowsFailure (s.device.port q.0) ⊎ ShowsLinkChange (s.device.port q.0) → IsStoppedOrStuck p.evidence q)
-            → (state_of (probe_result_of c.probe_results q.0) ≡ ReadyState → ((s.device.port q.0).link_due ≡ false) ⊎ ResetsLink q p.accesses)
+            → (state_of (probe_result_of c.probe_results q.0) ≡ ReadyState → ((s.device.port q.0).link_due ≡ false) ⊎ LastSctlWritesResetLink q p.accesses)
             → HandlesShownErrors q p.accesses began p.evidence (ports_of c) c.device → HandlesShownErrors q accesses began evidence (ports_of mid) mid.device
         trouble_still evidence alike same stops_troubled linked did = record {
           loses_no_error = laws.calls.turn_trouble_is_calls q began old (ports_of c) (ports_of mid) mid.device p.evidence evidence kept.adapter_is_on t p.adapter_is_on same alike same_self set_since stops_troubled did.loses_no_error;

@@ -16,7 +16,7 @@ use Rattle.block_machine.specs.Ports.{Evidence, Ports}
 use Rattle.block_machine.specs.State.{Machine, Pending}
 use Rattle.block_machine.specs.Steps.{Step, WaitAgain, Answer, Issue}
 use Rattle.block_machine.specs.declared.due.QueueMode.{QueueMode}
-use Rattle.driver_history.specs.EvidenceHandling.{OnlyFailedPortsRequeueAbortRevokeOrFault}
+use Rattle.driver_history.specs.EvidenceHandling.{OnlyPortsShowingErrorRequeueAbortRevokeFault}
 use Rattle.driver_history.specs.Evidence.{IsEndedReset, IsEvidencedOf}
 use Rattle.driver_history.specs.Histories.{IsServedAndNotDead}
 use Rattle.host_boot.specs.declared.ProbeResult.{ProbeResult}
@@ -76,7 +76,7 @@ Uses (ATick hung) ports port = (ports.state port ≡ ReadyState) × (hung port.0
 
 -- what it owes by its evidence
 abbrev pub OwesBy : Plan → Evidence → List Step → Type 0
-OwesBy AService evidence steps = OnlyFailedPortsRequeueAbortRevokeOrFault evidence steps
+OwesBy AService evidence steps = OnlyPortsShowingErrorRequeueAbortRevokeFault evidence steps
 OwesBy (ATick hung) evidence steps = evidence.faults ≡ []
 
 pub owes_nothing : (plan : Plan) → OwesBy plan no_evidence []
@@ -153,7 +153,7 @@ owes_join AService found n port accesses old new m early its steps late so_far t
     (grounded_on its (joined early its) (λ q there. Contains-append_right early.showing_error its.showing_error q there) late (by found turn))
     (grounded_on early (joined early its) (λ q there. Contains-append_left early.showing_error its.showing_error q there) steps so_far)
   where
-    by : (was : ProbeResult) → RequeuesAndAbortsFitTurn (turn_at AService was n) port accesses old new m its late → OnlyFailedPortsRequeueAbortRevokeOrFault its late
+    by : (was : ProbeResult) → RequeuesAndAbortsFitTurn (turn_at AService was n) port accesses old new m its late → OnlyPortsShowingErrorRequeueAbortRevokeFault its late
     by (Ready info) o = o
     by (Unready state) o = o.0
     by Unserved o = o.0

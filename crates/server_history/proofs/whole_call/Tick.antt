@@ -22,10 +22,10 @@ use Rattle.adapter.specs.Device.{Device}
 use Rattle.adapter.specs.declared.access.DeviceStep.{DeviceStep}
 use Rattle.adapter.specs.declared.command.Operation.TheVariants.{ReadLog}
 use Rattle.refinement.specs.Relation.{port_at}
-use Rattle.refinement.specs.Fragments.{SparesOtherPorts}
+use Rattle.refinement.specs.Fragments.{AccessesNoOtherPort}
 use Rattle.refinement.specs.PreservedParts.{DoesNotWrite}
 use Rattle.refinement.specs.Slots.{ServesRequest}
-use Rattle.block_machine.specs.Events.{AnswersAndWaitsLawful, AnswersOkWhatHadEnded, AnswersTick, TimesOutAtTick, IssueIsLastOfRequest, UnansweredKeepSerialAndSize, AbstractState, IssuedOnPortAreIssuedInSteps, RestartsTimedOut, Replied, Tick, IsIssuedInBook, answers_of, changes_disk, is_age, issues_id}
+use Rattle.block_machine.specs.Events.{AnswersLawfulAndWaitsOnStoppedPorts, AnswersOkWhatHadEnded, AnswersTick, TimesOutAtTick, IssueIsLastOfRequest, UnansweredKeepSerialAndSize, AbstractState, IssuedOnPortAreIssuedInSteps, RestartsTimedOut, Replied, Tick, IsIssuedInBook, answers_of, changes_disk, is_age, issues_id}
 use Rattle.block_machine.specs.Histories.{JointEvent, JointState, IsReachable, joint_state_after}
 use Rattle.block_machine.specs.Expected.{after}
 use Rattle.block_machine.specs.Ports.{IsStoppedOrStuck, Ports, SamePort}
@@ -93,7 +93,7 @@ module _ (laws : PrerequisiteLaws) (port : Port) (low : port.0 < 4) (c : ServerS
   resting = record {
     accesses = [];
     accesses_are_done = refl;
-    accesses_are_of_port = All-nil (SparesOtherPorts port);
+    accesses_are_of_port = All-nil (AccessesNoOtherPort port);
     accesses_are_drivers_own = All-nil StaysInDriverFrames;
     leaves_others = record {
       grants = refl;
@@ -475,7 +475,7 @@ module _ (laws : PrerequisiteLaws) (s new : ServerState) (replies : List Reply) 
         };
   }
 
-  lawful : AnswersAndWaitsLawful was p.evidence (ports_of new) steps
+  lawful : AnswersLawfulAndWaitsOnStoppedPorts was p.evidence (ports_of new) steps
   lawful = lawful_join was p.evidence (ports_of new) p.steps (Age ready ∷ [])
       (lawful_on old was p.evidence p.evidence (ports_of new) (ports_of new) p.steps
       (λ e o here l. lawful_lift old was p.evidence p.evidence (ports_of new) (ports_of new) e o (issued_before e.request.id) (λ told x. x) (λ x. x) (λ x. x) refl (λ d. d) l)

@@ -29,7 +29,7 @@ use Rattle.driver_history.specs.Evidence.{ShowsLinkChange, ShowsFailure}
 use Rattle.driver_history.specs.Histories.{BootsAnewWhereRequired, FindsDone, IsForeignOrUnfit, HasOnlyTaskFileError, IsAnsweredFaulty, IsIssuedOn, PortCorresponds}
 use Rattle.driver_history.specs.PortTurn.{HasTurnIn, EvidenceAgreesOn}
 use Rattle.server_history.specs.Prerequisites.{PrerequisiteLaws}
-use Rattle.server_history.specs.Turns.{IsPortTurn, HandlesShownErrors, ServingReady, SimulatesTurn, TurnCorresponds, Turn, joint_state_of, abstract_state_of, joint_event_of_turn}
+use Rattle.server_history.specs.Turns.{IsPortTurn, HandlesShownErrors, ServingReady, SimulatesTurn, CorrespondsOrHandlesErrorsByTurn, Turn, joint_state_of, abstract_state_of, joint_event_of_turn}
 use Rattle.server_history.specs.ServerState.{HasStoredCommand, ServerState, InCallInvariant, MachineRelation, InvariantWithNoneDue, ports_of, state_of}
 use Rattle.server_history.proofs.any_turn.JoinedParts.{same_then}
 use Rattle.server_history.proofs.whole_call.TurnResults as lifting
@@ -70,8 +70,8 @@ module _ (laws : PrerequisiteLaws) (s : ServerState) (start : InvariantWithNoneD
     is_service : turn_at AService (probe_result_of s.probe_results n) n ≡ ServingReady
     is_service = ap (λ (found : ProbeResult). turn_at AService found n) (ready_found s n kept ready).1.1
 
-    its_ties : TurnCorresponds ServingReady (port_at n) its part.accesses c mid m x.evidence x.steps
-    its_ties = subst (λ (turn : Turn). TurnCorresponds turn (port_at n) its part.accesses c mid m x.evidence x.steps) is_service x.turn_corresponds
+    its_ties : CorrespondsOrHandlesErrorsByTurn ServingReady (port_at n) its part.accesses c mid m x.evidence x.steps
+    its_ties = subst (λ (turn : Turn). CorrespondsOrHandlesErrorsByTurn turn (port_at n) its part.accesses c mid m x.evidence x.steps) is_service x.turn_corresponds
 
     low : n < 4
     low = lifting.low AService laws s start old reached at ports_are n c mid before its p next part m_reached on_mid ready

@@ -19,7 +19,7 @@ use Rattle.adapter.specs.Access.Access.{Reading}
 use Rattle.adapter.specs.Device.{Device}
 use Rattle.adapter.specs.Rules.{IsOn}
 use Rattle.refinement.specs.Relation.{port_at}
-use Rattle.refinement.specs.Fragments.{SparesOtherPorts}
+use Rattle.refinement.specs.Fragments.{AccessesNoOtherPort}
 use Rattle.refinement.specs.PreservedParts.{DoesNotWrite}
 use Rattle.refinement.specs.Slots.{IsEmptySlot, RelatesSlot, Serves, ServesRequest, IsInSomeStage, SlotState}
 use Rattle.block_machine.specs.Events.{AnswersOkWhatHadEnded, ShownDiskWasInOrCame, AbstractState, IssuedOnPortAreIssuedInSteps, changes_disk}
@@ -33,7 +33,7 @@ use Rattle.driver_history.specs.EvidenceHandling.{tells_fault}
 use Rattle.driver_history.specs.Evidence.{ShowsLinkChange, ShowsFailure}
 use Rattle.driver_history.specs.Histories.{FindsDone, IsAnsweredOk, IsIssuedOn, RunsWellAnew}
 use Rattle.driver_history.specs.PortTurn.{HasTurnIn, KeepsToAnotherPort, EvidenceAgreesOn}
-use Rattle.driver_history.specs.AccessTrace.{DoesNotWriteCmd, WritesNeitherCmdNorSctl, ResetsLink}
+use Rattle.driver_history.specs.AccessTrace.{DoesNotWriteCmd, WritesNeitherCmdNorSctl, LastSctlWritesResetLink}
 use Rattle.driver_history.specs.PortInvariants.{EngineRuns}
 use Rattle.server_history.specs.Prerequisites.{PrerequisiteLaws}
 use Rattle.server_history.specs.Turns.{FindsDoneInTurn, IsPortTurn, HandlesShownErrors, SimulatesTurn, joint_state_of, abstract_state_of}
@@ -154,7 +154,7 @@ module _ (plan : Plan) (laws : PrerequisiteLaws) (s : ServerState) (start : Inva
     set_since ready_mid i = ⊎_elim
         (λ stopped. ⊎_elim
         (λ stops. laws.calls.stopped_port_set_st_since (port_at n) part.accesses c.device mid.device p.adapter_is_on
-        (All-weaker (SparesOtherPorts (port_at n)) (DoesNotWrite Ghc) (λ access of. laws.one_port_spares_ghc (port_at n) access of) part.accesses part.accesses_are_of_port) part.accesses_are_done stops (runs_then ready_mid).st_is_set)
+        (All-weaker (AccessesNoOtherPort (port_at n)) (DoesNotWrite Ghc) (λ access of. laws.one_port_spares_ghc (port_at n) access of) part.accesses part.accesses_are_of_port) part.accesses_are_done stops (runs_then ready_mid).st_is_set)
         (λ (reset : _ × _). absurd (not_reset plan (probe_result_of s.probe_results n) n its reset.0))
         (x.is_evidenced.named_stopped_was_stopped_or_reset stopped))
         (λ stuck. ⊎_elim
@@ -166,7 +166,7 @@ module _ (plan : Plan) (laws : PrerequisiteLaws) (s : ServerState) (start : Inva
     -- what it did of trouble the call did so far
     module _ (evidence : Evidence) (alike : EvidenceAgreesOn (port_at n) x.evidence evidence) (same_n : SamePort old.ports (ports_of c) (port_at n))
         (stops_troubled : (state_of (probe_result_of c.probe_results n) ≡ ReadyState) ⊎ (state_of (probe_result_of mid.probe_results n) ≡ ReadyState) → ShowsFailure (c.device.port n) ⊎ ShowsLinkChange (c.device.port n) → IsStoppedOrStuck x.evidence (port_at n))
-        (linked : state_of (probe_result_of mid.probe_results n) ≡ ReadyState → ((s.device.port n).link_due ≡ false) ⊎ ResetsLink (port_at n) part.accesses) (did : HandlesShownErrors (port_at n) part.accesses (joint_state_of c m) x.evidence (ports_of mid) mid.device) where
+        (linked : state_of (probe_result_of mid.probe_results n) ≡ ReadyState → ((s.device.port n).link_due ≡ false) ⊎ LastSctlWritesResetLink (port_at n) part.accesses) (did : HandlesShownErrors (port_at n) part.accesses (joint_state_of c m) x.evidence (ports_of mid) mid.device) where
       same_self : SamePort (ports_of mid) (ports_of mid) (port_at n)
       same_self = (refl, refl, refl, refl, refl, refl)
 

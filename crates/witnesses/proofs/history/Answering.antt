@@ -17,7 +17,7 @@ use Rattle.refinement.specs.Driver.{TapeBacksSteps}
 use Rattle.refinement.specs.ReadWitness.{first_id}
 use Rattle.block_machine.specs.Histories.{JointEvent}
 use Rattle.block_machine.specs.Events.{ShownDiskWasInOrCame, Happens, Service, Replied}
-use Rattle.block_machine.specs.Ports.{PortsWellFormed, IsStoppedOrStuck, IsServiced, SamePort}
+use Rattle.block_machine.specs.Ports.{PortsWellFormed, IsStoppedOrStuck, ChangesOnlyIfStoppedOrStuck, SamePort}
 use Rattle.block_machine.specs.State.{Pending}
 use Rattle.block_machine.specs.Steps.{Step, End, Answer, Unplug}
 use Rattle.identify.specs.declared.wanted.Wanted.TheVariants.{Any}
@@ -36,7 +36,7 @@ use Rattle.driver_history.specs.Evidence.{TapeGainsEntry, IsEvidencedOf, ShowedL
 use Rattle.driver_history.specs.Histories.{FindsDone, IsIssuedOn, CallCorresponds, PortCorresponds, BootsAnewWhereRequired, LosesNoPortError, RunsWellAnew, IsServedAndNotDead}
 use Rattle.driver_history.specs.AccessTrace.{DoesNotWriteCmd}
 use Rattle.port_control.specs.Engines.{Stops}
-use Rattle.witnesses.specs.Loss.{completing_turn, losing_turn, loss_evidence, LossIsAHistory}
+use Rattle.witnesses.specs.Loss.{completing_turn, losing_turn, port_1_loss_evidence, LossIsAHistory}
 use Rattle.witnesses.proofs.history.Holding.{IsUnnamed, named, named_is, no_slots, tries_ready, unnamed_evidenced, IsCalm, no_trouble}
 use Rattle.witnesses.proofs.history.Command.{read_memory}
 use Rattle.witnesses.proofs.history.Devices.{does_append, IsOf, leaves, no_bit, serving, WritesOf, AreServing}
@@ -81,7 +81,7 @@ reply = record { id = first_id; client = asked.client; outcome = outcome.Ok }
 
 abbrev service : JointEvent Device DeviceStep
 service = record {
-  event = record { call = Service; result = Replied (reply ∷ []); evidence = loss_evidence; steps = service_steps; ports = one };
+  event = record { call = Service; result = Replied (reply ∷ []); evidence = port_1_loss_evidence; steps = service_steps; ports = one };
   device = lost;
 }
 
@@ -107,7 +107,7 @@ only_ok e o here =
 not_unplugged : (e : Pending) → Contains service_steps (Answer e outcome.Unplugged) → ⊥
 not_unplugged e here = let x : outcome.Unplugged ≡ outcome.Ok = only_ok e outcome.Unplugged here in cc
 
-becomes : (n : ℕ) → IsServiced both loss_evidence one (port_at n)
+becomes : (n : ℕ) → ChangesOnlyIfStoppedOrStuck both port_1_loss_evidence one (port_at n)
 becomes n = (
   λ is. absurd (not_dead n is),
   λ _. (
@@ -120,7 +120,7 @@ becomes n = (
   ),
 )
   where
-    changes : (n : ℕ) → SamePort both one (port_at n) ⊎ IsStoppedOrStuck loss_evidence (port_at n)
+    changes : (n : ℕ) → SamePort both one (port_at n) ⊎ IsStoppedOrStuck port_1_loss_evidence (port_at n)
     changes zero = inl (refl, refl, refl, refl, refl, refl)
     changes (suc zero) = inr (inl (named 1))
     changes (suc (suc n)) = inl (refl, refl, refl, refl, refl, refl)
@@ -207,7 +207,7 @@ gains = record {
 }
 
 -- a port but for the second one isn't named
-unnamed : (n : ℕ) → n ≢ 1 → IsUnnamed loss_evidence (port_at n)
+unnamed : (n : ℕ) → n ≢ 1 → IsUnnamed port_1_loss_evidence (port_at n)
 unnamed n ne = record {
   lost = λ h. ne (named_is 1 n h);
   gone = λ h. ne (named_is 1 n h);
@@ -217,12 +217,12 @@ unnamed n ne = record {
   stuck = nowhere (port_at n);
 }
 
-apart_evidenced : (n : ℕ) → n ≢ 1 → IsEvidencedOf Service (Replied (reply ∷ [])) turns submitted_at one lost loss_evidence (port_at n)
-apart_evidenced n ne = unnamed_evidenced Service (Replied (reply ∷ [])) turns submitted_at one lost loss_evidence (port_at n) (unnamed n ne)
+apart_evidenced : (n : ℕ) → n ≢ 1 → IsEvidencedOf Service (Replied (reply ∷ [])) turns submitted_at one lost port_1_loss_evidence (port_at n)
+apart_evidenced n ne = unnamed_evidenced Service (Replied (reply ∷ [])) turns submitted_at one lost port_1_loss_evidence (port_at n) (unnamed n ne)
     (calm submitted.tape read_memory issued refl refl refl (λ place from. refl) lost n)
     (leaves (IsOf (port_at 1)) (port_at n) (λ is. ne (ap (λ (p : Port). p.0) is)) (λ is. ne (ap (λ (p : Port). p.0) is)) turns of_second)
 
-service_evidenced : (n : ℕ) → IsEvidencedOf Service (Replied (reply ∷ [])) turns submitted_at one lost loss_evidence (port_at n)
+service_evidenced : (n : ℕ) → IsEvidencedOf Service (Replied (reply ∷ [])) turns submitted_at one lost port_1_loss_evidence (port_at n)
 service_evidenced zero = apart_evidenced 0 (omega arith)
 service_evidenced (suc zero) =
     let quiet = calm submitted.tape read_memory issued refl refl refl (λ place from. refl) lost 1 refl in
@@ -254,7 +254,7 @@ service_finds : (n : ℕ) (e : Pending) → IsIssuedOn (port_at n) issuing e →
 service_finds zero e on = done_there
 service_finds (suc n) e on = absurd (none_there 0 n e on)
 
-heeds : (n : ℕ) → both.state (port_at n) ≡ Ready → ServicesReadyPort submitted_at.abstract loss_evidence service_steps lost_at.abstract (port_at n)
+heeds : (n : ℕ) → both.state (port_at n) ≡ Ready → ServicesReadyPort submitted_at.abstract port_1_loss_evidence service_steps lost_at.abstract (port_at n)
 heeds zero is = record {
   answers_ok_what_had_ended = λ e here at_port done. absurd (not_ended 0 e here done);
   link_change_leaves_none = λ g e here. absurd (nowhere e here);
@@ -301,8 +301,8 @@ gained_calm n ne =
     (All-cons (IsCalm n) (done_entry 0 0 operation.Read) (entry.Unplug (port_at 1) ∷ []) (λ x. x, λ x. x, λ x. x)
     (All-cons (IsCalm n) (entry.Unplug (port_at 1)) [] (λ x. x, λ x. x, λ (is : 1 ≡ n). ne (sym is)) (All-nil (IsCalm n))))
 
-port_error : (n : ℕ) → LosesNoPortError loss_evidence submitted_at one lost (port_at n)
-port_error zero = no_trouble loss_evidence submitted_at one lost (port_at 0) gained refl (gained_calm 0 (omega arith)) (served_ready 0) (quiet 0)
+port_error : (n : ℕ) → LosesNoPortError port_1_loss_evidence submitted_at one lost (port_at n)
+port_error zero = no_trouble port_1_loss_evidence submitted_at one lost (port_at 0) gained refl (gained_calm 0 (omega arith)) (served_ready 0) (quiet 0)
 port_error (suc zero) = record {
   ready_errors_are_handled_or_shown = λ ready why. inl (inl (named 1));
   changes_are_handled_or_shown_unless_dead = λ tends why. inl (inl (named 1));
@@ -310,10 +310,10 @@ port_error (suc zero) = record {
   ready_shows_fatal_since_start = λ ready. absurd (let x : Absent ≡ Ready = ready in cc);
   ready_shows_plug_event_since_start = λ ready. absurd (let x : Absent ≡ Ready = ready in cc);
 }
-port_error (suc (suc n)) = no_trouble loss_evidence submitted_at one lost (port_at (suc (suc n))) gained refl (gained_calm (suc (suc n)) (omega arith)) (served_ready (suc (suc n))) (quiet (suc (suc n)))
+port_error (suc (suc n)) = no_trouble port_1_loss_evidence submitted_at one lost (port_at (suc (suc n))) gained refl (gained_calm (suc (suc n)) (omega arith)) (served_ready (suc (suc n))) (quiet (suc (suc n)))
 
 -- the port that was stopped isn't ready, and no other was stopped
-well : (n : ℕ) → RunsWellAnew loss_evidence turns submitted_at one lost (port_at n)
+well : (n : ℕ) → RunsWellAnew port_1_loss_evidence turns submitted_at one lost (port_at n)
 well zero = λ why. absurd (⊎_elim (unnamed 0 (omega arith)).stopped (unnamed 0 (omega arith)).stuck why)
 well (suc zero) = λ why ready. absurd (let x : Absent ≡ Ready = ready in cc)
 well (suc (suc n)) = λ why. absurd (⊎_elim (unnamed (suc (suc n)) (omega arith)).stopped (unnamed (suc (suc n)) (omega arith)).stuck why)

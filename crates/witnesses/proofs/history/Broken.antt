@@ -10,14 +10,14 @@ use Rattle.adapter.specs.declared.access.DeviceStep.{DeviceStep}
 use Rattle.refinement.specs.Relation.{port_at}
 use Rattle.block_machine.specs.Events.{ShownDiskWasInOrCame, Happens, Replied, Service}
 use Rattle.block_machine.specs.Histories.{JointEvent}
-use Rattle.block_machine.specs.Ports.{IsStoppedOrStuck, IsServiced, SamePort}
+use Rattle.block_machine.specs.Ports.{IsStoppedOrStuck, ChangesOnlyIfStoppedOrStuck, SamePort}
 use Rattle.block_machine.specs.State.{Pending}
 use Rattle.block_machine.specs.Steps.{Step, Answer}
 use Rattle.identify.specs.declared.wanted.Wanted.TheVariants.{Any}
 use Rattle.driver_history.specs.EvidenceHandling.{ServicesReadyPort}
 use Rattle.driver_history.specs.Histories.{BootsAnewWhereRequired, FindsDone, IsIssuedOn, IsServedAndNotDead, CallCorresponds, PortCorresponds}
 use Rattle.driver_history.specs.AccessTrace.{DoesNotWriteCmd}
-use Rattle.witnesses.specs.FatalError.{FatalErrorIsAHistory, fatal_accesses, fatal_evidence, fatal_look_accesses}
+use Rattle.witnesses.specs.FatalError.{FatalErrorIsAHistory, fatal_accesses, fatal_evidence, port_0_look_accesses_showing_ifs}
 use Rattle.witnesses.proofs.history.Accepting.{asked, both, first, issuing, submit, submit_happens, submit_parts, submit_ties, waiting, bits_set, leaves_other, none_there, not_ended, the_answer}
 use Rattle.witnesses.proofs.history.Breaking.{allowed, broken, does, outset}
 use Rattle.witnesses.proofs.history.Devices.{AreServing, serving}
@@ -41,7 +41,7 @@ restart = record {
   steps = answer ∷ [];
   machine = issuing;
   port = broken;
-  looked = fatal_look_accesses;
+  looked = port_0_look_accesses_showing_ifs;
   outset = outset;
   failed = port_at 0 ∷ [];
 }
@@ -56,7 +56,7 @@ is_restart = record {
   failed_all = λ f. named 0;
   failed_only = λ n h. (named_is 0 n h, shows_fatal);
   writes = (inl refl, (inr refl, of_first));
-  running = All-from_recursion (DoesNotWriteCmd (port_at 0)) fatal_look_accesses (tt, (λ is. cc, (λ is. cc, (tt, tt))));
+  running = All-from_recursion (DoesNotWriteCmd (port_at 0)) port_0_look_accesses_showing_ifs (tt, (λ is. cc, (λ is. cc, (tt, tt))));
   unfound = λ e slot s clear. bits_set 0 broken refl (λ k. refl) (λ k. refl) e slot s clear;
   told = λ e o here. (the_answer outcome.Unplugged e o here).1;
   own = ((tt, λ d. d), (tt, tt), λ n. refl);
@@ -65,7 +65,7 @@ is_restart = record {
 
 -- ---- the call
 
-becomes : (n : ℕ) → IsServiced both fatal_evidence one (port_at n)
+becomes : (n : ℕ) → ChangesOnlyIfStoppedOrStuck both fatal_evidence one (port_at n)
 becomes n = (λ is. absurd (not_dead n is), λ _. (may_become (port_at 0 ∷ []) n, changes n))
   where
     changes : (n : ℕ) → SamePort both one (port_at n) ⊎ IsStoppedOrStuck fatal_evidence (port_at n)
@@ -106,7 +106,7 @@ heeds (suc zero) is = leaves_other outcome.Unplugged fatal_evidence (booted_at o
 heeds (suc (suc n)) is = absurd (let x : Absent ≡ Ready = is in cc)
 
 boots : (n : ℕ) → BootsAnewWhereRequired Service (Replied replies) fatal_accesses broken_at one booted (port_at n)
-boots zero = (λ is f. inr (inr (resets fatal_look_accesses)), inr (inr (inr (resets fatal_look_accesses))))
+boots zero = (λ is f. inr (inr (resets port_0_look_accesses_showing_ifs)), inr (inr (inr (resets port_0_look_accesses_showing_ifs))))
 boots (suc zero) = (λ is f. absurd (⊎_elim (λ fatal. quiet restart is_restart 0 is (inl fatal)) (there restart is_restart 1 is) f), inl (refl, refl, refl, refl, refl, refl))
 boots (suc (suc n)) = (λ is. absurd (let x : Absent ≡ Ready = is in cc), inl (refl, refl, refl, refl, refl, refl))
 

@@ -17,7 +17,7 @@ use Rattle.refinement.specs.Slots.{ServesRequest, RelatesSlot}
 use Rattle.refinement.specs.ReadWitness.{first_id}
 use Rattle.block_machine.specs.Events.{Service, Replied, Happens}
 use Rattle.block_machine.specs.Histories.{JointEvent, JointState}
-use Rattle.block_machine.specs.Ports.{IsServiced, Ports, PortsWellFormed}
+use Rattle.block_machine.specs.Ports.{ChangesOnlyIfStoppedOrStuck, Ports, PortsWellFormed}
 use Rattle.block_machine.specs.Expected.{after}
 use Rattle.block_machine.specs.State.{Pending, Machine}
 use Rattle.block_machine.specs.Steps.{Step, Answer, NoneKept}
@@ -273,7 +273,7 @@ kept_first n ne e here is = ne (sym (sym (ap (λ (x : Pending). x.request.port.0
 not_unplugged : (e : Pending) → Contains (answer ∷ []) (Answer e outcome.Unplugged) → ⊥
 not_unplugged e here = let x : outcome.Unplugged ≡ outcome.PortDead = (the_answer outcome.PortDead e outcome.Unplugged here).1 in cc
 
-becomes : (n : ℕ) → IsServiced dead nothing dead (port_at n)
+becomes : (n : ℕ) → ChangesOnlyIfStoppedOrStuck dead nothing dead (port_at n)
 becomes zero = (λ is. (refl, refl, refl, refl, refl, refl), λ other. absurd (other refl))
 becomes (suc zero) = (λ is. (refl, refl, refl, refl, refl, refl), λ other. absurd (other refl))
 becomes (suc (suc n)) = (

@@ -21,7 +21,7 @@ use Rattle.identify.specs.declared.wanted.Wanted.TheVariants.{Any}
 use Rattle.driver_history.specs.Histories.{BootsAnewWhereRequired, FindsDone, CallCorresponds, PortCorresponds}
 use Rattle.driver_history.specs.AccessTrace.{DoesNotWriteCmd}
 use Rattle.witnesses.specs.HungPort.{HungPortIsAHistory}
-use Rattle.witnesses.specs.Restart.{lost_and_stopped_evidence, stop_and_comreset_accesses}
+use Rattle.witnesses.specs.Restart.{port_0_lost_and_stopped_evidence, stop_and_comreset_accesses}
 use Rattle.witnesses.proofs.history.Accepting.{asked, bits_set, both, first, issued_at, issued_for, not_ended, submit, submit_happens, submit_parts, submit_ties, waiting_for}
 use Rattle.witnesses.proofs.history.Aging.{ages, ages_once, hung_at, hung_first, not_hung, tick, tick_happens, tick_part, tick_ties}
 use Rattle.witnesses.proofs.history.Devices.{serving}
@@ -94,7 +94,7 @@ is_restart = record {
 
 abbrev restarting_tick : JointEvent Device DeviceStep
 restarting_tick = record {
-  event = record { call = Tick; result = Replied replies; evidence = lost_and_stopped_evidence []; steps = steps; ports = one };
+  event = record { call = Tick; result = Replied replies; evidence = port_0_lost_and_stopped_evidence []; steps = steps; ports = one };
   device = booted;
 }
 
@@ -109,23 +109,23 @@ is_hung port is = subst (TimesOutAtTick (issued_at 2).abstract) (sym is) hung
 other : (n : ℕ) → TimesOutAtTick (issued_at 2).abstract (port_at (suc n)) → ⊥
 other n h = let same = ap (λ (p : Port). p.0) (hung_first 2 (port_at (suc n)) h) in omega (arith, same)
 
-interrupted : (port : Port) → IsStoppedOrStuck (lost_and_stopped_evidence []) port → TimesOutAtTick (issued_at 2).abstract port
+interrupted : (port : Port) → IsStoppedOrStuck (port_0_lost_and_stopped_evidence []) port → TimesOutAtTick (issued_at 2).abstract port
 interrupted port (inl h) = is_hung port (ap port_at (named_is 0 port.0 h))
 interrupted port (inr h) = absurd (nowhere port h)
 
 -- it becomes what a restart may make of it, and the others stay as they are
-becomes : (n : ℕ) → ((TimesOutAtTick (issued_at 2).abstract (port_at n) → ⊥) × SamePort both one (port_at n)) ⊎ (TimesOutAtTick (issued_at 2).abstract (port_at n) × MayBecome both (lost_and_stopped_evidence []) one (port_at n))
+becomes : (n : ℕ) → ((TimesOutAtTick (issued_at 2).abstract (port_at n) → ⊥) × SamePort both one (port_at n)) ⊎ (TimesOutAtTick (issued_at 2).abstract (port_at n) × MayBecome both (port_0_lost_and_stopped_evidence []) one (port_at n))
 becomes zero = inr (hung, may_become [] 0)
 becomes (suc n) = inl (other n, others_same n)
 
-restarts_hung : RestartsTimedOut (issued_at 2).abstract (lost_and_stopped_evidence []) steps (booted_at outset).abstract
+restarts_hung : RestartsTimedOut (issued_at 2).abstract (port_0_lost_and_stopped_evidence []) steps (booted_at outset).abstract
 restarts_hung = record {
   each_port_is_same_or_restarts = λ port. becomes port.0;
   only_timed_out_wait_again = λ e here. absurd (unrepeated e here);
   only_timed_out_are_answered = λ e o here. is_hung e.request.port (answers_first e o here);
   answers_ok_what_had_ended = λ port h e here at_port ended. absurd (not_ended 2 e here ended);
   issued_are_issued_in_steps = λ port h e here. absurd (nowhere e here);
-  timed_out_iff_stopped_or_stuck = λ port. (λ h. subst (IsStoppedOrStuck (lost_and_stopped_evidence [])) (sym (hung_first 2 port h)) (inl (named 0)), interrupted port);
+  timed_out_iff_stopped_or_stuck = λ port. (λ h. subst (IsStoppedOrStuck (port_0_lost_and_stopped_evidence [])) (sym (hung_first 2 port h)) (inl (named 0)), interrupted port);
   unplugged_lost_disk = λ e here. (not_dead_then e.request.port.0, λ ready. absurd (not_ready_first e.request.port (answers_first e outcome.Unplugged here) ready));
   shown_disk_was_in_or_came = λ port h shows. inl (subst (λ (p : Port). (issued_for 2).present p ≡ true) (sym (hung_first 2 port h)) refl);
 }

@@ -21,7 +21,7 @@ use Rattle.refinement.specs.Slots.{IsEmptySlot}
 use Rattle.block_machine.specs.Events.{AnswersService, StepDevice, ShownDiskWasInOrCame, Happens, Replied, Service, Stepped}
 use Rattle.block_machine.specs.Histories.{JointEvent, JointState}
 use Rattle.block_machine.specs.Expected.{after}
-use Rattle.block_machine.specs.Ports.{PortsWellFormed, Evidence, IsStoppedOrStuck, IsServiced, Ports, SamePort}
+use Rattle.block_machine.specs.Ports.{PortsWellFormed, Evidence, IsStoppedOrStuck, ChangesOnlyIfStoppedOrStuck, Ports, SamePort}
 use Rattle.block_machine.specs.State.{Machine}
 use Rattle.block_machine.specs.Steps.{Answer, Step, Unplug}
 use Rattle.host_boot.specs.TakeOver.{wanted_of}
@@ -30,7 +30,7 @@ use Rattle.port_control.specs.Engines.{Stops}
 use Rattle.driver_history.specs.Evidence.{TapeGainsEntry, IsEvidencedOf, ShowsLinkChange}
 use Rattle.driver_history.specs.Histories.{IsForeignOrUnfit, IsServedAndNotDead, CallCorresponds, PortCorresponds, ProbesDisk}
 use Rattle.driver_history.specs.PortInvariants.{PortStateInvariant}
-use Rattle.driver_history.specs.AccessTrace.{DoesNotWriteCmd, WritesNeitherCmdNorSctl, ResetsLink}
+use Rattle.driver_history.specs.AccessTrace.{DoesNotWriteCmd, WritesNeitherCmdNorSctl, LastSctlWritesResetLink}
 use Rattle.witnesses.specs.RunningAdapter.{port_or_empty, ports_with_disks}
 use Rattle.witnesses.specs.MissingDisk.{MissingDiskIsAHistory, unfit_look_accesses, missing_disk_turn}
 use Rattle.witnesses.proofs.history.Accepting.{first, submit, submit_happens, submit_ties}
@@ -115,7 +115,7 @@ same_past : (n : ℕ) → SamePort unfit_ports one_absent (port_at (suc n))
 same_past zero = (refl, refl, refl, refl, refl, refl)
 same_past (suc n) = (refl, refl, refl, refl, refl, refl)
 
-becomes : (n : ℕ) → IsServiced unfit_ports evidence one_absent (port_at n)
+becomes : (n : ℕ) → ChangesOnlyIfStoppedOrStuck unfit_ports evidence one_absent (port_at n)
 becomes n = (
   λ is. absurd (not_dead n is),
   λ _. (record { served_is_unchanged = refl; dead_exactly_if_stuck = (λ is. absurd (not_dead_then n is), λ h. absurd (nowhere (port_at n) h)); disk_is_remembered_unless_ready = λ is. (refl, refl) }, changes n),
@@ -371,7 +371,7 @@ service_part n = record {
   handles_evidence = λ ready. absurd (not_ready n ready);
 }
   where
-    boots : (n : ℕ) → SamePort unfit_ports one_absent (port_at n) ⊎ ((one_absent.state (port_at n) ≡ Dead) ⊎ ((one_absent.state (port_at n) ≡ Absent) ⊎ ResetsLink (port_at n) (missing_disk_turn ++ unfit_look_accesses)))
+    boots : (n : ℕ) → SamePort unfit_ports one_absent (port_at n) ⊎ ((one_absent.state (port_at n) ≡ Dead) ⊎ ((one_absent.state (port_at n) ≡ Absent) ⊎ LastSctlWritesResetLink (port_at n) (missing_disk_turn ++ unfit_look_accesses)))
     boots zero = inr (inr (inl refl))
     boots (suc n) = inl (same_past n)
 

@@ -21,7 +21,7 @@ use Rattle.block_machine.specs.Steps.{NoneKept}
 use Rattle.driver_history.specs.Evidence.{ShowsFailure, ShowedLinkChangeOrNoDeviceAndNoneCame}
 use Rattle.driver_history.specs.Histories.{HasDriverInvariantAeAndIe}
 use Rattle.driver_history.specs.PortInvariants.{ReadySlotsInvariant, PortStateInvariant, DriverInvariantWith, IsReadyAt, mode_of_disk}
-use Rattle.host_boot.specs.TakeOver.{IsServed, wanted_of}
+use Rattle.host_boot.specs.TakeOver.{IsWantedAndImplemented, wanted_of}
 use Rattle.identify.specs.declared.wanted.Wanted.TheVariants.{Any, Nothing}
 use Rattle.port_control.specs.Ports.{programmed_bases}
 pub use Rattle.witnesses.proofs.history.Client.{client, frame, granted, its_row, row, start, starts, two_rows}
@@ -141,10 +141,10 @@ fit_ready disk = record {
     no_cause (suc zero) cause is = let x : Ready ≡ Unfit cause = is in cc
     no_cause (suc (suc n)) cause is = let x : Absent ≡ Unfit cause = is in cc
 
-pub served_of : (tape : List Entry) (memory : ℕ → ℕ) (ports : List DevicePort) (n : ℕ) → (two_served (port_at n) ≡ true) ↔ IsServed (wanted_of (Any ∷ Any ∷ []) n) n (running_device tape memory ports)
+pub served_of : (tape : List Entry) (memory : ℕ → ℕ) (ports : List DevicePort) (n : ℕ) → (two_served (port_at n) ≡ true) ↔ IsWantedAndImplemented (wanted_of (Any ∷ Any ∷ []) n) n (running_device tape memory ports)
 served_of tape memory ports zero = (λ _. ((λ e. let x : Any ≡ Nothing = e in absurd cc), refl), λ _. refl)
 served_of tape memory ports (suc zero) = (λ _. ((λ e. let x : Any ≡ Nothing = e in absurd cc), refl), λ _. refl)
-served_of tape memory ports (suc (suc n)) = (λ f. absurd (true≢false (sym f)), λ (s : IsServed (wanted_of (Any ∷ Any ∷ []) (suc (suc n))) (suc (suc n)) (running_device tape memory ports)). absurd (s.0 refl))
+served_of tape memory ports (suc (suc n)) = (λ f. absurd (true≢false (sym f)), λ (s : IsWantedAndImplemented (wanted_of (Any ∷ Any ∷ []) (suc (suc n))) (suc (suc n)) (running_device tape memory ports)). absurd (s.0 refl))
 
 -- no ready port shows trouble before its call
 pub calm : (tape : List Entry) (memory : ℕ → ℕ) (p : DevicePort) → p.serr_n ≡ false → p.serr_x ≡ false → p.ssts_det ≡ 3 → ((place : ℕ) → 27 ≤ place → p.is place ≡ false) → (new : Device) (n : ℕ) → two_states (port_at n) ≡ Ready

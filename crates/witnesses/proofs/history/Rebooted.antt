@@ -37,9 +37,9 @@ use Rattle.driver_history.specs.Evidence.{IsEvidencedOf, ShowsFailure, ShowedLin
 use Rattle.error_recovery.specs.Evidence.{ShowsFatal}
 use Rattle.driver_history.specs.Histories.{FindsDone, IsAnsweredOk, LosesNoPortError, RunsWellAnew}
 use Rattle.driver_history.specs.PortInvariants.{PortStateInvariant, DriverInvariantWith, IsReadyAt, IsStoppedAt}
-use Rattle.driver_history.specs.AccessTrace.{DoesNotWriteCmd, ResetsLink}
+use Rattle.driver_history.specs.AccessTrace.{DoesNotWriteCmd, LastSctlWritesResetLink}
 use Rattle.port_control.specs.Engines.{Stops}
-use Rattle.witnesses.specs.Restart.{mask_accesses, placing_accesses, comreset_accesses, lost_and_stopped_evidence, stop_and_comreset_accesses, stop_accesses}
+use Rattle.witnesses.specs.Restart.{mask_accesses, base_address_accesses, comreset_accesses, port_0_lost_and_stopped_evidence, stop_and_comreset_accesses, stop_accesses}
 use Rattle.witnesses.specs.RunningAdapter.{port_or_empty, page_entry, plain_disk_mode, ports_with_disks}
 use Rattle.witnesses.proofs.history.Accepting.{asked, both, issuing, waiting}
 use Rattle.witnesses.proofs.history.Command.{read_memory}
@@ -84,7 +84,7 @@ pub not_ready_then : one.state (port_at 0) ≡ Ready → ⊥
 not_ready_then is = let x : Unfit 8 ≡ Ready = is in cc
 
 -- what a restart may make of them
-pub may_become : (failed : List Port) (n : ℕ) → MayBecome both (lost_and_stopped_evidence failed) one (port_at n)
+pub may_become : (failed : List Port) (n : ℕ) → MayBecome both (port_0_lost_and_stopped_evidence failed) one (port_at n)
 may_become failed n = record {
   served_is_unchanged = refl;
   dead_exactly_if_stuck = (λ is. absurd (not_dead_then n is), λ h. absurd (nowhere (port_at n) h));
@@ -184,21 +184,21 @@ module _ (looked : List Access) where
     written_cmd = 0xc010;
     between = [];
     read_cmd = 0x4010;
-    later = placing_accesses ++ comreset_accesses;
+    later = base_address_accesses ++ comreset_accesses;
     accesses_are = sym (append_assoc looked (mask_accesses ++ Reading (Px (port_at 0) Cmd) 0xc011 ∷ []) _);
     start_is_cleared = refl;
     cmd_is_unwritten = All-nil (DoesNotWriteCmd (port_at 0));
     stop_is_shown = refl;
   }
 
-  pub resets : ResetsLink (port_at 0) (looked ++ stop_and_comreset_accesses)
+  pub resets : LastSctlWritesResetLink (port_at 0) (looked ++ stop_and_comreset_accesses)
   resets = record {
-    before = looked ++ (mask_accesses ++ (stop_accesses ++ placing_accesses));
+    before = looked ++ (mask_accesses ++ (stop_accesses ++ base_address_accesses));
     between = [];
     later = rest;
     comreset_value = 1;
     end_of_comreset_value = 0;
-    accesses_are_split = sym (append_assoc looked (mask_accesses ++ (stop_accesses ++ placing_accesses)) _);
+    accesses_are_split = sym (append_assoc looked (mask_accesses ++ (stop_accesses ++ base_address_accesses)) _);
     sends_comreset = refl;
     ends_comreset = refl;
     sctl_is_unwritten_between = All-nil (DoesNotWrite (Px (port_at 0) Sctl));
@@ -241,7 +241,7 @@ module _ (c : Restart) where
   accesses = c.looked ++ stop_and_comreset_accesses
 
   abbrev pub evidence : Evidence
-  evidence = lost_and_stopped_evidence c.failed
+  evidence = port_0_lost_and_stopped_evidence c.failed
 
   abbrev after_it : Device
   after_it = booted c.outset
@@ -332,7 +332,7 @@ module _ (c : Restart) where
     finds = record {
       ci = 1;
       sact = 0;
-      reads = record { before = c.looked; later = stop_accesses ++ (placing_accesses ++ comreset_accesses); accesses_are_split = refl; cmd_is_unwritten_before = is.running };
+      reads = record { before = c.looked; later = stop_accesses ++ (base_address_accesses ++ comreset_accesses); accesses_are_split = refl; cmd_is_unwritten_before = is.running };
       answered_iff_done = λ e slot on s. (λ ok. absurd (none_ok e ok), λ clear. absurd (is.unfound e slot s clear.0));
     }
 

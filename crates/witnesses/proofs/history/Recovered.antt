@@ -41,7 +41,7 @@ use Rattle.driver_history.specs.Histories.{CallCorresponds, PortCorresponds, Fin
 use Rattle.driver_history.specs.PortInvariants.{PortStateInvariant, DriverInvariantWith, IsReadyAt}
 use Rattle.driver_history.specs.AccessTrace.{DoesNotWriteCmd}
 use Rattle.port_control.specs.Engines.{Stops}
-use Rattle.witnesses.specs.Recovery.{fault_evidence, recovery_accesses, told_fault, RecoveryIsAHistory}
+use Rattle.witnesses.specs.Recovery.{fault_evidence, stop_clear_and_restart_accesses, told_fault, RecoveryIsAHistory}
 use Rattle.witnesses.specs.RunningAdapter.{port_or_empty, page_entry}
 use Rattle.witnesses.proofs.history.Command.{read_memory}
 use Rattle.witnesses.proofs.history.Devices.{IsOf, WritesOf, leaves, serving, AreServing}
@@ -121,7 +121,7 @@ service = record {
   device = recovered;
 }
 
-stops : Stops (port_at 0) recovery_accesses
+stops : Stops (port_at 0) stop_clear_and_restart_accesses
 stops = record {
   before = until_stop ++ Reading (Px (port_at 0) Cmd) 0xc011 ∷ [];
   written_cmd = 0xc010;
@@ -134,7 +134,7 @@ stops = record {
   stop_is_shown = refl;
 }
 
-of_first : WritesOf (IsOf (port_at 0)) recovery_accesses
+of_first : WritesOf (IsOf (port_at 0)) stop_clear_and_restart_accesses
 of_first = (refl, (refl, (refl, (refl, tt))))
 
 gains : TapeGainsEntry (IsFaultOf 0) submitted recovered
@@ -156,7 +156,7 @@ unnamed n = record {
   stuck = nowhere (port_at (suc n));
 }
 
-of_served : AreServing (IsServedAndNotDead both) recovery_accesses
+of_served : AreServing (IsServedAndNotDead both) stop_clear_and_restart_accesses
 of_served = (tended, (tended, (tended, (tended, ((λ is. cc, tended), (tended, ((λ is. cc, tended), ((λ is. cc, tended), (tended, (tended, ((λ is. cc, tended), tt)))))))))))
   where
     tended : IsServedAndNotDead both (port_at 0)
@@ -165,7 +165,7 @@ of_served = (tended, (tended, (tended, (tended, ((λ is. cc, tended), (tended, (
 quiet : (n : ℕ) → both.state (port_at n) ≡ Ready → (ShowedLinkChangeOrNoDeviceAndNoneCame (port_at n) submitted recovered → ⊥) × (ShowsFailure (submitted.port n) → ⊥)
 quiet = calm submitted.tape read_memory issued refl refl refl (λ place from. refl) recovered
 
-evidenced_of : (n : ℕ) → IsEvidencedOf Service (Replied replies) recovery_accesses submitted_at both recovered fault_evidence (port_at n)
+evidenced_of : (n : ℕ) → IsEvidencedOf Service (Replied replies) stop_clear_and_restart_accesses submitted_at both recovered fault_evidence (port_at n)
 evidenced_of zero = record {
   named_lost_showed_loss_or_changed = λ h. absurd (nowhere (port_at 0) h);
   shown_loss_of_ready_is_named = λ is loss. absurd ((quiet 0 is).0 loss);
@@ -178,8 +178,8 @@ evidenced_of zero = record {
   named_stopped_was_stopped_or_reset = λ h. inl stops;
   stuck_only = λ h. absurd (nowhere (port_at 0) h);
 }
-evidenced_of (suc n) = unnamed_evidenced Service (Replied replies) recovery_accesses submitted_at both recovered fault_evidence (port_at (suc n)) (unnamed n) (quiet (suc n))
-    (leaves (IsOf (port_at 0)) (port_at (suc n)) (λ is. apart (ap (λ (p : Port). p.0) is)) (λ is. apart (ap (λ (p : Port). p.0) is)) recovery_accesses of_first)
+evidenced_of (suc n) = unnamed_evidenced Service (Replied replies) stop_clear_and_restart_accesses submitted_at both recovered fault_evidence (port_at (suc n)) (unnamed n) (quiet (suc n))
+    (leaves (IsOf (port_at 0)) (port_at (suc n)) (λ is. apart (ap (λ (p : Port). p.0) is)) (λ is. apart (ap (λ (p : Port). p.0) is)) stop_clear_and_restart_accesses of_first)
   where
     apart : suc n ≡ 0 → ⊥
     apart e = omega (arith, e)
@@ -188,7 +188,7 @@ evidenced_of (suc n) = unnamed_evidenced Service (Replied replies) recovery_acce
 none_ok : (e : Pending) → IsAnsweredOk e (answer ∷ []) → ⊥
 none_ok e a = let same : Answer a.0 outcome.Ok ≡ answer = only answer (Answer a.0 outcome.Ok) a.2 in cc
 
-finds : FindsDone (port_at 0) recovery_accesses submitted_at (answer ∷ [])
+finds : FindsDone (port_at 0) stop_clear_and_restart_accesses submitted_at (answer ∷ [])
 finds = record {
   ci = 1;
   sact = 0;
@@ -196,7 +196,7 @@ finds = record {
   answered_iff_done = λ e slot on s. (λ ok. absurd (none_ok e ok), λ clear. absurd (bits_set 0 issued refl (λ k. refl) (λ k. refl) e slot s clear.0));
 }
 
-service_finds : (n : ℕ) (e : Pending) → IsIssuedOn (port_at n) issuing e → FindsDone (port_at n) recovery_accesses submitted_at (answer ∷ [])
+service_finds : (n : ℕ) (e : Pending) → IsIssuedOn (port_at n) issuing e → FindsDone (port_at n) stop_clear_and_restart_accesses submitted_at (answer ∷ [])
 service_finds zero e on = finds
 service_finds (suc n) e on = absurd (none_there 0 n e on)
 
@@ -260,15 +260,15 @@ runs_well = record {
 }
 
 -- its fault came before ST was set again: port 0 runs well; and no other port was stopped
-well : (n : ℕ) → RunsWellAnew fault_evidence recovery_accesses submitted_at both recovered (port_at n)
+well : (n : ℕ) → RunsWellAnew fault_evidence stop_clear_and_restart_accesses submitted_at both recovered (port_at n)
 well zero = λ why ready plugs unfailed unbroken how. runs_well
 well (suc n) = λ why. absurd (⊎_elim (unnamed n).stopped (unnamed n).stuck why)
 
-part_of : (n : ℕ) → PortCorresponds submitted_at service recovery_accesses (port_at n)
+part_of : (n : ℕ) → PortCorresponds submitted_at service stop_clear_and_restart_accesses (port_at n)
 part_of n = record {
   finds_done = λ is e on. service_finds n e on;
   lone_plain_faults_are_told_unless_dead = λ alone. absurd (true≢false (sym alone.shows_only_tfes.tfes_is_set ∙ (no_flags n 30)));
-  probes_disk = λ served none. tries_ready recovery_accesses submitted_at both recovered (port_at n) (served_ready n served);
+  probes_disk = λ served none. tries_ready stop_clear_and_restart_accesses submitted_at both recovered (port_at n) (served_ready n served);
   boots_anew = (λ is f. absurd (⊎_elim (λ fatal. (quiet n is).1 (inl fatal)) (quiet n is).0 f), inl (refl, refl, refl, refl, refl, refl));
   loses_no_error = port_error n;
   runs_well_anew = well n;
@@ -323,8 +323,8 @@ happens = record {
 
 ties : CallCorresponds (Any ∷ Any ∷ []) submitted_at service
 ties = record {
-  accesses = recovery_accesses;
-  accesses_are_explained = (does, serving (IsServedAndNotDead both) recovery_accesses of_served);
+  accesses = stop_clear_and_restart_accesses;
+  accesses_are_explained = (does, serving (IsServedAndNotDead both) stop_clear_and_restart_accesses of_served);
   is_backed = backed;
   is_evidenced = record {
     faults_are_told = λ f here. told f (only told_fault f here);

@@ -22,7 +22,7 @@ use Rattle.block_machine.specs.State.{Pending}
 use Rattle.error_recovery.specs.Evidence.{HasFailed}
 use Rattle.driver_history.specs.Evidence.{IsFaultTold}
 use Rattle.driver_history.specs.AccessTrace.{DoesNotWriteCmd}
-use Rattle.witnesses.specs.Recovery.{recovery_accesses, told_fault}
+use Rattle.witnesses.specs.Recovery.{stop_clear_and_restart_accesses, told_fault}
 use Rattle.witnesses.specs.RunningAdapter.{running_device}
 use Rattle.witnesses.proofs.history.Command.{read_memory}
 use Rattle.witnesses.proofs.history.Devices.{may_start, may_stop, but_first, fall, falls_reads, no_bit, put_device, reads, writes}
@@ -158,7 +158,7 @@ looks late new more = (
   ),
 )
 
-pub does : DoesAll recovery_accesses (submitted) (dev started)
+pub does : DoesAll stop_clear_and_restart_accesses (submitted) (dev started)
 does = looks from_stop (dev started) rest
 
 abbrev pub recovered : Device
@@ -166,7 +166,7 @@ recovered = dev started
 
 -- ---- by the rules
 
-pub allowed : AreAllowed recovery_accesses submitted recovered does
+pub allowed : AreAllowed stop_clear_and_restart_accesses submitted recovered does
 unfolding changed does looks reads_masks rest falls starts reads_here writes_here reads writes falls_reads
 allowed = (
   (record { ae_is_set = refl; no_reset = refl }, (omega arith, refl)),
@@ -216,7 +216,7 @@ running =
     (All-cons (DoesNotWriteCmd (port_at 0)) (Reading (Px (port_at 0) Sact) 0) (Reading (Px (port_at 0) Tfd) 0x4041 ∷ []) tt
     (All-cons (DoesNotWriteCmd (port_at 0)) (Reading (Px (port_at 0) Tfd) 0x4041) [] tt (All-nil (DoesNotWriteCmd (port_at 0)))))
 
-has_failed : HasFailed (port_at 0) recovery_accesses submitted recovered fault
+has_failed : HasFailed (port_at 0) stop_clear_and_restart_accesses submitted recovered fault
 has_failed = record {
   device_before_stop = dev looked;
   cmd_is_unwritten = record {
@@ -231,8 +231,8 @@ has_failed = record {
   port_is = refl;
 }
 
-pub told : (t : RequestFault) → t ≡ told_fault → IsFaultTold submitted_at recovered recovery_accesses t
-told t is = subst (IsFaultTold submitted_at recovered recovery_accesses) (sym is) (record {
+pub told : (t : RequestFault) → t ≡ told_fault → IsFaultTold submitted_at recovered stop_clear_and_restart_accesses t
+told t is = subst (IsFaultTold submitted_at recovered stop_clear_and_restart_accesses) (sym is) (record {
   pending = waiting;
   is_in_book = (0, omega arith, refl);
   issued = refl;

@@ -37,8 +37,8 @@ use Rattle.identify.specs.declared.wanted.Wanted.TheVariants.{Any}
 use Rattle.driver_history.specs.Evidence.{IsEvidencedOf}
 use Rattle.driver_history.specs.Histories.{IsPortServed, CallCorresponds, PortCorresponds}
 use Rattle.driver_history.specs.PortInvariants.{PortStateInvariant}
-use Rattle.driver_history.specs.AccessTrace.{StaysInDriverFrames, UsesPortRegistersOf, WritesNeitherCmdNorSctl, ResetsLink}
-use Rattle.witnesses.specs.Reset.{ResetIsAHistory, ended_reset_accesses, boot_accesses, reset_and_boot_accesses}
+use Rattle.driver_history.specs.AccessTrace.{StaysInDriverFrames, UsesPortRegistersOf, WritesNeitherCmdNorSctl, LastSctlWritesResetLink}
+use Rattle.witnesses.specs.Reset.{ResetIsAHistory, ended_reset_and_enable_accesses, boot_accesses, reset_and_boot_accesses}
 use Rattle.witnesses.specs.RunningAdapter.{port_or_empty, ports_with_disks}
 use Rattle.witnesses.proofs.history.Accepting.{asked, both, first, issuing, submit, submit_happens, submit_parts, submit_ties, submitted_at, waiting}
 use Rattle.witnesses.proofs.history.Booting.{allowed, does, rebooted, unfit}
@@ -204,9 +204,9 @@ number r = 0
 other_port : (r : PortReg) → Px (port_at 1) r ≢ Px (port_at 0) Sctl
 other_port r is = let same : 1 ≡ 0 = ap number is in omega (arith, same)
 
-links : (n : ℕ) → both.served (port_at n) ≡ true → ResetsLink (port_at n) reset_and_boot_accesses
+links : (n : ℕ) → both.served (port_at n) ≡ true → LastSctlWritesResetLink (port_at n) reset_and_boot_accesses
 links zero is = record {
-  before = ended_reset_accesses ++ before_link 0;
+  before = ended_reset_and_enable_accesses ++ before_link 0;
   between = [];
   later = after_link 0 ++ boot_accesses 1;
   comreset_value = 1;
@@ -219,7 +219,7 @@ links zero is = record {
       (tt, (λ is. cc, (λ is. cc, (tt, (tt, (tt, (other_port Clb, (other_port Clbu, (other_port Fb, (other_port Fbu, (tt, (other_port Cmd, (other_port Sctl, (other_port Sctl, (tt, (other_port Serr, (other_port Is, (tt, (tt, tt)))))))))))))))))));
 }
 links (suc zero) is = record {
-  before = ended_reset_accesses ++ (boot_accesses 0 ++ before_link 1);
+  before = ended_reset_and_enable_accesses ++ (boot_accesses 0 ++ before_link 1);
   between = [];
   later = after_link 1;
   comreset_value = 1;

@@ -65,7 +65,7 @@ loop-number-preserved g c =
           (reviving.one_issued found number within (now s) (later s) last (all s holds)
           (λ unready.
           subst (λ (ids : List RequestId). IssuesTogetherIfAny (port_at number) ids (now s) (later s))
-          (c.law_handled_port_errors_keep_invariant.ensures.unready_has_none_due (now s) (port_at number) holds (λ info is. unready info (ap (λ (list : List ProbeResult). probe_result_of list number) (sym so_far.found) ∙ is))) (all s holds))
+          (c.law_resolved_errors_keep_in_call_invariant.ensures.unready_has_none_due (now s) (port_at number) holds (λ info is. unready info (ap (λ (list : List ProbeResult). probe_result_of list number) (sym so_far.found) ∙ is))) (all s holds))
           issues);
       cost = omega (arith, so_far.cost, issued.ensures.cost);
     }

@@ -16,10 +16,10 @@ returns c = leads (record {
     steps = c.law_acts_compose.ensures.steps;
     device = c.law_device_and_faithful_step_lists_compose.ensures.device_steps_join;
   };
-  same = c.law_adapter_stays_the_same_and_switched_on.ensures.access_keeps_adapter;
-  on = c.law_adapter_stays_the_same_and_switched_on.ensures.stays_on;
+  same = c.law_adapter_stays_same_and_on_until_ghc_write.ensures.access_keeps_adapter;
+  on = c.law_adapter_stays_same_and_on_until_ghc_write.ensures.stays_on;
   controls = c.law_port_controls_stay_until_written.ensures;
-  ends = c.law_accesses_and_decisions_are_acts.ensures.access_with_own_steps;
+  ends = c.law_an_access_or_own_step_is_one_act.ensures.access_with_own_steps;
   part = c.law_device_steps_are_a_call_part.ensures;
   access = c.law_advances_compose.ensures.access;
   none = c.law_advances_compose.ensures.reflexive;

@@ -3,8 +3,8 @@ use Rattle.commands.proofs.laws_of_done.law_ci_then_sact_reads_find_done_slots.G
 
 pub returns : goal.returns
 returns c = finds_done (record {
-  access = c.law_accesses_and_decisions_are_acts.ensures.access;
-  on = c.law_adapter_stays_the_same_and_switched_on.ensures.stays_on;
+  access = c.law_an_access_or_own_step_is_one_act.ensures.access;
+  on = c.law_adapter_stays_same_and_on_until_ghc_write.ensures.stays_on;
   controls = c.law_port_controls_stay_until_written.ensures;
   ends = c.law_slot_is_clear_iff_ended_while_st_set.ensures.ends;
   reached = c.law_advances_compose.ensures.reached;

@@ -2,7 +2,7 @@ use Rattle.std.proofs.Common.{ℕ, Bool, true, Option, ◌≡◌, ◌+◌, ◌�
 use Rattle.adapter.specs.Device.{Disk}
 use Rattle.adapter.specs.Steps.{disk_cleared}
 use Rattle.sector_store.specs.declared.store.Failures.{Failures}
-use Rattle.device_model.specs.WriteCaches.{CallFails}
+use Rattle.device_model.specs.WriteCaches.{OneMoreCallFails}
 use Rattle.device_model.specs.Disks.{disk_over}
 use Rattle.device_model.proofs.Caching.{less_room}
 use Rattle.device_model.proofs.Cleared.{clears_more, clears_none}
@@ -60,9 +60,9 @@ returns-then-not-put_sector g c =
           let size = is.size in
           let at : c.args.run.first + c.from.result ≡ c.args.run.first + c.loop-place.place = ap (λ (k : ℕ). c.args.run.first + k) c.from.ensures in
           let failed = put.writes.failure_is_noted c.if-not-put_sector.true (omega (arith, at, below, inside, size)) in
-          let P : Bool → Type 0 = λ on. CallFails on true (c.args.run.first + c.loop-place.place) (g.S.SectorStore.failures c.args.disk.now) (g.S.SectorStore.failures c.put_sector.new.store) in
-          let Q : Option Failures → Type 0 = λ was. CallFails c.loop-place.cache.is_on true (c.args.run.first + c.loop-place.place) was (g.S.SectorStore.failures c.put_sector.new.store) in
-          let R : ℕ → Type 0 = λ k. CallFails c.loop-place.cache.is_on true k (g.S.SectorStore.failures c.loop-place.disk) (g.S.SectorStore.failures c.put_sector.new.store) in
+          let P : Bool → Type 0 = λ on. OneMoreCallFails on true (c.args.run.first + c.loop-place.place) (g.S.SectorStore.failures c.args.disk.now) (g.S.SectorStore.failures c.put_sector.new.store) in
+          let Q : Option Failures → Type 0 = λ was. OneMoreCallFails c.loop-place.cache.is_on true (c.args.run.first + c.loop-place.place) was (g.S.SectorStore.failures c.put_sector.new.store) in
+          let R : ℕ → Type 0 = λ k. OneMoreCallFails c.loop-place.cache.is_on true k (g.S.SectorStore.failures c.loop-place.disk) (g.S.SectorStore.failures c.put_sector.new.store) in
           subst P is.cached (subst Q is.fine (subst R at failed));
       lasting_is_kept = λ noted. put.lasting noted ∙ is.lasting noted;
       cache_mode_is_kept = put.is_on ∙ is.cached;

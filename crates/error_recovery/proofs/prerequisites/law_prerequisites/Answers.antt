@@ -3,9 +3,9 @@ use Rattle.error_recovery.proofs.prerequisites.law_prerequisites.Goals as goal
 
 pub returns : goal.returns
 returns c = record {
-  access_keeps_on = c.law_adapter_stays_the_same_and_switched_on.ensures.stays_on;
+  access_keeps_on = c.law_adapter_stays_same_and_on_until_ghc_write.ensures.stays_on;
   read_changes_port_register = c.law_port_access_is_steps_then_port_effect.ensures.register_read;
-  tape = c.law_tape_prerequisites.ensures;
+  tape = c.law_tapes_satisfy_tape_laws.ensures;
   access_controls = c.law_port_controls_stay_until_written.ensures;
   access_notes = c.law_noted_reads_change_only_by_read_or_sctl.ensures.access;
   read_keeps_fault_record = c.law_tape_and_tfd_keep_faults_since_st.ensures.reads;
@@ -40,5 +40,5 @@ returns c = record {
   control_spares_other_ports = c.law_port_register_accesses_are_of_port.ensures.is_of_port;
   control_spares_other_registers = c.law_port_register_accesses_are_of_port.ensures.spares;
   control_of_larger_set = c.law_port_register_accesses_are_of_port.ensures.wider;
-  fragments = c.law_fragment_prerequisites.ensures;
+  fragments = c.law_access_kinds_satisfy_fragment_laws.ensures;
 }

@@ -4,9 +4,9 @@ pub returns : goal.returns
 returns c = record {
   probe_results = record { fit_disk_stays = c.law_boot_findings_stay_until_next_port_boot.ensures.disk; ready_port_stays_backed = c.law_boot_findings_stay_until_next_port_boot.ensures.ready; state_stays_backed = c.law_boot_findings_stay_until_next_port_boot.ensures.state_stays_backed };
   steps_keep_adapter_and_notes = c.law_step_lists_keep_what_steps_keep.ensures;
-  access_keeps_adapter_on = c.law_adapter_stays_the_same_and_switched_on.ensures.stays_on;
-  access_keeps_adapter = c.law_adapter_stays_the_same_and_switched_on.ensures.access_keeps_adapter;
-  tape = c.law_tape_prerequisites.ensures;
+  access_keeps_adapter_on = c.law_adapter_stays_same_and_on_until_ghc_write.ensures.stays_on;
+  access_keeps_adapter = c.law_adapter_stays_same_and_on_until_ghc_write.ensures.access_keeps_adapter;
+  tape = c.law_tapes_satisfy_tape_laws.ensures;
   ghc_write_switches_on = c.law_writing_ghc_switches_on.ensures;
   ghc_write_sets_hr = c.law_hr_read_clear_means_ports_are_quiescent.ensures.begins;
   ghc_reading_tells_hr_and_ae = c.law_hr_read_clear_means_ports_are_quiescent.ensures.hr_and_ae_are_read;
@@ -17,9 +17,9 @@ returns c = record {
   ready_boot_has_shown_disk_in = c.law_det_3_means_disk_present_is_invariant.ensures.ready_boot_establishes;
   ssts_reading_shows_disk = c.law_vacancy_stays_where_no_disk_comes.ensures.det_3_shows_disk_if_in;
   does_append = c.law_accesses_compose.ensures.lists_append;
-  same_adapter_is_reflexive = c.law_adapter_stays_the_same_and_switched_on.ensures.adapter_reflexive;
-  same_adapter_is_transitive = c.law_adapter_stays_the_same_and_switched_on.ensures.adapter_transitive;
-  accesses_keep_adapter_on = c.law_adapter_stays_the_same_and_switched_on.ensures.stays_on_over_all;
+  same_adapter_is_reflexive = c.law_adapter_stays_same_and_on_until_ghc_write.ensures.adapter_reflexive;
+  same_adapter_is_transitive = c.law_adapter_stays_same_and_on_until_ghc_write.ensures.adapter_transitive;
+  accesses_keep_adapter_on = c.law_adapter_stays_same_and_on_until_ghc_write.ensures.stays_on_over_all;
   other_ports_are_left = c.law_other_ports_are_untouched.ensures.other_port_is_untouched;
   leaves_port_is_transitive = c.law_other_ports_are_untouched.ensures.transitive;
   one_port_spares_registers = c.law_other_ports_are_untouched.ensures.spares;
@@ -43,6 +43,6 @@ returns c = record {
   runs_on_after_access = c.law_undisturbed_port_runs_on_if_controls_stay.ensures.one_access;
   runs_on_after_accesses = c.law_undisturbed_port_runs_on_if_controls_stay.ensures.more_accesses;
   stays_well_if_undisturbed = c.law_undisturbed_port_runs_on_if_controls_stay.ensures.healthy_port_stays_well;
-  halt_of_taken_stays_over_acts = c.law_queued_halt_has_taken_command.ensures.acts;
-  fragments = c.law_fragment_prerequisites.ensures;
+  halt_of_taken_stays_over_acts = c.law_halt_fits_taken_until_pxcmd_written.ensures.acts;
+  fragments = c.law_access_kinds_satisfy_fragment_laws.ensures;
 }

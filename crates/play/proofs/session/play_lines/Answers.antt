@@ -4,7 +4,7 @@ use Rattle.std.specs.Borrow.{Bor}
 use Rattle.adapter.specs.declared.access.DeviceStep.{DeviceStep}
 use Rattle.ata_types.specs.declared.call.Call.{Call}
 use Rattle.script.specs.Script.{Asks, AskForCalls, call_if_asked, lines_of, lines_after}
-use Rattle.play.specs.PlayedScript.{StopCauseFitsStarvationAndOutput}
+use Rattle.play.specs.PlayedScript.{NoMemoryPrintsNoneUnwrittenIsNotStarved}
 use Rattle.play.proofs.Printing.{PlayedSoFar, bytes_left, fewer_left, played_none, played_nothing, played_line, ran_none, ran_part, ran_all, cut_more, if_error, on_error}
 use Rattle.play.proofs.session.play_lines.Goals as goal
 
@@ -72,8 +72,8 @@ returns-in_err-shown-in-Ok-true g c =
     let told = err_from_is_err_and c.from_residual.result c.from_residual.ensures.1 in (
       ran.0,
       on_error c.from_residual.result _ c.from_residual.ensures.0,
-      if_error c.from_residual.result _ (StopCauseFitsStarvationAndOutput (g.A.TapedAdapter.ended c.play_line.new.server.adapter) ran.0.part) (told.1 ∙ ap Err told.2)
-          (subst (λ (part : ℕ). StopCauseFitsStarvationAndOutput (g.A.TapedAdapter.ended c.play_line.new.server.adapter) part c.in_err-shown-in-Ok-true.field-0.0) (sym ran.1) printed.2),
+      if_error c.from_residual.result _ (NoMemoryPrintsNoneUnwrittenIsNotStarved (g.A.TapedAdapter.ended c.play_line.new.server.adapter) ran.0.part) (told.1 ∙ ap Err told.2)
+          (subst (λ (part : ℕ). NoMemoryPrintsNoneUnwrittenIsNotStarved (g.A.TapedAdapter.ended c.play_line.new.server.adapter) part c.in_err-shown-in-Ok-true.field-0.0) (sym ran.1) printed.2),
     )
 
 pub returns : goal.returns

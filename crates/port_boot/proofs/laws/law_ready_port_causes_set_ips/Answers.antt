@@ -15,5 +15,5 @@ returns-clause-raised_cause_is_pending c = λ wanted port place step d info fits
 pub returns-clause-tape_event_is_pending : goal.returns-clause-tape_event_is_pending
 returns-clause-tape_event_is_pending c = λ wanted port entry accesses gained old new info fits its does pending enabled off tape has.
     let law = c.law_set_cause_enabled_in_pxie_sets_ips.ensures in
-    c.law_interrupting_tape_events_leave_ips_set.ensures port entry accesses gained old new its does pending enabled off
+    c.law_interrupting_entries_set_ips_until_written.ensures port entry accesses gained old new its does pending enabled off
     (λ place named. ap (λ (ie : ℕ). bit ie place) fits.ie_is_named ∙ law.named place named) tape has

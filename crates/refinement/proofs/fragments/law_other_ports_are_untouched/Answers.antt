@@ -1,6 +1,6 @@
 use Rattle.std.proofs.Common.{refl}
 use Rattle.hba_regs.specs.declared.reg.PortReg.TheVariants.{Sact, Ci}
-use Rattle.refinement.specs.Fragments.{AnyAccess, SparesOtherPorts}
+use Rattle.refinement.specs.Fragments.{AnyAccess, AccessesNoOtherPort}
 use Rattle.refinement.proofs.driver.PortAccesses.{leaves_none, leaves_more, other_left, other_recorded, of_spares_ghc, of_spares_others, on_over, same_over, tape_over}
 use Rattle.refinement.proofs.driver.Stretches.{followed_silent}
 use Rattle.refinement.proofs.fragments.law_other_ports_are_untouched.Goals as goal
@@ -18,7 +18,7 @@ pub returns-clause-transitive : goal.returns-clause-transitive
 returns-clause-transitive c = leaves_more
 
 pub returns-clause-adapter_stays_on : goal.returns-clause-adapter_stays_on
-returns-clause-adapter_stays_on c = λ port old new on driven. on_over (SparesOtherPorts port) old new driven (of_spares_ghc port) on
+returns-clause-adapter_stays_on c = λ port old new on driven. on_over (AccessesNoOtherPort port) old new driven (of_spares_ghc port) on
 
 pub returns-clause-adapter_is_same : goal.returns-clause-adapter_is_same
 returns-clause-adapter_is_same c = same_over AnyAccess

@@ -8,7 +8,7 @@ use Rattle.ata_types.specs.declared.request.RequestId.{RequestId}
 use Rattle.block_machine.specs.declared.due.Unanswered.{Unanswered}
 use Rattle.block_machine.specs.DueRequests.{is_plain}
 use Rattle.request_queue.specs.BookEntries.{BookEntry, as_unanswered, unanswered_of}
-use Rattle.request_queue.specs.Blockers.{IsBlockerOf, has_blocker}
+use Rattle.request_queue.specs.Blockers.{IsBlockerOf, waiting_read_or_write_has_blocker}
 use Rattle.request_queue.specs.DueWalk.{is_issued_plain}
 use Rattle.request_queue.specs.RequestSlab.{unanswered_at, blank_request}
 use Rattle.request_queue.proofs.Holding.{a_holder, no_holder}
@@ -36,7 +36,7 @@ loop-place-preserved c =
     let i = c.loop-place.place in
     let places = c.loop-place.places.items in
     let v = c.loop-place.invariant in
-    let p : Unanswered → Bool = λ r. r.port.0 == c.args.port.0 && not (has_blocker book r) in
+    let p : Unanswered → Bool = λ r. r.port.0 == c.args.port.0 && not (waiting_read_or_write_has_blocker book r) in
     let alone : Unanswered → Bool = is_issued_plain c.args.mode in
     let are = c.requires.blockers in
     let n = are.lengths_are_same in
@@ -69,7 +69,7 @@ loop-place-preserved c =
       | then-is_none+else-asks-port w ↦
           let r = w.unanswered-asks.result in
           rw w.places-is (record {
-            without_blocker = one_out p es places i r w.unanswered-asks.ensures v.without_blocker (ap (λ (b : Bool). b && not (has_blocker book r)) (ne_eqb r.port.0 c.args.port.0 w.if-asks-port.false));
+            without_blocker = one_out p es places i r w.unanswered-asks.ensures v.without_blocker (ap (λ (b : Bool). b && not (waiting_read_or_write_has_blocker book r)) (ne_eqb r.port.0 c.args.port.0 w.if-asks-port.false));
             within = v.within;
             few = omega (arith, v.few);
             counted = w.count-is ∙ v.counted;

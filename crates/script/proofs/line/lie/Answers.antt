@@ -8,6 +8,6 @@ returns-clause-only c = λ s is e.
     let port = sym c.in_ok-port.was ∙ c.parse_port.ensures.spelled_value_is_found l.on l.small l.port_is in
     let page = sym c.in_ok-page.was ∙ c.parse_page.ensures.spelled_value_is_found l.of l.page_is in
     let at = sym c.in_ok-offset.was ∙ c.parse_number.ensures.spelled_value_is_found l.at (omega (arith, l.below)) l.offset_is in
-    let turned = sym c.in_ok-bits.was ∙ c.parse_byte.ensures.spelled_value_is_found l.turned l.byte l.bits_is in
+    let turned = sym c.in_ok-bits.was ∙ c.parse_hex_byte.ensures.spelled_value_is_found l.turned l.byte l.bits_is in
     let step = l.step_is in
     search rules

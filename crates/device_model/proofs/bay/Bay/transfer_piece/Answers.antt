@@ -1,5 +1,5 @@
 use Rattle.std.proofs.Common.{ℕ, ◌+◌, ◌-◌, List, drop, sym, subst, take, arith}
-use Rattle.device_model.specs.PieceTransfers.{TransfersPieceOrFails, piece_of}
+use Rattle.device_model.specs.PieceTransfers.{TransfersPieceOrFails, piece_in_memory}
 use Rattle.device_model.specs.declared.hardware.Hardware.{Hardware}
 use Rattle.device_model.proofs.Exchanging.{exchanged, piece_is, piece_stays, piece_was, with_piece}
 use Rattle.device_model.proofs.bay.Bay.transfer_piece.Goals as goal
@@ -18,7 +18,7 @@ returns-clause-exchanges g c =
     let was = piece_was h next k d c.deref_mut.ensures.value (omega arith) c.requires.inside in
     let is = piece_is h next k d b c.deref_mut.ensures.value (omega arith) c.requires.inside c.transfer_within.ensures.bytes_are_sector.0
     in
-    subst (λ before. E before (piece_of there next)) (sym was) (subst (λ after. E (take k (drop next.address d)) after)
+    subst (λ before. E before (piece_in_memory there next)) (sym was) (subst (λ after. E (take k (drop next.address d)) after)
     (sym is) c.transfer_within.ensures)
 
 pub returns-clause-memory : goal.returns-clause-memory

@@ -9,13 +9,13 @@ use Rattle.device_model.proofs.Stepping.{may_fail_senseless, port_fails_senseles
 use Rattle.device_model.proofs.hardware.Hardware.abort_invalid.Goals as goal
 
 -- nothing is issued there that may be taken
-pub returns-then-not-has_issued_untaken_on_working_port-clause-step_is_skipped : goal.returns-then-not-has_issued_untaken_on_working_port-clause-step_is_skipped
-returns-then-not-has_issued_untaken_on_working_port-clause-step_is_skipped c = λ _ o.
+pub returns-then-not-is_fetchable_if_halt_admits-clause-step_is_skipped : goal.returns-then-not-is_fetchable_if_halt_admits-clause-step_is_skipped
+returns-then-not-is_fetchable_if_halt_admits-clause-step_is_skipped c = λ _ o.
     inl (
       λ may.
           let P : ℕ → Type 0 = λ q. MayFetchFault (device_of c.args.self.now o) q c.args.slot 0 in
           let here = subst P (sym c.from-place.ensures) may in
-          c.has_issued_untaken_on_working_port.ensures.is_not_fetchable c.if-not-has_issued_untaken_on_working_port.true (o.media c.from-place.result) Identify here.fetchable here.working,
+          c.is_fetchable_if_halt_admits.ensures.is_not_fetchable c.if-not-is_fetchable_if_halt_admits.true (o.media c.from-place.result) Identify here.fetchable here.working,
       refl,
     )
 
@@ -47,7 +47,7 @@ pub returns-then-not-record-clause-step_is_skipped : goal.returns-then-not-recor
 returns-then-not-record-clause-step_is_skipped c = λ _ o.
     let h : Hardware = c.args.self.now in
     let small : c.from-place.result < length h.ports = search rules in
-    let senseless = may_fail_senseless h o c.from-place.result c.args.port c.args.slot c.from-place.ensures (c.has_issued_untaken_on_working_port.ensures.may c.if-not-has_issued_untaken_on_working_port.false)
+    let senseless = may_fail_senseless h o c.from-place.result c.args.port c.args.slot c.from-place.ensures (c.is_fetchable_if_halt_admits.ensures.may c.if-not-is_fetchable_if_halt_admits.false)
     (sym (rw (at_port h.ports c.from-place.result c.index-self-place.result small) at c.admits.ensures) ∙ c.if-not-admits.false)
     (rw (at_port h.ports c.from-place.result c.index-self-place-2.result small) at (rw c.deref.ensures.value at (c.decodes_command.ensures.bytes_mean_none c.if-decodes_command.false))) in
     inr (
@@ -60,7 +60,7 @@ pub returns-clause-did : goal.returns-clause-did
 returns-clause-did c = λ _ o.
     let h : Hardware = c.args.self.now in
     let small : c.from-place.result < length h.ports = search rules in
-    let senseless = may_fail_senseless h o c.from-place.result c.args.port c.args.slot c.from-place.ensures (c.has_issued_untaken_on_working_port.ensures.may c.if-not-has_issued_untaken_on_working_port.false)
+    let senseless = may_fail_senseless h o c.from-place.result c.args.port c.args.slot c.from-place.ensures (c.is_fetchable_if_halt_admits.ensures.may c.if-not-is_fetchable_if_halt_admits.false)
     (sym (rw (at_port h.ports c.from-place.result c.index-self-place.result small) at c.admits.ensures) ∙ c.if-not-admits.false)
     (rw (at_port h.ports c.from-place.result c.index-self-place-2.result small) at (rw c.deref.ensures.value at (c.decodes_command.ensures.bytes_mean_none c.if-decodes_command.false))) in (
       senseless,

@@ -5,7 +5,7 @@ use Rattle.device_model.proofs.Absurd.{none_and, some_and, some_one, true-false}
 use Rattle.device_model.specs.WriteCaches.{HasRoomForOldSectors}
 use Rattle.device_model.specs.FetchedBytes.{bytes_of}
 use Rattle.device_model.specs.Finishing.{MayFinish}
-use Rattle.device_model.specs.Slots.{HasIssuedUntakenOnWorkingPort, WorksOnIn}
+use Rattle.device_model.specs.Slots.{IsFetchableIfHaltAdmits, WorksOnIn}
 use Rattle.device_model.specs.Trims.{sectors_left_to_change}
 use Rattle.device_model.specs.PortView.{reset_port_without_disk, taken_of}
 use Rattle.device_model.specs.WholeAdapter.{AllMedia, device_of}
@@ -18,18 +18,18 @@ use Rattle.device_model.proofs.hardware.Hardware.begin.Goals as goal
 
 pub begin_decoded-requires-clause-may : goal.begin_decoded-requires-clause-may
 begin_decoded-requires-clause-may c =
-    let P : ℕ → Type 0 = λ q. HasIssuedUntakenOnWorkingPort (slice_index_or c.args.self.now.ports q reset_port_without_disk) c.args.slot in
-    subst P c.from-place.ensures (c.has_issued_untaken_on_working_port.ensures.may c.if-has_issued_untaken_on_working_port.true)
+    let P : ℕ → Type 0 = λ q. IsFetchableIfHaltAdmits (slice_index_or c.args.self.now.ports q reset_port_without_disk) c.args.slot in
+    subst P c.from-place.ensures (c.is_fetchable_if_halt_admits.ensures.may c.if-is_fetchable_if_halt_admits.true)
 
 pub returns-in_err-remaining-clause-is_unbegun : goal.returns-in_err-remaining-clause-is_unbegun
 returns-in_err-remaining-clause-is_unbegun c = λ _.
     inl (
       λ o left clears ready.
           let w = ready_held c.args.self.now o c.from-place.result c.args.port c.args.slot left clears c.from-place.ensures ready
-          (c.has_issued_untaken_on_working_port.ensures.complete c.if-has_issued_untaken_on_working_port.false) in
+          (c.is_fetchable_if_halt_admits.ensures.complete c.if-is_fetchable_if_halt_admits.false) in
           let P : ℕ → Type 0 = λ q. WorksOnIn (slice_index_or c.args.self.now.ports q reset_port_without_disk) c.args.slot w.0 in
           let rest = ready_is_held c.args.self.now c.from-place.result c.args.port c.args.slot w.0 c.from-place.ensures w.1
-          (c.has_issued_untaken_on_working_port.ensures.complete c.if-has_issued_untaken_on_working_port.false) o left clears ready in
+          (c.is_fetchable_if_halt_admits.ensures.complete c.if-is_fetchable_if_halt_admits.false) o left clears ready in
           none_and _ _ (c.remaining_at.ensures.only w.0 left clears (subst P c.from-place.ensures w.1) rest) c.in_err-remaining.was,
       refl,
     )
@@ -42,7 +42,7 @@ returns-then-not-reserve_all-clause-is_unbegun c = λ _.
     let h = c.args.self.now in
     let rest = c.in_ok-remaining.remaining in
     let found = c.in_ok-remaining.ensures.found in
-    let never = c.has_issued_untaken_on_working_port.ensures.complete c.if-has_issued_untaken_on_working_port.false in
+    let never = c.is_fetchable_if_halt_admits.ensures.complete c.if-is_fetchable_if_halt_admits.false in
     let P : ℕ → Type 0 = λ q. WorksOnIn (slice_index_or h.ports q reset_port_without_disk) c.args.slot found.0 in
     let held = subst P (sym c.from-place.ensures) found.1 in
     let one = some_and _ _ rest (c.remaining_at.ensures.only found.0 n m found.1 (ready_is_held h c.from-place.result c.args.port c.args.slot found.0 c.from-place.ensures held never o n m may)) c.in_ok-remaining.was in
@@ -104,7 +104,7 @@ returns-clause-begun c =
       is_in_progress = λ o.
           fetched_goes c.args.port c.args.slot rest.moves rest.clears false (device_of h o) (device_of new o) (ready o) (λ never. true-false never refl) (λ _. same o)
           (λ _ m places can.
-          c.has_issued_untaken_on_working_port.ensures.complete c.if-has_issued_untaken_on_working_port.false (o.media c.from-place.result) m.operation
+          c.is_fetchable_if_halt_admits.ensures.complete c.if-is_fetchable_if_halt_admits.false (o.media c.from-place.result) m.operation
           (fetch_takes h o c.from-place.result c.args.port c.args.slot m places c.from-place.ensures can));
       tape_has_room = omega (arith, room, entries);
       newly_taken_is_fetched = λ never. true-false never refl;

@@ -10,7 +10,7 @@ use Rattle.adapter.specs.Decoding.{DecodesTo}
 use Rattle.device_model.specs.WriteCaches.{HasRoomForOldSectors}
 use Rattle.device_model.specs.FetchedBytes.{bytes_of}
 use Rattle.device_model.specs.Finishing.{MayFinish}
-use Rattle.device_model.specs.Slots.{HasIssuedUntakenOnWorkingPort}
+use Rattle.device_model.specs.Slots.{IsFetchableIfHaltAdmits}
 use Rattle.device_model.specs.Trims.{sectors_left_to_change}
 use Rattle.device_model.specs.PortView.{reset_port_without_disk, taken_of}
 use Rattle.device_model.specs.WholeAdapter.{AllMedia, device_of}
@@ -32,13 +32,13 @@ take-requires-clause-alone c = λ m.
     let ports = c.args.self.now.ports in
     let small : c.from.result < length ports = search rules in
     rw (at_port ports c.from.result c.index-self-from.result small)
-    (rw (at_port ports c.from.result c.index-self-from.result small) at ((c.admits_beside_taken.ensures.open c.if-not-admits_beside_taken.false).1 m))
+    (rw (at_port ports c.from.result c.index-self-from.result small) at ((c.admits_by_halt_and_taken.ensures.open c.if-not-admits_by_halt_and_taken.false).1 m))
 
 pub returns-in_default-clause-left : goal.returns-in_default-clause-left
 returns-in_default-clause-left c = λ _.
     inl (
       λ o left clears ready.
-          let P : ℕ → Type 0 = λ q. HasIssuedUntakenOnWorkingPort (slice_index_or c.args.self.now.ports q reset_port_without_disk) c.args.slot in
+          let P : ℕ → Type 0 = λ q. IsFetchableIfHaltAdmits (slice_index_or c.args.self.now.ports q reset_port_without_disk) c.args.slot in
           let may = subst P (sym c.from.ensures) c.requires.may in
           let says = ready_said c.args.self.now o c.from.result c.args.port c.args.slot left clears c.from.ensures ready may in
           let small : c.from.result < length c.args.self.now.ports = search rules in
@@ -51,7 +51,7 @@ pub returns-in_err-remaining-clause-left : goal.returns-in_err-remaining-clause-
 returns-in_err-remaining-clause-left c = λ _.
     inl (
       λ o left clears ready.
-          let P : ℕ → Type 0 = λ q. HasIssuedUntakenOnWorkingPort (slice_index_or c.args.self.now.ports q reset_port_without_disk) c.args.slot in
+          let P : ℕ → Type 0 = λ q. IsFetchableIfHaltAdmits (slice_index_or c.args.self.now.ports q reset_port_without_disk) c.args.slot in
           let may = subst P (sym c.from.ensures) c.requires.may in
           let small : c.from.result < length c.args.self.now.ports = search rules in
           let said = c.in-Some.ensures.found in
@@ -68,7 +68,7 @@ returns-then-not-reserve_all-clause-left c = λ _.
     λ o n m ready cache.
     let h = c.args.self.now in
     let rest = c.in_ok-remaining.remaining in
-    let P : ℕ → Type 0 = λ q. HasIssuedUntakenOnWorkingPort (slice_index_or h.ports q reset_port_without_disk) c.args.slot in
+    let P : ℕ → Type 0 = λ q. IsFetchableIfHaltAdmits (slice_index_or h.ports q reset_port_without_disk) c.args.slot in
     let may = subst P (sym c.from.ensures) c.requires.may in
     let small : c.from.result < length c.args.self.now.ports = search rules in
     let said = c.in-Some.ensures.found in
@@ -83,7 +83,7 @@ returns-then-not-reserve_all-clause-left c = λ _.
     ) in
     let h = c.args.self.now in
     let rest = c.in_ok-remaining.remaining in
-    let P : ℕ → Type 0 = λ q. HasIssuedUntakenOnWorkingPort (slice_index_or h.ports q reset_port_without_disk) c.args.slot in
+    let P : ℕ → Type 0 = λ q. IsFetchableIfHaltAdmits (slice_index_or h.ports q reset_port_without_disk) c.args.slot in
     let may = subst P (sym c.from.ensures) c.requires.may in
     let small : c.from.result < length c.args.self.now.ports = search rules in
     let said = c.in-Some.ensures.found in
@@ -93,7 +93,7 @@ returns-then-not-reserve_all-clause-left c = λ _.
       moves_left = rest.moves;
       clears_left = rest.clears;
       may_finish = ready_to_take h c.from.result c.args.port c.args.slot c.in-Some.command.now c.from.ensures rest.moves rest.clears
-          (rw c.deref-2.ensures.value at c.in_ok-remaining.ensures.rest) said.0 may (rw (at_port c.args.self.now.ports c.from.result c.index-self-from.result small) at (c.admits_beside_taken.ensures.open c.if-not-admits_beside_taken.false)) says;
+          (rw c.deref-2.ensures.value at c.in_ok-remaining.ensures.rest) said.0 may (rw (at_port c.args.self.now.ports c.from.result c.index-self-from.result small) at (c.admits_by_halt_and_taken.ensures.open c.if-not-admits_by_halt_and_taken.false)) says;
       room_was_lacking = λ o n m may room old.
           let one = ready_one o n m may c.args.cache.now in
           let left = one.0 in
@@ -117,12 +117,12 @@ did c o =
     let h = c.args.self.now in
     let held : Hardware = record h { tape = c.reserve_all.new.tape } in
     let new : Hardware = record held { ports = slice_set h.ports c.from.result c.take.new.self } in
-    let P : ℕ → Type 0 = λ q. HasIssuedUntakenOnWorkingPort (slice_index_or h.ports q reset_port_without_disk) c.args.slot in
+    let P : ℕ → Type 0 = λ q. IsFetchableIfHaltAdmits (slice_index_or h.ports q reset_port_without_disk) c.args.slot in
     let may = subst P (sym c.from.ensures) c.requires.may in
     let small : c.from.result < length h.ports = search rules in
     let said = c.in-Some.ensures.found in
     let says = rw (at_port h.ports c.from.result c.index-self-from.result small) at (rw c.deref.ensures.value at said.1) in
-    let alone = rw (at_port c.args.self.now.ports c.from.result c.index-self-from.result small) at (c.admits_beside_taken.ensures.open c.if-not-admits_beside_taken.false) in
+    let alone = rw (at_port c.args.self.now.ports c.from.result c.index-self-from.result small) at (c.admits_by_halt_and_taken.ensures.open c.if-not-admits_by_halt_and_taken.false) in
     let taken = may_be_taken (slice_index_or h.ports c.from.result reset_port_without_disk) c.args.slot c.in-Some.command.now may alone in
     let kept : device_of held o ≡ device_of h o = ap (λ (items : List Entry). record (device_of h o) { tape = items }) c.reserve_all.ensures.items in
     let Q : Device → Type 0 = λ d. DoesFetch c.args.port c.args.slot d (device_of new o) in
@@ -147,12 +147,12 @@ returns-clause-begun c =
     let h = c.args.self.now in
     let rest = c.in_ok-remaining.remaining in
     let held : Hardware = record h { tape = c.reserve_all.new.tape } in
-    let P : ℕ → Type 0 = λ q. HasIssuedUntakenOnWorkingPort (slice_index_or h.ports q reset_port_without_disk) c.args.slot in
+    let P : ℕ → Type 0 = λ q. IsFetchableIfHaltAdmits (slice_index_or h.ports q reset_port_without_disk) c.args.slot in
     let may = subst P (sym c.from.ensures) c.requires.may in
     let small : c.from.result < length h.ports = search rules in
     let said = c.in-Some.ensures.found in
     let says = rw (at_port h.ports c.from.result c.index-self-from.result small) at (rw c.deref.ensures.value at said.1) in
-    let alone = rw (at_port c.args.self.now.ports c.from.result c.index-self-from.result small) at (c.admits_beside_taken.ensures.open c.if-not-admits_beside_taken.false) in
+    let alone = rw (at_port c.args.self.now.ports c.from.result c.index-self-from.result small) at (c.admits_by_halt_and_taken.ensures.open c.if-not-admits_by_halt_and_taken.false) in
     let room : vec_len c.reserve_all.new.tape + c.reservations_of.result.entries ≤ vec_capacity c.reserve_all.new.tape = c.reserve_all.ensures.room c.if-not-reserve_all.false in
     let entries = c.reservations_of.ensures.entries in
     let ready : (o : AllMedia) → MayFinish (device_of h o) c.args.port c.args.slot rest.moves rest.clears =
@@ -172,17 +172,17 @@ returns-clause-begun c =
     }
 
 -- another command is taken
-pub returns-then-not-admits_beside_taken-clause-left : goal.returns-then-not-admits_beside_taken-clause-left
-returns-then-not-admits_beside_taken-clause-left c = λ _.
+pub returns-then-not-admits_by_halt_and_taken-clause-left : goal.returns-then-not-admits_by_halt_and_taken-clause-left
+returns-then-not-admits_by_halt_and_taken-clause-left c = λ _.
     inl (
       λ o left clears ready.
-          let P : ℕ → Type 0 = λ q. HasIssuedUntakenOnWorkingPort (slice_index_or c.args.self.now.ports q reset_port_without_disk) c.args.slot in
+          let P : ℕ → Type 0 = λ q. IsFetchableIfHaltAdmits (slice_index_or c.args.self.now.ports q reset_port_without_disk) c.args.slot in
           let may = subst P (sym c.from.ensures) c.requires.may in
           let small : c.from.result < length c.args.self.now.ports = search rules in
           let said = c.in-Some.ensures.found in
           let both = ready_beside c.args.self.now c.from.result c.args.port c.args.slot c.in-Some.command.now c.from.ensures may
           said.0 (rw (at_port c.args.self.now.ports c.from.result c.index-self-from.result small) at (rw c.deref.ensures.value at said.1)) o left clears ready in
-          (rw (at_port c.args.self.now.ports c.from.result c.index-self-from.result small) at (c.admits_beside_taken.ensures.complete c.if-not-admits_beside_taken.true (o.media c.from.result)))
+          (rw (at_port c.args.self.now.ports c.from.result c.index-self-from.result small) at (c.admits_by_halt_and_taken.ensures.complete c.if-not-admits_by_halt_and_taken.true (o.media c.from.result)))
           both.0 both.1,
       ports_same c.args.self.now c.from.result c.index-self-from.result,
     )

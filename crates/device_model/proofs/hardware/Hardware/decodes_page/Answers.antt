@@ -5,13 +5,13 @@ use Rattle.device_model.proofs.Ready.{finds, page_crowded, page_said, page_unmea
 use Rattle.device_model.proofs.SlotLemmas.{at_port}
 use Rattle.device_model.proofs.hardware.Hardware.decodes_page.Goals as goal
 
-pub returns-then-admits_beside_taken : goal.returns-then-admits_beside_taken
-returns-then-admits_beside_taken c = λ o.
+pub returns-then-admits_by_halt_and_taken : goal.returns-then-admits_by_halt_and_taken
+returns-then-admits_by_halt_and_taken c = λ o.
     let h = c.args.self.now in
     let some : c.args.port < length c.args.self.now.ports = search rules in
     let said = rw (at_port h.ports c.args.port c.index-self-port.result some) at (rw c.deref.ensures.value at c.in_ok-command.ensures.found) in
     let kind = c.in_ok-command.ensures.operation in
-    let beside = rw (at_port h.ports c.args.port c.index-self-port-2.result some) at (c.admits_beside_taken.ensures.open c.if-admits_beside_taken.true) in
+    let beside = rw (at_port h.ports c.args.port c.index-self-port-2.result some) at (c.admits_by_halt_and_taken.ensures.open c.if-admits_by_halt_and_taken.true) in
     finds (device_of h o) c.args.port c.args.slot c.can_end.result
     (λ e. page_said h c.args.port c.args.slot c.len.result c.len.ensures c.in_ok-command.command said.0 said.1 kind c.requires.may beside (c.can_end.ensures.ends e) o)
     (λ e. (
@@ -25,7 +25,7 @@ returns c = λ o.
     let h = c.args.self.now in
     let some : c.args.port < length c.args.self.now.ports = search rules in
     let said = rw (at_port h.ports c.args.port c.index-self-port.result some) at (rw c.deref.ensures.value at c.in_ok-command.ensures.found) in
-    let never = page_crowded h c.args.port c.args.slot c.in_ok-command.command said.1 (rw (at_port h.ports c.args.port c.index-self-port-2.result some) at (c.admits_beside_taken.ensures.complete c.if-admits_beside_taken.false)) o in
+    let never = page_crowded h c.args.port c.args.slot c.in_ok-command.command said.1 (rw (at_port h.ports c.args.port c.index-self-port-2.result some) at (c.admits_by_halt_and_taken.ensures.complete c.if-admits_by_halt_and_taken.false)) o in
     (never, λ has. never (ready_may h c.args.port c.args.slot c.requires.may o has))
 
 pub returns-in_err-command : goal.returns-in_err-command

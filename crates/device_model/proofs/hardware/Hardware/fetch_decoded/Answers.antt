@@ -1,5 +1,5 @@
 use Rattle.std.proofs.Common.{rules, true, ◌≡◌, ◌<◌, ℕ, length, subst, sym, slice_index_or}
-use Rattle.device_model.specs.Slots.{HasIssuedUntakenOnWorkingPort}
+use Rattle.device_model.specs.Slots.{IsFetchableIfHaltAdmits}
 use Rattle.adapter.specs.Commands.{Meaning}
 use Rattle.adapter.specs.Steps.{IsUnmixed, admits}
 use Rattle.adapter.proofs.SaysLemmas.{says_meaning}
@@ -15,16 +15,16 @@ take-requires-clause-alone c = λ m.
     let ports = c.args.self.now.ports in
     let small : c.from-place.result < length ports = search rules in
     rw (at_port ports c.from-place.result c.index-self-place-3.result small)
-    (rw (at_port ports c.from-place.result c.index-self-place-2.result small) at ((c.admits_beside_taken.ensures.open c.if-not-admits_beside_taken.false).1 m))
+    (rw (at_port ports c.from-place.result c.index-self-place-2.result small) at ((c.admits_by_halt_and_taken.ensures.open c.if-not-admits_by_halt_and_taken.false).1 m))
 
 pub returns-clause-did : goal.returns-clause-did
 returns-clause-did c = λ _ o.
     let h = c.args.self.now in
     let m = o.media c.from-place.result in
     let small : c.from-place.result < length h.ports = search rules in
-    let P : ℕ → Type 0 = λ q. HasIssuedUntakenOnWorkingPort (slice_index_or h.ports q reset_port_without_disk) c.args.slot in
+    let P : ℕ → Type 0 = λ q. IsFetchableIfHaltAdmits (slice_index_or h.ports q reset_port_without_disk) c.args.slot in
     let may = subst P (sym c.from-place.ensures) c.requires.may in
-    let taken = may_be_taken (slice_index_or h.ports c.from-place.result reset_port_without_disk) c.args.slot c.in-Some.command may (rw (at_port h.ports c.from-place.result c.index-self-place-2.result small) at (c.admits_beside_taken.ensures.open c.if-not-admits_beside_taken.false)) in
+    let taken = may_be_taken (slice_index_or h.ports c.from-place.result reset_port_without_disk) c.args.slot c.in-Some.command may (rw (at_port h.ports c.from-place.result c.index-self-place-2.result small) at (c.admits_by_halt_and_taken.ensures.open c.if-not-admits_by_halt_and_taken.false)) in
     port_takes h o c.from-place.result c.args.port c.args.slot _ c.in-Some.command c.from-place.ensures small (taken m)
     (rw (at_port h.ports c.from-place.result c.index-self-place.result small) at (rw c.deref.ensures.value at c.in-Some.ensures.found.1))
     (rw (at_port h.ports c.from-place.result c.index-self-place-3.result small) at (c.take.ensures m))
@@ -37,8 +37,8 @@ returns-in_default-clause-only c = λ _ o m places may.
     (rw (← c.deref.ensures.value) at says)
 
 -- another command is taken
-pub returns-then-not-admits_beside_taken-clause-only : goal.returns-then-not-admits_beside_taken-clause-only
-returns-then-not-admits_beside_taken-clause-only c = λ _ o m places may.
+pub returns-then-not-admits_by_halt_and_taken-clause-only : goal.returns-then-not-admits_by_halt_and_taken-clause-only
+returns-then-not-admits_by_halt_and_taken-clause-only c = λ _ o m places may.
     let h = c.args.self.now in
     let says = fetch_says h o c.from-place.result c.args.port c.args.slot m places c.from-place.ensures may in
     let small : c.from-place.result < length c.args.self.now.ports = search rules in
@@ -46,6 +46,6 @@ returns-then-not-admits_beside_taken-clause-only c = λ _ o m places may.
     let one = says_meaning (bytes_of h.memory.items) _ c.args.slot m (taken_of c.in-Some.command).meaning places _ says said in
     let takes = fetch_takes h o c.from-place.result c.args.port c.args.slot m places c.from-place.ensures may in
     let alone = takes.is_unmixed in
-    (rw (at_port h.ports c.from-place.result c.index-self-place-2.result small) at (c.admits_beside_taken.ensures.complete c.if-not-admits_beside_taken.true (o.media c.from-place.result)))
+    (rw (at_port h.ports c.from-place.result c.index-self-place-2.result small) at (c.admits_by_halt_and_taken.ensures.complete c.if-not-admits_by_halt_and_taken.true (o.media c.from-place.result)))
     (subst (λ (x : Meaning). admits (halt_of (slice_index_or h.ports c.from-place.result reset_port_without_disk).halting) x.operation ≡ true) one takes.working.admitted)
     (subst (λ (x : Meaning). IsUnmixed (port_of (slice_index_or h.ports c.from-place.result reset_port_without_disk) (o.media c.from-place.result)) x.operation) one alone)

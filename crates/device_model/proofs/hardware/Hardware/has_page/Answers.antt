@@ -11,7 +11,7 @@ use Rattle.device_model.proofs.SlotLemmas.{at_port, none_filled}
 use Rattle.device_model.proofs.hardware.Hardware.has_page.Goals as goal
 
 pub decodes_page-requires-clause-may : goal.decodes_page-requires-clause-may
-decodes_page-requires-clause-may c = c.has_issued_untaken_on_working_port.ensures.may c.if-has_issued_untaken_on_working_port.true
+decodes_page-requires-clause-may c = c.is_fetchable_if_halt_admits.ensures.may c.if-is_fetchable_if_halt_admits.true
 
 pub returns-then-can_end : goal.returns-then-can_end
 returns-then-can_end c =
@@ -20,7 +20,7 @@ returns-then-can_end c =
 
 pub returns-else-can_end : goal.returns-else-can_end
 returns-else-can_end c = λ o.
-    let never = c.has_issued_untaken_on_working_port.ensures.complete c.if-has_issued_untaken_on_working_port.false in (
+    let never = c.is_fetchable_if_halt_admits.ensures.complete c.if-is_fetchable_if_halt_admits.false in (
       page_barred c.args.self.now c.args.port c.args.slot never o,
       page_unheld c.args.self.now c.args.port c.args.slot c.len.result c.len.ensures
           (λ r held kind ends.
@@ -32,7 +32,7 @@ returns-else-can_end c = λ o.
 
 pub returns-in_err-command : goal.returns-in_err-command
 returns-in_err-command c = λ o.
-    let never = c.has_issued_untaken_on_working_port.ensures.complete c.if-has_issued_untaken_on_working_port.false in
+    let never = c.is_fetchable_if_halt_admits.ensures.complete c.if-is_fetchable_if_halt_admits.false in
     let P : Option Bool → Type 0 = λ r. FindsPageCommandAndWhetherItCanEnd (device_of c.args.self.now o) c.args.port c.args.slot r in
     subst P (sym c.from_residual.ensures) (
       page_barred c.args.self.now c.args.port c.args.slot never o,
@@ -41,7 +41,7 @@ returns-in_err-command c = λ o.
 
 pub returns-then-not-sends_page : goal.returns-then-not-sends_page
 returns-then-not-sends_page c = λ o.
-    let never = c.has_issued_untaken_on_working_port.ensures.complete c.if-has_issued_untaken_on_working_port.false in (
+    let never = c.is_fetchable_if_halt_admits.ensures.complete c.if-is_fetchable_if_halt_admits.false in (
       page_barred c.args.self.now c.args.port c.args.slot never o,
       page_unheld c.args.self.now c.args.port c.args.slot _ refl
           (λ r held kind ends.
@@ -71,5 +71,5 @@ pub returns-then-not-may_be_page_command : goal.returns-then-not-may_be_page_com
 returns-then-not-may_be_page_command c = λ o.
     let h = c.args.self.now in
     let some : c.args.port < length h.ports = search rules in
-    let none = rw (at_port h.ports c.args.port c.index-self-port-then-has_issued_untaken_on_working_port.result some) at (rw c.deref.ensures.value at (c.may_be_page_command.ensures c.if-not-may_be_page_command.true)) in
-    (page_unmeant h c.args.port c.args.slot none o, page_unsaid h c.args.port c.args.slot _ refl none (c.has_issued_untaken_on_working_port.ensures.may c.if-has_issued_untaken_on_working_port.true) o)
+    let none = rw (at_port h.ports c.args.port c.index-self-port-then-is_fetchable_if_halt_admits.result some) at (rw c.deref.ensures.value at (c.may_be_page_command.ensures c.if-not-may_be_page_command.true)) in
+    (page_unmeant h c.args.port c.args.slot none o, page_unsaid h c.args.port c.args.slot _ refl none (c.is_fetchable_if_halt_admits.ensures.may c.if-is_fetchable_if_halt_admits.true) o)

@@ -4,7 +4,7 @@ use Rattle.std.proofs.lemmas.Option.{IfSome_then}
 use Rattle.adapter.specs.Commands.{is_ranged}
 use Rattle.adapter.specs.Memory.{bytes_at}
 use Rattle.adapter.specs.declared.tape.Entry.TheVariants as entry
-use Rattle.device_model.specs.PieceTransfers.{piece_of}
+use Rattle.device_model.specs.PieceTransfers.{piece_in_memory}
 use Rattle.device_model.specs.FetchedBytes.{bytes_of}
 use Rattle.device_model.specs.Slots.{IsNextMove}
 use Rattle.device_model.specs.PortView.{reset_port_without_disk, taken_in}
@@ -21,7 +21,7 @@ use Rattle.device_model.proofs.hardware.Hardware.note_move.Goals as goal
 pub returns-clause-moved : goal.returns-clause-moved
 returns-clause-moved c = λ old o t is next.
     let h = c.args.self.now in
-    let bytes : List ℕ = piece_of h c.args.next in
+    let bytes : List ℕ = piece_in_memory h c.args.next in
     let first : c.piece_in.result.now ≡ bytes = c.piece_in.ensures
     ∙ ap (λ (l : List ℕ). bytes_at (bytes_of l) c.args.next.address 512) c.deref.ensures.value in
     let again : c.piece_in-2.result.now ≡ bytes = c.piece_in-2.ensures

@@ -7,7 +7,7 @@ use Rattle.fis.specs.declared.DeviceToHost.{DeviceToHost}
 use Rattle.fis.specs.declared.PioSetup.{PioSetup}
 use Rattle.fis.specs.declared.SetDeviceBits.{SetDeviceBits}
 use Rattle.adapter.specs.Device.{Device}
-use Rattle.device_model.specs.SentFises.{SendsSetDeviceBits, SendsDeviceToHost, SendsPioSetup, end_fis, page_setup_fis, ended_tag_fis}
+use Rattle.device_model.specs.SentFises.{SendsSetDeviceBits, SendsDeviceToHost, SendsPioSetup, end_or_failure_d2h_fis, page_setup_fis, ended_tag_fis}
 use Rattle.device_model.specs.PortView.{port_of}
 use Rattle.device_model.specs.WholeAdapter.{device_of, no_media}
 use Rattle.device_model.proofs.SlotLemmas.{at_port}
@@ -34,7 +34,7 @@ returns-in-Read c = record {
       let small : c.args.port < length c.args.self.now.ports = search rules in
       let P : DeviceToHost → Type 0 = λ f. EncodesDeviceToHost c.encode_d2h-fis.result f in
       let d : Device = device_of c.args.self.now o in
-      let sent : SendsDeviceToHost c.args.port (end_fis (d.port c.args.port)) d (device_of c.send-in-Read.new.self o) =
+      let sent : SendsDeviceToHost c.args.port (end_or_failure_d2h_fis (d.port c.args.port)) d (device_of c.send-in-Read.new.self o) =
       (c.encode_d2h-fis.result, subst P (rw (at_port c.args.self.now.ports c.args.port c.index-self-port-in-Read.result small) at (c.end_registers.ensures (o.media c.args.port))) c.encode_d2h-fis.ensures, c.send-in-Read.ensures.sent o) in
       elim c.in-Read.is [
         | inl read ↦ rw read (refl, sent)

@@ -6,7 +6,7 @@ use Rattle.fis.specs.Encoding.{EncodesDeviceToHost, EncodesSetDeviceBits}
 use Rattle.fis.specs.declared.DeviceToHost.{DeviceToHost}
 use Rattle.fis.specs.declared.SetDeviceBits.{SetDeviceBits}
 use Rattle.adapter.specs.Device.{Device}
-use Rattle.device_model.specs.SentFises.{SendsSetDeviceBits, SendsDeviceToHost, end_fis, queued_failure_fis}
+use Rattle.device_model.specs.SentFises.{SendsSetDeviceBits, SendsDeviceToHost, end_or_failure_d2h_fis, queued_failure_fis}
 use Rattle.device_model.specs.PortView.{port_of}
 use Rattle.device_model.specs.WholeAdapter.{device_of, no_media}
 use Rattle.device_model.proofs.SlotLemmas.{at_port}
@@ -34,6 +34,6 @@ returns-else-queued-clause-sent c = λ o.
     let small : c.args.port < length c.args.self.now.ports = search rules in
     let P : DeviceToHost → Type 0 = λ f. EncodesDeviceToHost c.encode_d2h-fis.result f in
     let d : Device = device_of c.args.self.now o in
-    let sent : SendsDeviceToHost c.args.port (end_fis (d.port c.args.port)) d (device_of c.send-else-queued.new.self o) =
+    let sent : SendsDeviceToHost c.args.port (end_or_failure_d2h_fis (d.port c.args.port)) d (device_of c.send-else-queued.new.self o) =
     (c.encode_d2h-fis.result, subst P (rw (at_port c.args.self.now.ports c.args.port c.index-self-port-else-queued.result small) at (c.end_registers.ensures (o.media c.args.port))) c.encode_d2h-fis.ensures, c.send-else-queued.ensures.sent o) in
     rw c.if-queued.false sent

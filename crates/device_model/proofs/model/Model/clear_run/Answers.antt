@@ -1,7 +1,7 @@
 use Rattle.std.proofs.Common.{ℕ, Bool, true, min, ◌-◌, ◌≡◌, ◌<◌, ◌≤◌, ◌+◌, ◌∙◌, Some, length, refl, sym, ap, subst, arith, inl, inr}
 use Rattle.adapter.specs.declared.access.DeviceStep.TheVariants as asked
 use Rattle.adapter.specs.Steps.{disk_cleared}
-use Rattle.device_model.specs.WriteCaches.{CallFails, HasRoomForOldSectors}
+use Rattle.device_model.specs.WriteCaches.{OneMoreCallFails, HasRoomForOldSectors}
 use Rattle.device_model.specs.Disks.{bay_of, disk_over, bay_failures, lasting_of}
 use Rattle.device_model.specs.StepEffects.{Completes, HasCleared, CommandOfStepFails, SectorIsPastDiskOrStoreFails, LacksMemory, cleared_count_on_disk}
 use Rattle.device_model.specs.ModelState.{device_at, media_of, all_media_at}
@@ -286,9 +286,9 @@ cause g c =
           let less = w.if-count-on_disk.true in
           let first : on.first ≡ run.first = c.cut-on_disk.ensures.first (omega (arith, less)) in
           let error = w.error-is in
-          let Q : ℕ → Type 0 = λ k. CallFails a.cache.is_on true k (g.S.SectorStore.failures a.disk.store) (g.S.SectorStore.failures c.clear-count.new.self.disk.store) in
-          let V : Bool → Type 0 = λ x. CallFails x true (on.first + count) (g.S.SectorStore.failures c.reserve.new.self.disk.store) (g.S.SectorStore.failures c.clear-count.new.self.disk.store) in
-          let W : g.row.S.Denot → Type 0 = λ x. CallFails a.cache.is_on true (on.first + count) (g.S.SectorStore.failures x) (g.S.SectorStore.failures c.clear-count.new.self.disk.store) in
+          let Q : ℕ → Type 0 = λ k. OneMoreCallFails a.cache.is_on true k (g.S.SectorStore.failures a.disk.store) (g.S.SectorStore.failures c.clear-count.new.self.disk.store) in
+          let V : Bool → Type 0 = λ x. OneMoreCallFails x true (on.first + count) (g.S.SectorStore.failures c.reserve.new.self.disk.store) (g.S.SectorStore.failures c.clear-count.new.self.disk.store) in
+          let W : g.row.S.Denot → Type 0 = λ x. OneMoreCallFails a.cache.is_on true (on.first + count) (g.S.SectorStore.failures x) (g.S.SectorStore.failures c.clear-count.new.self.disk.store) in
           let sector : on.first + count ≡ run.first + count = omega (arith, first) in
           (inr (omega (arith, less, first, inside, size), error, subst Q sector (subst W (then_store g c) (subst V c.reserve.ensures.old_sectors_are_kept.cache_mode_is_kept (c.clear-count.ensures.zero.failure_is_noted less)))), omega (arith, error))
       | else-count-on_disk w ↦

@@ -13,9 +13,9 @@ use Rattle.adapter.specs.declared.tape.Entry.TheVariants as entry
 use Rattle.sector_store.specs.declared.store.Failures.{Failures}
 use Rattle.adapter.specs.declared.access.DeviceStep.TheVariants as asked
 use Rattle.device_model.specs.Disks.{bay_of, port_has_cache, disk_in_bay, bay_failures, disk_failures, has_cache, lasting_of}
-use Rattle.device_model.specs.WriteCaches.{CallFails, HasRoomForOldSectors}
+use Rattle.device_model.specs.WriteCaches.{OneMoreCallFails, HasRoomForOldSectors}
 use Rattle.device_model.specs.StepEffects.{Completes, CommandOfStepFails, LacksMemory}
-use Rattle.device_model.specs.PieceTransfers.{TransfersPieceOrFails, piece_of}
+use Rattle.device_model.specs.PieceTransfers.{TransfersPieceOrFails, piece_in_memory}
 use Rattle.device_model.specs.Finishing.{HasMove}
 use Rattle.device_model.specs.ModelState.{device_at, media_of, all_media_at}
 use Rattle.device_model.specs.Slots.{IsNextMove}
@@ -95,10 +95,10 @@ was g c =
 -- it was exchanged with the bay as it was, but that its cache has grown
 exchanged : (g : Over) (c : goal.After-note_move g) →
     TransfersPieceOrFails g.S.SectorStore.size g.S.SectorStore.told g.S.SectorStore.failures (record c.in-Some.bay { cache = c.reserve.new.self.cache }) c.transfer_piece.new.self c.in-Some-next_move.next
-    (piece_of c.reserve-room.new.self c.in-Some-next_move.next) (piece_of c.transfer_piece.new.hardware c.in-Some-next_move.next) c.transfer_piece.result
+    (piece_in_memory c.reserve-room.new.self c.in-Some-next_move.next) (piece_in_memory c.transfer_piece.new.hardware c.in-Some-next_move.next) c.transfer_piece.result
 exchanged g c =
     let P : Bay g.row.S.Denot → Type 0 = λ x. TransfersPieceOrFails g.S.SectorStore.size g.S.SectorStore.told g.S.SectorStore.failures x c.transfer_piece.new.self c.in-Some-next_move.next
-    (piece_of c.reserve-room.new.self c.in-Some-next_move.next) (piece_of c.transfer_piece.new.hardware c.in-Some-next_move.next) c.transfer_piece.result in
+    (piece_in_memory c.reserve-room.new.self c.in-Some-next_move.next) (piece_in_memory c.transfer_piece.new.hardware c.in-Some-next_move.next) c.transfer_piece.result in
     subst P c.reserve.ensures.rest c.transfer_piece.ensures.exchanges
 
 lasts : (g : Over) (c : goal.After-note_move g) → lasting_of g.S.SectorStore.told c.transfer_piece.new.self ≡ lasting_of g.S.SectorStore.told c.in-Some.bay
@@ -130,7 +130,7 @@ moved g c =
     let a = c.in-Some.bay in
     let o : AllMedia = all_media_at g.S.SectorStore.size g.S.SectorStore.told m in
     let h = c.reserve-room.new.self in
-    let bytes = piece_of c.transfer_piece.new.hardware c.in-Some-next_move.next in
+    let bytes = piece_in_memory c.transfer_piece.new.hardware c.in-Some-next_move.next in
     let did = c.if-not-transfer_piece.false in
     let r : TakenCommand = (grow c.args.port.0 c.args.slot.0 c.reserve-room.ensures.rest c.in-Some-next_move.ensures.found).0 in
     let is : IsNextMove h c.args.port.0 c.args.slot.0 c.in-Some-next_move.next r = (grow c.args.port.0 c.args.slot.0 c.reserve-room.ensures.rest c.in-Some-next_move.ensures.found).1 in
@@ -183,7 +183,7 @@ returns-clause-answers g c =
     let b = c.transfer_piece.new.self in
     let o : AllMedia = all_media_at g.S.SectorStore.size g.S.SectorStore.told m in
     let found = (grow c.args.port.0 c.args.slot.0 c.reserve-room.ensures.rest c.in-Some-next_move.ensures.found) in
-    let bytes = piece_of c.transfer_piece.new.hardware c.in-Some-next_move.next in
+    let bytes = piece_in_memory c.transfer_piece.new.hardware c.in-Some-next_move.next in
     let noted = c.note_move.ensures.moved c.reserve-room.new.self o found.0 c.transfer_piece.ensures.memory found.1 in
     let entry : Entry = entry.Move (move_of c.args.port.0 c.args.slot.0 (taken_of found.0) bytes) in
     let disks = has_disks g.S.SectorStore.size g.S.SectorStore.told m c.args.port.0 a (was g c) in (
@@ -328,10 +328,10 @@ was_store g c =
 
 exchanged_so : (g : Over) (c : goal.After-fail-failed-then-not-transfer_piece g) →
     TransfersPieceOrFails g.S.SectorStore.size g.S.SectorStore.told g.S.SectorStore.failures (record c.in-Some.bay { cache = c.reserve.new.self.cache }) c.transfer_piece.new.self c.in-Some-next_move.next
-    (piece_of c.reserve-room.new.self c.in-Some-next_move.next) (piece_of c.transfer_piece.new.hardware c.in-Some-next_move.next) c.transfer_piece.result
+    (piece_in_memory c.reserve-room.new.self c.in-Some-next_move.next) (piece_in_memory c.transfer_piece.new.hardware c.in-Some-next_move.next) c.transfer_piece.result
 exchanged_so g c =
     let P : Bay g.row.S.Denot → Type 0 = λ x. TransfersPieceOrFails g.S.SectorStore.size g.S.SectorStore.told g.S.SectorStore.failures x c.transfer_piece.new.self c.in-Some-next_move.next
-    (piece_of c.reserve-room.new.self c.in-Some-next_move.next) (piece_of c.transfer_piece.new.hardware c.in-Some-next_move.next) c.transfer_piece.result in
+    (piece_in_memory c.reserve-room.new.self c.in-Some-next_move.next) (piece_in_memory c.transfer_piece.new.hardware c.in-Some-next_move.next) c.transfer_piece.result in
     subst P c.reserve.ensures.rest c.transfer_piece.ensures.exchanges
 
 lasts_so : (g : Over) (c : goal.After-fail-failed-then-not-transfer_piece g) → lasting_of g.S.SectorStore.told c.transfer_piece.new.self ≡ lasting_of g.S.SectorStore.told c.in-Some.bay
@@ -399,8 +399,8 @@ store_failed g c =
     let here = c.is_within_disk_if_ranged.ensures.0 c.if-not-is_within_disk_if_ranged.false ranged in
     let listed = c.sectors.ensures in
     let on : c.reserve.new.self.cache.is_on ≡ port_has_cache m c.args.port.0 = c.reserve.ensures.old_sectors_are_kept.cache_mode_is_kept ∙ sym (ap has_cache (was_store g c)) in
-    let Q : Bool → ℕ → Type 0 = λ writes sector. CallFails (port_has_cache m c.args.port.0) writes sector (g.S.SectorStore.failures a.disk.store) (g.S.SectorStore.failures b.disk.store) in
-    let O : Bool → Type 0 = λ x. CallFails x (reads_memory (c.in-Some-next_move.next.operation)) c.in-Some-next_move.next.sector (g.S.SectorStore.failures a.disk.store) (g.S.SectorStore.failures b.disk.store) in
+    let Q : Bool → ℕ → Type 0 = λ writes sector. OneMoreCallFails (port_has_cache m c.args.port.0) writes sector (g.S.SectorStore.failures a.disk.store) (g.S.SectorStore.failures b.disk.store) in
+    let O : Bool → Type 0 = λ x. OneMoreCallFails x (reads_memory (c.in-Some-next_move.next.operation)) c.in-Some-next_move.next.sector (g.S.SectorStore.failures a.disk.store) (g.S.SectorStore.failures b.disk.store) in
     let failed = subst O on ((exchanged_so g c).failure_is_noted c.if-not-transfer_piece.true (omega (arith, here, listed))) in
     let writes = ap reads_memory next.1.operation_is in
     let size : ((device_at g.S.SectorStore.size g.S.SectorStore.told m).port c.args.port.0).disk.sector_count ≡ g.S.SectorStore.size a.disk.store =
@@ -409,7 +409,7 @@ store_failed g c =
     let before : disk_failures g.S.SectorStore.failures m c.args.port.0 ≡ g.S.SectorStore.failures a.disk.store = ap (bay_failures g.S.SectorStore.failures) (was_store g c) in
     let now : disk_failures g.S.SectorStore.failures (store_model g c) c.args.port.0 ≡ g.S.SectorStore.failures b.disk.store =
     ap (bay_failures g.S.SectorStore.failures) (seated_here m (store_model g c) c.args.port.0 a b (was_store g c) (store_items g c)) in
-    let R : Option Failures → Option Failures → Type 0 = λ x y. CallFails (port_has_cache m c.args.port.0) (reads_memory next.0.operation) (next_sector (taken_of next.0)) x y in
+    let R : Option Failures → Option Failures → Type 0 = λ x y. OneMoreCallFails (port_has_cache m c.args.port.0) (reads_memory next.0.operation) (next_sector (taken_of next.0)) x y in
     let called = subst (λ w. Q w (next_sector (taken_of next.0))) writes (subst (Q (reads_memory (c.in-Some-next_move.next.operation))) next.1.sector_is failed) in
     fails_to_move g.S.SectorStore.size g.S.SectorStore.told g.S.SectorStore.failures c.args.port c.args.slot 0x40 (taken_of next.0) m
     (store_model g c) c.fail-failed-then-not-transfer_piece.new.self (store g c) (store_same g c)

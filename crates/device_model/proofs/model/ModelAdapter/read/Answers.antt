@@ -27,7 +27,7 @@ pub returns-clause-reads : goal.returns-clause-reads
 returns-clause-reads g c =
     let o : AllMedia = all_media_at g.S.SectorStore.size g.S.SectorStore.told c.do_queued_steps.new.self in
     let last : AllMedia = all_media_at g.S.SectorStore.size g.S.SectorStore.told c.send_pages.new.self in
-    let settled = c.settle_reset_engines_and_links.ensures.own o in
+    let settled = c.end_reset_stop_engines_link_up.ensures.own o in
     record {
       at_access = device_of c.send_pages.new.self.hardware last;
       steps = Steps-trans (begins_steps g.S.SectorStore.size g.S.SectorStore.told g.S.SectorStore.failures _ _ c.do_queued_steps.ensures)
@@ -44,7 +44,7 @@ returns-clause-settled g c =
     let Q : List Bool → Type 0 = λ held. IsSettled held (device_of c.send_pages.new.self.hardware last) in
     subst P (sym (c.update_read_notes.ensures.notes last))
     (noted_settled c.args.r c.shown-value.result (device_of c.send_pages.new.self.hardware last) _
-    (subst Q (sym c.send_pages.ensures.rest.held_ports_are) (c.send_pages.ensures.settled _ (c.settle_reset_engines_and_links.ensures.settled o))))
+    (subst Q (sym c.send_pages.ensures.rest.held_ports_are) (c.send_pages.ensures.settled _ (c.end_reset_stop_engines_link_up.ensures.settled o))))
 
 pub returns-clause-page_command_waits_only_if_held_or_starved : goal.returns-clause-page_command_waits_only_if_held_or_starved
 returns-clause-page_command_waits_only_if_held_or_starved g c =
@@ -71,8 +71,8 @@ returns-clause-does_read g c =
     let mid = c.do_queued_steps.new.self in
     let o : AllMedia = all_media_at g.S.SectorStore.size g.S.SectorStore.told mid in
     let last : AllMedia = all_media_at g.S.SectorStore.size g.S.SectorStore.told c.send_pages.new.self in
-    let after = record mid { hardware = c.settle_reset_engines_and_links.new.self; held = c.settle_reset_engines_and_links.new.held } in
-    let settled = c.settle_reset_engines_and_links.ensures.own o in
+    let after = record mid { hardware = c.end_reset_stop_engines_link_up.new.self; held = c.end_reset_stop_engines_link_up.new.held } in
+    let settled = c.end_reset_stop_engines_link_up.ensures.own o in
     let own = c.send_pages.ensures.rest in
     let P : List Bool → Type 0 = λ held. EndsPendingResetUnlessAllHeld mid.held held (device_at g.S.SectorStore.size g.S.SectorStore.told mid) settled.0 in
     let Q : List Bool → Type 0 = λ held. DoesSpontaneousSteps held settled.0 (device_of c.send_pages.new.self.hardware last) in
@@ -82,13 +82,13 @@ returns-clause-does_read g c =
       after_reset_end = settled.0;
       ends_reset = subst P (sym own.held_ports_are) settled.1;
       after_own_steps = device_of c.send_pages.new.self.hardware last;
-      does_own_steps = subst Q (sym own.held_ports_are) (record { settled = device_of c.settle_reset_engines_and_links.new.self o; settles_ports = settled.2; sends_pages = c.send_pages.ensures.own });
+      does_own_steps = subst Q (sym own.held_ports_are) (record { settled = device_of c.end_reset_stop_engines_link_up.new.self o; settles_ports = settled.2; sends_pages = c.send_pages.ensures.own });
       shows = c.shown-value.ensures last;
       effect = c.update_read_notes.ensures.notes last;
       page_source_is = own.page_source_is;
       disk_index_is = own.disk_index_is;
       gains_own_pages = gains_on g.S.SectorStore.size mid after _ (λ _. refl) (λ _. refl)
-          (gains_none g.S.SectorStore.size mid after (ap (λ (v : Vec Entry). v.items) c.settle_reset_engines_and_links.ensures.tape))
+          (gains_none g.S.SectorStore.size mid after (ap (λ (v : Vec Entry). v.items) c.end_reset_stop_engines_link_up.ensures.tape))
           (gains_on g.S.SectorStore.size after c.send_pages.new.self _ own.page_source_is
           (λ q. identity_kept g.S.SectorStore.size after c.send_pages.new.self q (own.disk_index_is q) (own.step_keeps.identities_are_kept q)) own.gains_own_pages
           (gains_none g.S.SectorStore.size c.send_pages.new.self _
@@ -103,10 +103,10 @@ returns-clause-does_read g c =
       };
       starves_for_want = λ now.
           elim (c.send_pages.ensures.told (sym c.update_read_notes.ensures.starved ∙ now)) [
-            | inl before ↦ inl (sym c.settle_reset_engines_and_links.ensures.starved ∙ before)
+            | inl before ↦ inl (sym c.end_reset_stop_engines_link_up.ensures.starved ∙ before)
             | inr one ↦
                 let R : Vec Entry → Type 0 = λ tape. vec_len tape + (one.5.moves_left + 1) ≤ vec_capacity tape in
                 inr (one.0, one.1, one.2, one.3, one.4, one.5, λ room. one.6 (subst R c.update_read_notes.ensures.tape room))
           ];
-      stays_starved = λ told. c.update_read_notes.ensures.starved ∙ own.stays_starved (c.settle_reset_engines_and_links.ensures.starved ∙ told);
+      stays_starved = λ told. c.update_read_notes.ensures.starved ∙ own.stays_starved (c.end_reset_stop_engines_link_up.ensures.starved ∙ told);
     }

@@ -36,7 +36,7 @@ returns-then-is_queued c = λ m.
     let queued : true ≡ is_queued k = sym c.if-is_queued.true ∙ c.is_queued.ensures in
     let taken = ap taken_commands_by_slot c.remove.ensures ∙ slots_changed (taken_in p.taken) slot None in
     let is : word_bits c.with_bit_as-self.result ≡ changed (word_bits p.is) (cause_of k) true =
-    c.with_bit_as-self.ensures ∙ ap (λ (place : ℕ). changed (word_bits p.is) place true) c.end_cause.ensures in
+    c.with_bit_as-self.ensures ∙ ap (λ (place : ℕ). changed (word_bits p.is) place true) c.end_cause_bit_number.ensures in
     let tfd : bit_and c.task_file.result 0xff7f ≡ bit_and (port_of p m).tfd 0xff7f = ap (λ (n : ℕ). bit_and n 0xff7f) c.task_file.ensures in
     let sact : word_bits c.with_bit_as-self-then-is_queued.result ≡ changed (word_bits p.sact) slot false =
     c.with_bit_as-self-then-is_queued.ensures ∙ ap (λ (place : ℕ). changed (word_bits p.sact) place false) c.from.ensures in
@@ -54,7 +54,7 @@ returns-else-is_queued c = λ m.
     let plain : false ≡ is_queued k = sym c.if-is_queued.false ∙ c.is_queued.ensures in
     let taken = ap taken_commands_by_slot c.remove.ensures ∙ slots_changed (taken_in p.taken) slot None in
     let is : word_bits c.with_bit_as-self.result ≡ changed (word_bits p.is) (cause_of k) true =
-    c.with_bit_as-self.ensures ∙ ap (λ (place : ℕ). changed (word_bits p.is) place true) c.end_cause.ensures in
+    c.with_bit_as-self.ensures ∙ ap (λ (place : ℕ). changed (word_bits p.is) place true) c.end_cause_bit_number.ensures in
     let tfd : bit_and c.task_file.result 0xff7f ≡ bit_and (port_of p m).tfd 0xff7f = ap (λ (n : ℕ). bit_and n 0xff7f) c.task_file.ensures in
     let ci : word_bits c.with_bit_as-self-else-is_queued.result ≡ changed (word_bits p.ci) slot false =
     c.with_bit_as-self-else-is_queued.ensures ∙ ap (λ (place : ℕ). changed (word_bits p.ci) place false) c.from-else-is_queued.ensures in

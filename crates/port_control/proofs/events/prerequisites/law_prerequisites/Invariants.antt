@@ -2,5 +2,5 @@ use Rattle.port_control.specs.EventLaws.{AccessPurpose, slot_uses_for, accesses_
 use Rattle.port_control.proofs.events.prerequisites.law_prerequisites.Given as goal
 
 -- The laws on fragments are asked of this crate's kinds of accesses.
-abbrev pub ghosts-law_fragment_prerequisites : goal.ghosts-law_fragment_prerequisites
-ghosts-law_fragment_prerequisites a = record { Kind = AccessPurpose; may = accesses_for; fits = slot_uses_for }
+abbrev pub ghosts-law_access_kinds_satisfy_fragment_laws : goal.ghosts-law_access_kinds_satisfy_fragment_laws
+ghosts-law_access_kinds_satisfy_fragment_laws a = record { Kind = AccessPurpose; may = accesses_for; fits = slot_uses_for }

@@ -35,10 +35,10 @@ recovered g c s h =
     let then = c.complete_and_recover-failed.new in
     record {
       laws = record {
-        bootable = c.law_handled_port_errors_keep_invariant.ensures.bootable;
-        mode = c.law_handled_port_errors_keep_invariant.ensures.mode_is_kept;
-        places = c.law_handled_port_errors_keep_invariant.ensures.issued_loans_have_room;
-        settled = c.law_handled_port_errors_keep_invariant.ensures.resolved_has_invariant;
+        bootable = c.law_resolved_errors_keep_in_call_invariant.ensures.bootable;
+        mode = c.law_resolved_errors_keep_in_call_invariant.ensures.mode_is_kept;
+        places = c.law_resolved_errors_keep_in_call_invariant.ensures.issued_loans_have_room;
+        settled = c.law_resolved_errors_keep_in_call_invariant.ensures.resolved_has_invariant;
         error_handled = c.law_handling_look_result_is_a_service_turn.ensures.error_handled;
         restarted = c.law_handling_timeout_is_a_restart_turn.ensures;
       };

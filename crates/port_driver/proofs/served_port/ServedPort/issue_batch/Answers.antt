@@ -5,7 +5,7 @@ use Rattle.std.proofs.lemmas.List.Elements.{All-nil}
 use Rattle.ata_types.specs.declared.request.RequestId.{RequestId}
 use Rattle.hba_regs.specs.Bits.{bit}
 use Rattle.adapter.specs.Device.{Device}
-use Rattle.block_machine.specs.DueRequests.{AreAllDueInOrder, due_of, is_plain}
+use Rattle.block_machine.specs.DueRequests.{AreDueInTurnAndLeaveNoneDue, due_of, is_plain}
 use Rattle.block_machine.specs.declared.due.QueueMode.{QueueMode}
 use Rattle.block_machine.specs.declared.due.Unanswered.{Unanswered}
 use Rattle.commands.specs.Batches.{BatchSlotsAreUnused, IsBatchIssued, IsBatchStored, PlacedTask, StoresTransfer}
@@ -43,7 +43,7 @@ loop-place-init g c =
     let order : BookIsWellFormed book = subst BookIsWellFormed l.book_is l.in_call_invariant.book_is_well_formed in
     record {
       batch = ([], subst (λ (d : Device). IsBatchStored port [] d d) l.device_is none, c.law_batch_mask_gains_task_slot_bit.ensures.empty_mask, λ s l. sending.lent_same s device book self.slots port self.mode self.probe_result may.ready l);
-      turns = subst (λ (ids : List RequestId). AreAllDueInOrder self.mode port ids (unanswered_of book)) (sym c.requires.due) (c.law_issuing_due_in_turn_leaves_none_due.ensures self.mode port (unanswered_of book) (c.law_book_stays_well_formed.ensures.unanswered_are_in_order book order));
+      turns = subst (λ (ids : List RequestId). AreDueInTurnAndLeaveNoneDue self.mode port ids (unanswered_of book)) (sym c.requires.due) (c.law_issuing_due_in_turn_leaves_none_due.ensures self.mode port (unanswered_of book) (c.law_book_stays_well_formed.ensures.unanswered_are_in_order book order));
       many = refl;
       port = refl;
       fits = omega arith;
@@ -195,9 +195,9 @@ loop-place-preserved g c =
     let next = drop_more items place no_id (in_list g e) in
     let ids_are : take place items ++ x.id ∷ [] ≡ take (place + 1) items = ap (λ (i : RequestId). take place items ++ i ∷ []) (id_is g e) ∙ sym (take_more items place no_id (in_list g e)) in
     let used_is : used ≡ with_use x.slots c.in-Some.slot.0 (Some (use_for x.mode (sending.with_id x.id x.turn.0))) = c.in-Some.ensures.taken ∙ ap (λ (b : Rattle.std.proofs.Common.Bool). with_use x.slots c.in-Some.slot.0 (Some (record { id = x.id; queued = b }))) (sym (ap not (queued g f))) in
-    let turn : AreAllDueInOrder x.mode x.port (x.id ∷ drop (place + 1) items) (unanswered_of x.book) =
-    subst (λ (i : RequestId). AreAllDueInOrder x.mode x.port (i ∷ drop (place + 1) items) (unanswered_of x.book)) (sym (id_is g e))
-    (subst (λ (ids : List RequestId). AreAllDueInOrder x.mode x.port ids (unanswered_of x.book)) next c.loop-place.invariant.turns) in
+    let turn : AreDueInTurnAndLeaveNoneDue x.mode x.port (x.id ∷ drop (place + 1) items) (unanswered_of x.book) =
+    subst (λ (i : RequestId). AreDueInTurnAndLeaveNoneDue x.mode x.port (i ∷ drop (place + 1) items) (unanswered_of x.book)) (sym (id_is g e))
+    (subst (λ (ids : List RequestId). AreDueInTurnAndLeaveNoneDue x.mode x.port ids (unanswered_of x.book)) next c.loop-place.invariant.turns) in
     record {
       batch = (
         x.tasks ++ task ∷ [],
@@ -208,7 +208,7 @@ loop-place-preserved g c =
             (c.law_due_requests_get_slots.ensures.one_more_gets_a_slot s (batching.mid x s l) (with_port_slots s x.start later used x.port) x.port x.ids x.tasks x.id task (x.puts s l)
             (batching.puts_it x s l c.in-Some.slot.0 (slot_small g f) c.in-Some.ensures.lowest later c.issue.ensures used used_is)),
       );
-      turns = subst (λ (us : List Unanswered). AreAllDueInOrder x.mode x.port (drop (place + 1) items) us)
+      turns = subst (λ (us : List Unanswered). AreDueInTurnAndLeaveNoneDue x.mode x.port (drop (place + 1) items) us)
           (sym (ap unanswered_of c.issue.ensures ∙ c.law_unanswered_follow_book_operations.ensures.issue x.book x.id)) turn.1;
       many = ap length c.issue.ensures ∙ length-map x.book (update_if_id x.id issued_request) ∙ c.loop-place.invariant.many;
       port = ap (λ (p : ServedPort). record p { slots = used }) c.loop-place.invariant.port;

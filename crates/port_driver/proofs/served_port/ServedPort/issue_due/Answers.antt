@@ -1,6 +1,6 @@
 use Rattle.std.proofs.Common.{[], ◌∷◌, List, ap, subst, arith}
 use Rattle.ata_types.specs.declared.request.RequestId.{RequestId}
-use Rattle.block_machine.specs.DueRequests.{AreAllDueInOrder}
+use Rattle.block_machine.specs.DueRequests.{AreDueInTurnAndLeaveNoneDue}
 use Rattle.request_queue.specs.BookEntries.{BookEntry, BookIsWellFormed, unanswered_of, due_ids}
 use Rattle.port_driver.proofs.Batching as batching
 use Rattle.port_driver.proofs.Sending as sending
@@ -14,8 +14,8 @@ issue_one-requires-clause-due g c =
     let port = c.args.port in
     let id = c.in-Some.id in
     let order : BookIsWellFormed book = subst BookIsWellFormed l.book_is l.in_call_invariant.book_is_well_formed in
-    let turns : AreAllDueInOrder mode port (id ∷ []) (unanswered_of book) =
-    subst (λ (ids : List RequestId). AreAllDueInOrder mode port ids (unanswered_of book)) c.in-Some.ensures.is_the_only_due (c.law_issuing_due_in_turn_leaves_none_due.ensures mode port (unanswered_of book) (c.law_book_stays_well_formed.ensures.unanswered_are_in_order book order)) in
+    let turns : AreDueInTurnAndLeaveNoneDue mode port (id ∷ []) (unanswered_of book) =
+    subst (λ (ids : List RequestId). AreDueInTurnAndLeaveNoneDue mode port ids (unanswered_of book)) c.in-Some.ensures.is_the_only_due (c.law_issuing_due_in_turn_leaves_none_due.ensures mode port (unanswered_of book) (c.law_book_stays_well_formed.ensures.unanswered_are_in_order book order)) in
     sending.next_due book port mode (id ∷ []) 0 id (omega arith) turns
 
 -- no request is left, so none is due

@@ -1,6 +1,6 @@
 use Rattle.std.proofs.Common.{◌≡◌, [], ◌∷◌, List, get_or, length, refl, sym, ap, ◌∙◌, subst, arith}
 use Rattle.ata_types.specs.declared.request.RequestId.{RequestId}
-use Rattle.block_machine.specs.DueRequests.{AreAllDueInOrder}
+use Rattle.block_machine.specs.DueRequests.{AreDueInTurnAndLeaveNoneDue}
 use Rattle.request_queue.specs.BookEntries.{BookIsWellFormed, unanswered_of}
 use Rattle.port_driver.proofs.Batching as batching
 use Rattle.port_driver.proofs.Sending as sending
@@ -20,8 +20,8 @@ issue_one-requires-clause-due g c =
     let port = c.args.port in
     let l = c.requires.some_server_has_port.1 in
     let order : BookIsWellFormed book = subst BookIsWellFormed l.book_is l.in_call_invariant.book_is_well_formed in
-    let turns : AreAllDueInOrder mode port c.issuable.new.due.items (unanswered_of book) =
-    subst (λ (ids : List RequestId). AreAllDueInOrder mode port ids (unanswered_of book)) (sym c.issuable.ensures) (c.law_issuing_due_in_turn_leaves_none_due.ensures mode port (unanswered_of book) (c.law_book_stays_well_formed.ensures.unanswered_are_in_order book order)) in
+    let turns : AreDueInTurnAndLeaveNoneDue mode port c.issuable.new.due.items (unanswered_of book) =
+    subst (λ (ids : List RequestId). AreDueInTurnAndLeaveNoneDue mode port ids (unanswered_of book)) (sym c.issuable.ensures) (c.law_issuing_due_in_turn_leaves_none_due.ensures mode port (unanswered_of book) (c.law_book_stays_well_formed.ensures.unanswered_are_in_order book order)) in
     subst (λ (ids : List RequestId). sending.IsTurn book port mode (get_or ids 0 d)) (sym c.deref.ensures.0)
     (sending.next_due book port mode c.issuable.new.due.items 0 d (let one = c.in-1.is in let long = c.len.ensures.value in omega (arith, one, long)) turns)
 

@@ -8,7 +8,7 @@ issue_due-requires g c = record { ready = ap state_of c.in-Ready.is; some_server
 
 pub returns-in_default : goal.returns-in_default
 returns-in_default g c = record {
-  issues_all_due = λ s l. none_issued c.law_handled_port_errors_keep_invariant.ensures.unready_has_none_due s (g.A.Adapter.device c.args.adapter.now) c.args.book.now c.args.self.now.slots c.args.port c.args.self.now.mode c.args.self.now.probe_result l c.in_default.not-Ready;
+  issues_all_due = λ s l. none_issued c.law_resolved_errors_keep_in_call_invariant.ensures.unready_has_none_due s (g.A.Adapter.device c.args.adapter.now) c.args.book.now c.args.self.now.slots c.args.port c.args.self.now.mode c.args.self.now.probe_result l c.in_default.not-Ready;
   only_slots_change = refl;
   book_length_is_unchanged = refl;
   none_due_no_access = λ none. refl;

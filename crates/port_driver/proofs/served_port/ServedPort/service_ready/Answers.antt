@@ -3,7 +3,7 @@ use Rattle.ata_types.specs.declared.PortState.TheVariants.{Ready as ReadyState}
 use Rattle.adapter.specs.Device.{Device}
 use Rattle.host_boot.specs.TakeOver.{probe_result_of}
 use Rattle.refinement.specs.Fragments.{AnySlotStates, IsSimulated}
-use Rattle.server_history.specs.ErrorHandling.{ErrorIsFound}
+use Rattle.server_history.specs.ErrorHandling.{LookTellsErrorUnlessTimedOut}
 use Rattle.server_history.specs.IssuingAndAnswering.{IsMaskOf}
 use Rattle.server_history.specs.ServerState.{InCallInvariant, InvariantWithNoneDue, ServerState, slots_at, state_of}
 use Rattle.server_history.specs.Turns.{ServicesPort}
@@ -56,7 +56,7 @@ module _ (g : Over) (c : After-take_event-look g) (s : ServerState) (h : Has g c
       ∙ (λ i. record s { device = device; table = sym h.has_port_and_shared.table_is i; book = sym h.has_port_and_shared.book_is i })
 
   -- an error that the look tells
-  found : (port_error : PortError) → error_of c.take_event-look.result ≡ Some port_error → ErrorIsFound c.args.port port_error s.device seen × (port_error ≢ TimedOut)
+  found : (port_error : PortError) → error_of c.take_event-look.result ≡ Some port_error → LookTellsErrorUnlessTimedOut c.args.port port_error s.device seen × (port_error ≢ TimedOut)
   found port_error is = serving.found_out c.take_event-look.result port_error c.args.port s.device seen is looks
 
   in_error : (port_error : PortError) → error_of c.take_event-look.result ≡ Some port_error → IsInError s seen c.args.shared.now c.args.port c.args.self.now port_error

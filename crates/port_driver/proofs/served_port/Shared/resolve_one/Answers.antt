@@ -5,7 +5,7 @@ use Rattle.ata_types.specs.declared.request.Reply.{Reply}
 use Rattle.ata_types.specs.declared.request.RequestId.{RequestId}
 use Rattle.dma_frames.specs.Loan.{Lending}
 use Rattle.dma_frames.specs.FrameTables.{OwnersAndLoans, SetsLoanOnly}
-use Rattle.request_queue.specs.BookEntries.{BookEntry, IsWellFormedEntry, update_if_id, waiting_again_request, without_entry}
+use Rattle.request_queue.specs.BookEntries.{BookEntry, IsWellFormedEntry, update_if_id, request_with_issued_cleared, without_entry}
 use Rattle.request_queue.specs.Dispositions.{IsResolved, disposition_of, keeps_loan, reply_to}
 use Rattle.request_queue.specs.declared.PendingRequest.{PendingRequest}
 use Rattle.request_queue.specs.declared.disposition.Disposition.{Disposition}
@@ -79,7 +79,7 @@ returns-after-keeps_loan-clause-resolves c = λ request here its.
 
 pub returns-in-Requeue-clause-others : goal.returns-in-Requeue-clause-others
 returns-in-Requeue-clause-others c = λ e here ne.
-    subst (λ (book : List BookEntry). Contains book e) (sym c.requeue.ensures) (c.law_operations_change_one_request.ensures.others_are_unchanged c.args.self.now.book c.args.id waiting_again_request e here ne)
+    subst (λ (book : List BookEntry). Contains book e) (sym c.requeue.ensures) (c.law_operations_change_one_request.ensures.others_are_unchanged c.args.self.now.book c.args.id request_with_issued_cleared e here ne)
 
 pub returns-in-Requeue-clause-may : goal.returns-in-Requeue-clause-may
 returns-in-Requeue-clause-may c =
@@ -92,7 +92,7 @@ returns-in-Requeue-clause-may c =
         book_is_well_formed = c.law_book_stays_well_formed.ensures.requeued c.args.self.now.book c.args.id may.book_is_sound.book_is_well_formed (r.0, r.1, ap (λ (e : PendingRequest). e.id) r.2 ∙ r.3, its.0, its.1);
         entries_are_well_formed = c.law_entries_stay_well_formed.ensures.requeued c.args.self.now.table.value c.args.self.now.book c.args.id may.book_is_sound.entries_are_well_formed;
       };
-      replies_have_room = let as_many = length-map c.args.self.now.book (update_if_id c.args.id waiting_again_request) in omega (arith, as_many, may.replies_have_room);
+      replies_have_room = let as_many = length-map c.args.self.now.book (update_if_id c.args.id request_with_issued_cleared) in omega (arith, as_many, may.replies_have_room);
     })
 
 pub returns-after-keeps_loan-clause-others : goal.returns-after-keeps_loan-clause-others

@@ -12,7 +12,7 @@ pub stop-requires : goal.stop-requires
 stop-requires g c =
     let taken = c.take_over-host.ensures.takes_over in
     let none : Ready c.in-Ready.field-0 ≡ Unserved → ⊥ = λ e. absurd cc in
-    let there = c.law_taken_over_ports_are_as_their_state_says.ensures.served_port_exists _ _ 0 _ _ taken (omega arith) (λ e. none (sym c.in-Ready.is ∙ e)) in
+    let there = c.law_ready_ports_run_and_unusable_disks_show.ensures.served_port_exists _ _ 0 _ _ taken (omega arith) (λ e. none (sym c.in-Ready.is ∙ e)) in
     record { on_and_agrees = record { adapter_is_on = taken.adapter_is_on; has_port = there; machine_is_related = (taken.uses, tt, taken.machine_is_related) } }
 
 pub receive-requires : goal.receive-requires
@@ -25,7 +25,7 @@ receive-requires g c =
       accesses_are_of_kind = All-weaker (ReadsPortOrWrites IsCommandRegister (record { 0 = 0 })) AnyAccess (λ access is. tt) followed.is_driven.accesses followed.is_driven.accesses_are_of_kind;
     }) in
     let none : Ready c.in-Ready.field-0 ≡ Unserved → ⊥ = λ e. absurd cc in
-    let there = c.law_taken_over_ports_are_as_their_state_says.ensures.served_port_exists _ _ 0 _ _ taken (omega arith) (λ e. none (sym c.in-Ready.is ∙ e)) in
+    let there = c.law_ready_ports_run_and_unusable_disks_show.ensures.served_port_exists _ _ 0 _ _ taken (omega arith) (λ e. none (sym c.in-Ready.is ∙ e)) in
     let M : Port → Type 0 = λ p. MayBeginReceiving p (g.A.Adapter.device c.stop.new.adapter) in
     record {
       may = subst M (sym c.in-Ok.ensures.token_is_of_port) (record {
