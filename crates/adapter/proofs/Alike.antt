@@ -12,7 +12,7 @@ use Rattle.adapter.proofs.Guards.{in_use_before, steps_guard}
 use Rattle.adapter.proofs.KeptLemmas.{SameEngine, same_engine, still}
 
 pub record IsAlike (old new : Device) : Type 0 where
-  pub telling : new.telling ≡ old.telling
+  pub disks_tell_sectors : new.disks_tell_sectors ≡ old.disks_tell_sectors
   pub size : new.memory_size ≡ old.memory_size
   pub memory : new.memory ≡ old.memory
   pub cap : new.cap ≡ old.cap
@@ -26,7 +26,7 @@ pub record IsAlike (old new : Device) : Type 0 where
 -- a port's engine is the same, and so are the other ports
 pub port_alike : (d : Device) (port : ℕ) (new : DevicePort) → SameEngine (d.port port) new → IsAlike d (with_port d port new)
 port_alike d port new same = record {
-  telling = refl;
+  disks_tell_sectors = refl;
   size = refl;
   memory = refl;
   cap = refl;
@@ -39,7 +39,7 @@ port_alike d port new same = record {
 }
 
 pub IsAlike-refl : (d : Device) → IsAlike d d
-IsAlike-refl d = record { telling = refl; size = refl; memory = refl; cap = refl; pi = refl; hr = refl; ae = refl; ie = refl; tape = refl; port = λ q. same_engine (d.port q) }
+IsAlike-refl d = record { disks_tell_sectors = refl; size = refl; memory = refl; cap = refl; pi = refl; hr = refl; ae = refl; ie = refl; tape = refl; port = λ q. same_engine (d.port q) }
 
 -- a reading changes notes alone
 pub noted_alike : (r : Reg) (v : ℕ) (d : Device) → IsAlike d (device_after_reading r v d)

@@ -6,7 +6,7 @@ use Rattle.std.proofs.lemmas.List.{length-replicate}
 use Rattle.std.proofs.lemmas.List.Elements.{All-replicate}
 use Rattle.adapter.specs.Memory.{patched, bytes_at, changed}
 use Rattle.adapter.specs.Device.{Disk, IsValidSector, HasValidSectors, HasKnownSectors, DevicePort, Device}
-use Rattle.adapter.specs.FirstRead.{header_bytes, command_fis_bytes, prd_bytes, first_memory, first_disk_sector, first_disk, no_disk, empty_port, reading_port, first_read_device}
+use Rattle.adapter.specs.FirstRead.{header_up_to_ctba, command_fis_up_to_count, prd_bytes, first_memory, first_disk_sector, first_disk, no_disk, empty_port, reading_port, first_read_device}
 use Rattle.adapter.specs.Idle.{IsIdlePort, HoldsBytesAndTellsDisks}
 use Rattle.adapter.specs.OneCommand.{HasOneCommand, SlotDecodesToCommand, CommandLayout, layout_of, is_in_span, is_in_pieces, is_read_only, is_device_writable, is_not_device_writable, IsOutsideCommand}
 use Rattle.adapter.specs.ReadDone.{read_of, IsReadDone}
@@ -26,14 +26,14 @@ use Rattle.adapter.proofs.MemoryLemmas.{bytes_index, patched_before, patched_pas
 zero_between : (a : ℕ) → 12 ≤ a → a < 0x1000 → first_memory a ≡ 0
 unfolding first_memory
 zero_between a low high =
-    patched_before (patched (patched (λ _. 0) 0 header_bytes) 0x1000 command_fis_bytes) 0x1080 prd_bytes a (omega (arith, high))
-    ∙ (patched_before (patched (λ _. 0) 0 header_bytes) 0x1000 command_fis_bytes a high ∙ patched_past (λ _. 0) 0 header_bytes a low)
+    patched_before (patched (patched (λ _. 0) 0 header_up_to_ctba) 0x1000 command_fis_up_to_count) 0x1080 prd_bytes a (omega (arith, high))
+    ∙ (patched_before (patched (λ _. 0) 0 header_up_to_ctba) 0x1000 command_fis_up_to_count a high ∙ patched_past (λ _. 0) 0 header_up_to_ctba a low)
 
 zero_after_fis : (a : ℕ) → 0x100e ≤ a → a < 0x1080 → first_memory a ≡ 0
 unfolding first_memory
 zero_after_fis a low high =
-    patched_before (patched (patched (λ _. 0) 0 header_bytes) 0x1000 command_fis_bytes) 0x1080 prd_bytes a high
-    ∙ (patched_past (patched (λ _. 0) 0 header_bytes) 0x1000 command_fis_bytes a low ∙ patched_past (λ _. 0) 0 header_bytes a (omega (arith, low)))
+    patched_before (patched (patched (λ _. 0) 0 header_up_to_ctba) 0x1000 command_fis_up_to_count) 0x1080 prd_bytes a high
+    ∙ (patched_past (patched (λ _. 0) 0 header_up_to_ctba) 0x1000 command_fis_up_to_count a low ∙ patched_past (λ _. 0) 0 header_up_to_ctba a (omega (arith, low)))
 
 abbrev prd : Prd
 prd = record { address = 0x64000; bytes = 4096 }
@@ -67,8 +67,8 @@ first_says = record {
     zeros = λ i low high. bytes_index first_memory 0x1000 20 i high ∙ zero_after_fis (0x1000 + i) (omega (arith, low)) (omega (arith, high));
   };
   meaning = record {
-    ranged = λ _. (omega arith, omega arith, omega arith);
-    not_ranged = λ h. true-false refl h;
+    sectors_fit_if_it_moves_some = λ _. (omega arith, omega arith, omega arith);
+    sectors_are_zero_if_it_moves_none = λ h. true-false refl h;
   };
   prds_are_encoded = (
     record {
@@ -127,8 +127,8 @@ small_patched memory at bs all small a =
 first_small : (a : ℕ) → first_memory a < 256
 unfolding first_memory are_small
 first_small =
-    small_patched (patched (patched (λ _. 0) 0 header_bytes) 0x1000 command_fis_bytes) 0x1080 prd_bytes refl
-    (small_patched (patched (λ _. 0) 0 header_bytes) 0x1000 command_fis_bytes refl (small_patched (λ _. 0) 0 header_bytes refl (λ a. omega arith)))
+    small_patched (patched (patched (λ _. 0) 0 header_up_to_ctba) 0x1000 command_fis_up_to_count) 0x1080 prd_bytes refl
+    (small_patched (patched (λ _. 0) 0 header_up_to_ctba) 0x1000 command_fis_up_to_count refl (small_patched (λ _. 0) 0 header_up_to_ctba refl (λ a. omega arith)))
 
 pub first_sane : HoldsBytesAndTellsDisks first_read_device
 first_sane = record {
@@ -236,7 +236,7 @@ first_done =
       may_be_fetched = record {
         fetchable = record { st_is_set = refl; issued = refl; free = refl };
         working = record { cr_is_set = refl; present = refl; fresh = refl; admitted = refl; is_not_broken = refl };
-        is_unmixed = λ slot t is. some-none is refl;
+        is_alone_or_all_are_queued = λ slot t is. some-none is refl;
         says = first_says;
       };
       disk_holds_sectors = first_sane.disks_hold_sectors 0;

@@ -137,7 +137,7 @@ module _ (d : Device) (port : ℕ) (new : DevicePort) (keeps : PortBitsOnlyFallF
   keeps_recorded : (memory : ℕ → ℕ) (gained : List Entry) →
       KeepsOverSteps d (record d { memory = memory; port = changed d.port port new; tape = d.tape ++ gained })
   keeps_recorded memory gained = record {
-    telling_is_kept = refl;
+    disks_tell_sectors_is_kept = refl;
     memory_size_is_kept = refl;
     cap_is_kept = refl;
     pi_is_kept = refl;
@@ -150,7 +150,7 @@ module _ (d : Device) (port : ℕ) (new : DevicePort) (keeps : PortBitsOnlyFallF
 
   keeps_quiet : KeepsOverSteps d (with_port d port new)
   keeps_quiet = record {
-    telling_is_kept = refl;
+    disks_tell_sectors_is_kept = refl;
     memory_size_is_kept = refl;
     cap_is_kept = refl;
     pi_is_kept = refl;
@@ -163,7 +163,7 @@ module _ (d : Device) (port : ℕ) (new : DevicePort) (keeps : PortBitsOnlyFallF
 
 pub Keeps-refl : (d : Device) → KeepsOverSteps d d
 Keeps-refl d = record {
-  telling_is_kept = refl;
+  disks_tell_sectors_is_kept = refl;
   memory_size_is_kept = refl;
   cap_is_kept = refl;
   pi_is_kept = refl;
@@ -304,7 +304,7 @@ step_keeps (Plug port disk) d can =
     })
     refl d.memory _
 step_keeps ResetEnds d can = record {
-  telling_is_kept = refl;
+  disks_tell_sectors_is_kept = refl;
   memory_size_is_kept = refl;
   cap_is_kept = refl;
   pi_is_kept = refl;
@@ -326,7 +326,7 @@ step_keeps ResetEnds d can = record {
   keeps_outside_reset = λ h. true-false can h;
 }
 step_keeps (Scribble port slot at bytes) d can = record {
-  telling_is_kept = refl;
+  disks_tell_sectors_is_kept = refl;
   memory_size_is_kept = refl;
   cap_is_kept = refl;
   pi_is_kept = refl;
@@ -382,7 +382,7 @@ KeepsOutsideReset-trans a b = record {
 
 pub Keeps-trans : {old mid new : Device} → KeepsOverSteps old mid → KeepsOverSteps mid new → KeepsOverSteps old new
 Keeps-trans {old} {mid} {new} a b = record {
-  telling_is_kept = b.telling_is_kept ∙ a.telling_is_kept;
+  disks_tell_sectors_is_kept = b.disks_tell_sectors_is_kept ∙ a.disks_tell_sectors_is_kept;
   memory_size_is_kept = b.memory_size_is_kept ∙ a.memory_size_is_kept;
   cap_is_kept = b.cap_is_kept ∙ a.cap_is_kept;
   pi_is_kept = b.pi_is_kept ∙ a.pi_is_kept;

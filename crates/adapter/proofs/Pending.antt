@@ -18,7 +18,7 @@ use Rattle.adapter.specs.Access.Access.{Reading, Writing, Loading, Storing}
 use Rattle.adapter.specs.Device.{DevicePort, Device}
 use Rattle.adapter.specs.KeptBySteps.{KeepsControlsFlagsRise}
 use Rattle.adapter.specs.Memory.{changed}
-use Rattle.adapter.specs.PendingInterrupts.{LeavesIe, KeepsIsBit, SetsCause, EnablesNamedCauses, interrupting_port}
+use Rattle.adapter.specs.PendingInterrupts.{LeavesPxIeUnwritten, KeepsIsBit, SetsCause, EnablesNamedCauses, interrupting_port}
 use Rattle.adapter.specs.Rules.{HasPort}
 use Rattle.adapter.specs.Steps.{DeviceTransition, Can, device_after, clear_entry, done_entry, fault_entry, TransitionsLead, move_of, halt_after_start, Steps}
 use Rattle.adapter.specs.Steps.DeviceTransition.{Fetch, FetchFault, Move, Clear, Done, Fault, Fatal, Fall, FrFall, LinkUp, Unplug, Plug, ResetEnds, Scribble}
@@ -236,7 +236,7 @@ raised_named (Scribble p slot at bytes) port place d can none = absurd none
 record Leaves (port : ℕ) (access : Access) (d new : Device) : Type 0 where
   off : d.hr ≡ false → new.hr ≡ false
   tape : new.tape ≡ d.tape
-  ie : LeavesIe port access → (new.port port).ie ≡ (d.port port).ie
+  ie : LeavesPxIeUnwritten port access → (new.port port).ie ≡ (d.port port).ie
   pends : is_ips_set (d.port port) ≡ true → is_ips_set (new.port port) ≡ true
 
 leaves_all : (port : ℕ) (access : Access) (d : Device) → Leaves port access d d
@@ -291,7 +291,7 @@ st_enables true tape p = by p.st
     by false = refl
 st_enables false tape p = refl
 
-port_enables : (its : Port) (port : ℕ) (r : PortReg) (v tape : ℕ) (p : DevicePort) → port ≡ its.0 → LeavesIe port (Writing (Px its r) v) → (port_after_write r v tape p).ie ≡ p.ie
+port_enables : (its : Port) (port : ℕ) (r : PortReg) (v tape : ℕ) (p : DevicePort) → port ≡ its.0 → LeavesPxIeUnwritten port (Writing (Px its r) v) → (port_after_write r v tape p).ie ≡ p.ie
 port_enables its port Ie v tape p at spares = absurd (spares (sym at))
 port_enables its port Clb v tape p at spares = refl
 port_enables its port Clbu v tape p at spares = refl
@@ -443,7 +443,7 @@ module _ (port : ℕ) (told : Entry) (its : interrupting_port told ≡ Some port
   leads_wait [] old new e w = subst Waits (sym e) w
   leads_wait (step ∷ steps) old new (can, rest) w = leads_wait steps (device_after step old) new rest (step_waits step old can w)
 
-  effect_waits : (access : Access) (d new : Device) → LeavesIe port access → Leaves port access d new → Waits d → Waits new
+  effect_waits : (access : Access) (d new : Device) → LeavesPxIeUnwritten port access → Leaves port access d new → Waits d → Waits new
   effect_waits access d new spares l w = record {
     off = l.off w.off;
     tells = enables_on (d.port port) (new.port port) (l.ie spares) w.tells;
@@ -452,10 +452,10 @@ module _ (port : ℕ) (told : Entry) (its : interrupting_port told ≡ Some port
     pends = λ has. l.pends (w.pends has);
   }
 
-pub told_pend : (port : ℕ) (told : Entry) (accesses : List Access) (gained : List Entry) (old new : Device) → interrupting_port told ≡ Some port → DoesAll accesses old new → All (KeepsIsBit port) accesses → All (LeavesIe port) accesses
+pub told_pend : (port : ℕ) (told : Entry) (accesses : List Access) (gained : List Entry) (old new : Device) → interrupting_port told ≡ Some port → DoesAll accesses old new → All (KeepsIsBit port) accesses → All (LeavesPxIeUnwritten port) accesses
     → old.hr ≡ false → EnablesNamedCauses (old.port port) → new.tape ≡ old.tape ++ gained → Contains gained told → is_ips_set (new.port port) ≡ true
 told_pend port told accesses gained old new its does none spares off tells tape has =
-    let w : Waits port told its old.tape new = all_go port (Waits port told its old.tape) (LeavesIe port)
+    let w : Waits port told its old.tape new = all_go port (Waits port told its old.tape) (LeavesPxIeUnwritten port)
     (λ a b s. leads_wait port told its old.tape s.steps a b s.lead) (effect_waits port told its old.tape) accesses old new does spares none
     (record { off = off; tells = tells; gained = []; tape = sym (append-nil old.tape); pends = λ (x : Contains [] told). absurd (let small = x.1 in omega (arith, small)) }) in
     w.pends (subst (λ (g : List Entry). Contains g told) (append_cancel_left old.tape gained w.gained (sym tape ∙ w.tape)) has)

@@ -3,7 +3,7 @@ use Rattle.ata_types.specs.declared.memory.TheConstants.{PRD_BYTES, TABLE_HEAD_B
 use Rattle.std.proofs.Common.{ℕ, zero, suc, ◌≡◌, ◌<◌, ◌≤◌, ◌+◌, ◌*◌, ◌^◌, List, [], ◌∷◌, length, slice_index, refl, sym, ◌∙◌, ap, arith, subst, Bool, true, false, if◌then◌else◌, nat_eq}
 use Rattle.byteorder.specs.Endian.{little_from}
 use Rattle.adapter.specs.Memory.{bytes_at}
-use Rattle.adapter.specs.Commands.{Meaning, command_of, is_ranged, reads_memory, transfer_sector_count}
+use Rattle.adapter.specs.Commands.{Meaning, command_of, moves_disk_sectors, reads_memory, transfer_sector_count}
 use Rattle.adapter.specs.Encoding.{EncodesCommand, EncodesHeader, EncodesPrd}
 use Rattle.adapter.specs.Decoding.{DecodesTo, HasPrds, pieces, piece_addresses}
 use Rattle.adapter.specs.declared.command.Operation.{Operation}
@@ -121,7 +121,7 @@ operation_back Flush slot first count = refl
 operation_back Trim slot first count = refl
 operation_back ReadLog slot first count = refl
 
-lba_first : (o : Operation) (slot first count : ℕ) → is_ranged o ≡ true → (command_of o slot first count).lba ≡ first
+lba_first : (o : Operation) (slot first count : ℕ) → moves_disk_sectors o ≡ true → (command_of o slot first count).lba ≡ first
 lba_first Read slot first count h = refl
 lba_first Write slot first count h = refl
 lba_first ReadQueued slot first count h = refl
@@ -131,7 +131,7 @@ lba_first Flush slot first count h = true-false h refl
 lba_first Trim slot first count h = true-false h refl
 lba_first ReadLog slot first count h = true-false h refl
 
-pieces_ranged : (o : Operation) (count : ℕ) → is_ranged o ≡ true → transfer_sector_count o count ≡ count
+pieces_ranged : (o : Operation) (count : ℕ) → moves_disk_sectors o ≡ true → transfer_sector_count o count ≡ count
 pieces_ranged Read count h = refl
 pieces_ranged Write count h = refl
 pieces_ranged ReadQueued count h = refl
@@ -167,25 +167,25 @@ module _ (memory : ℕ → ℕ) (list slot : ℕ) (m n : Meaning) (xs ys : List 
       ∙ ap operation_of (sym fis_there.code ∙ b.fis.code)
       ∙ operation_back n.operation slot n.first n.count
 
-  first_same : (ranged : Bool) → is_ranged m.operation ≡ ranged → m.first ≡ n.first
+  first_same : (moves_sectors : Bool) → moves_disk_sectors m.operation ≡ moves_sectors → m.first ≡ n.first
   first_same true h =
-      let k : is_ranged n.operation ≡ true = ap is_ranged (sym says_operation) ∙ h in
+      let k : moves_disk_sectors n.operation ≡ true = ap moves_disk_sectors (sym says_operation) ∙ h in
       sym (lba_first m.operation slot m.first m.count h) ∙ (sym fis_there.lba ∙ b.fis.lba) ∙ lba_first n.operation slot n.first n.count k
   first_same false h =
-      let k : is_ranged n.operation ≡ false = ap is_ranged (sym says_operation) ∙ h in
-      (a.meaning.not_ranged h).0 ∙ sym (b.meaning.not_ranged k).0
+      let k : moves_disk_sectors n.operation ≡ false = ap moves_disk_sectors (sym says_operation) ∙ h in
+      (a.meaning.sectors_are_zero_if_it_moves_none h).0 ∙ sym (b.meaning.sectors_are_zero_if_it_moves_none k).0
 
-  count_same : (ranged : Bool) → is_ranged m.operation ≡ ranged → m.count ≡ n.count
+  count_same : (moves_sectors : Bool) → moves_disk_sectors m.operation ≡ moves_sectors → m.count ≡ n.count
   count_same true h =
-      let k : is_ranged n.operation ≡ true = ap is_ranged (sym says_operation) ∙ h in
+      let k : moves_disk_sectors n.operation ≡ true = ap moves_disk_sectors (sym says_operation) ∙ h in
       sym (pieces_ranged m.operation m.count h) ∙ (sym a.place_count_is ∙ ap length says_places ∙ b.place_count_is) ∙ pieces_ranged n.operation n.count k
   count_same false h =
-      let k : is_ranged n.operation ≡ false = ap is_ranged (sym says_operation) ∙ h in
-      (a.meaning.not_ranged h).1 ∙ sym (b.meaning.not_ranged k).1
+      let k : moves_disk_sectors n.operation ≡ false = ap moves_disk_sectors (sym says_operation) ∙ h in
+      (a.meaning.sectors_are_zero_if_it_moves_none h).1 ∙ sym (b.meaning.sectors_are_zero_if_it_moves_none k).1
 
   pub says_meaning : m ≡ n
   says_meaning =
       let o : m.operation ≡ n.operation = says_operation in
-      let f : m.first ≡ n.first = first_same (is_ranged m.operation) refl in
-      let c : m.count ≡ n.count = count_same (is_ranged m.operation) refl in
+      let f : m.first ≡ n.first = first_same (moves_disk_sectors m.operation) refl in
+      let c : m.count ≡ n.count = count_same (moves_disk_sectors m.operation) refl in
       λ i. record { operation = o i; first = f i; count = c i }

@@ -86,39 +86,40 @@ Shows _ v d = Unit {0}
 -- ---- what a reading notes beside the state (this project's own)
 
 -- one more reading in a row, at most as many as a wait has
-abbrev pub count_after_reading : Bool → ℕ → ℕ
-count_after_reading again n = if again then min MOST_READINGS (n + 1) else 0
+abbrev pub capped_count_after_reading : Bool → ℕ → ℕ
+capped_count_after_reading again n = if again then min MOST_READINGS (n + 1) else 0
 
 -- the count of SSTS: a reading with a device sets it to the most, where it stays
 abbrev pub link_wait_count_full_once_linked : ℕ → ℕ → ℕ
 link_wait_count_full_once_linked det n = if nat_eq det 3 then MOST_READINGS else min MOST_READINGS (n + 1)
 
 -- the counts of SSTS, TFD and CI move only while SCTL.DET is 0
-abbrev pub while_no_comreset : DevicePort → ℕ → ℕ → ℕ
-while_no_comreset p new old = if nat_eq p.sctl_det 0 then new else old
+abbrev pub while_sctl_det_is_zero : DevicePort → ℕ → ℕ → ℕ
+while_sctl_det_is_zero p new old = if nat_eq p.sctl_det 0 then new else old
 
 abbrev pub notes_after_reading : PortReg → ℕ → DevicePort → Notes
 notes_after_reading Cmd v p =
     record p.notes {
       last_cmd = v;
-      engine_wait_count = count_after_reading (not p.st && bit v 15 || not p.fre && bit v 14) p.notes.engine_wait_count;
+      engine_wait_count = capped_count_after_reading (not p.st && bit v 15 || not p.fre && bit v 14)
+          p.notes.engine_wait_count;
     }
 notes_after_reading Ssts v p =
     record p.notes {
       last_ssts = v;
-      link_wait_count = while_no_comreset p (link_wait_count_full_once_linked (v % 16) p.notes.link_wait_count)
+      link_wait_count = while_sctl_det_is_zero p (link_wait_count_full_once_linked (v % 16) p.notes.link_wait_count)
           p.notes.link_wait_count;
     }
 notes_after_reading Tfd v p =
     record p.notes {
       last_tfd = v;
-      busy_count = while_no_comreset p (count_after_reading (bit v 7 || bit v 3) p.notes.busy_count)
+      busy_count = while_sctl_det_is_zero p (capped_count_after_reading (bit v 7 || bit v 3) p.notes.busy_count)
           p.notes.busy_count;
     }
 notes_after_reading Ci v p =
     record p.notes {
       last_ci = v;
-      slot0_issued_count = while_no_comreset p (count_after_reading (bit v 0) p.notes.slot0_issued_count)
+      slot0_issued_count = while_sctl_det_is_zero p (capped_count_after_reading (bit v 0) p.notes.slot0_issued_count)
           p.notes.slot0_issued_count;
     }
 notes_after_reading Sig v p = record p.notes { last_sig = v }

@@ -30,12 +30,12 @@ is_queued WriteQueued = true
 is_queued _ = false
 
 -- the command names the sectors that it moves
-abbrev pub is_ranged : Operation → Bool
-is_ranged Read = true
-is_ranged Write = true
-is_ranged ReadQueued = true
-is_ranged WriteQueued = true
-is_ranged _ = false
+abbrev pub moves_disk_sectors : Operation → Bool
+moves_disk_sectors Read = true
+moves_disk_sectors Write = true
+moves_disk_sectors ReadQueued = true
+moves_disk_sectors WriteQueued = true
+moves_disk_sectors _ = false
 
 -- the device reads memory: the W bit of the header
 abbrev pub reads_memory : Operation → Bool
@@ -70,5 +70,6 @@ pub record Meaning : Type 0 where
 
 -- The sectors are some that a FIS can name; where it names none, they are 0.
 pub record IsValidMeaning (m : Meaning) : Type 0 where
-  pub ranged : is_ranged m.operation ≡ true → (1 ≤ m.count) × (m.count ≤ 65536) × (m.first < 2 ^ 48)
-  pub not_ranged : is_ranged m.operation ≡ false → (m.first ≡ 0) × (m.count ≡ 0)
+  pub sectors_fit_if_it_moves_some : moves_disk_sectors m.operation ≡ true
+      → (1 ≤ m.count) × (m.count ≤ 65536) × (m.first < 2 ^ 48)
+  pub sectors_are_zero_if_it_moves_none : moves_disk_sectors m.operation ≡ false → (m.first ≡ 0) × (m.count ≡ 0)

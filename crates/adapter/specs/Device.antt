@@ -35,7 +35,7 @@ pub record FetchedCommand : Type 0 where
 
 -- Whether a fault has halted the port, and by which kind of command; LogOnly: ST was set again after a queued one.
 pub data Halt : Type 0 where
-  NotHalted HaltedPlain HaltedQueued LogOnly : Halt
+  NotHalted HaltedByPlain HaltedByQueued LogOnly : Halt
 
 -- Where the driver has put the command list and the received FIS area, and which of the four address registers it has
 -- written. PxCLBU and PxFBU are written with 0 alone.
@@ -113,9 +113,9 @@ pub record DevicePort : Type 0 where
   pub notes : Notes
 
 -- The adapter: its memory, by address; CAP and PI; GHC.HR, AE and IE; its ports; and the tape of what the device did,
--- the oldest entry first. `telling` says whether every disk tells its sectors.
+-- the oldest entry first. `disks_tell_sectors` says whether every disk tells its sectors.
 pub record Device : Type 0 where
-  pub telling : Bool
+  pub disks_tell_sectors : Bool
   pub memory_size : ℕ
   pub memory : ℕ → ℕ
   pub cap : ℕ

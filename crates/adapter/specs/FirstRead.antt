@@ -5,13 +5,13 @@ use Rattle.adapter.specs.Memory.{patched, changed}
 use Rattle.adapter.specs.Device.{Disk, Notes, DevicePort, Device}
 use Rattle.adapter.specs.Device.Halt.{NotHalted}
 
--- the header of slot 0, but for its zeros at the end: no W, one PRD, and the table's address
-abbrev pub header_bytes : List ℕ
-header_bytes = 5 ∷ 0 ∷ 1 ∷ 0 ∷ 0 ∷ 0 ∷ 0 ∷ 0 ∷ 0 ∷ 0x10 ∷ 0 ∷ 0 ∷ []
+-- the header of slot 0, up to CTBA; the rest is zero: no W, one PRD, and the table's address
+abbrev pub header_up_to_ctba : List ℕ
+header_up_to_ctba = 5 ∷ 0 ∷ 1 ∷ 0 ∷ 0 ∷ 0 ∷ 0 ∷ 0 ∷ 0 ∷ 0x10 ∷ 0 ∷ 0 ∷ []
 
--- the FIS of READ DMA EXT, but for its zeros at the end: sector 64h, and 8 of them
-abbrev pub command_fis_bytes : List ℕ
-command_fis_bytes = 0x27 ∷ 0x80 ∷ 0x25 ∷ 0 ∷ 0x64 ∷ 0 ∷ 0 ∷ 0x40 ∷ 0 ∷ 0 ∷ 0 ∷ 0 ∷ 8 ∷ 0 ∷ []
+-- the FIS of READ DMA EXT, up to its count; the rest is zero: sector 64h, and 8 of them
+abbrev pub command_fis_up_to_count : List ℕ
+command_fis_up_to_count = 0x27 ∷ 0x80 ∷ 0x25 ∷ 0 ∷ 0x64 ∷ 0 ∷ 0 ∷ 0x40 ∷ 0 ∷ 0 ∷ 0 ∷ 0 ∷ 8 ∷ 0 ∷ []
 
 -- the PRD: a whole frame at 64000h, where frame 100 begins
 abbrev pub prd_bytes : List ℕ
@@ -19,7 +19,7 @@ prd_bytes = 0 ∷ 0x40 ∷ 6 ∷ 0 ∷ 0 ∷ 0 ∷ 0 ∷ 0 ∷ 0 ∷ 0 ∷ 0 ∷
 
 -- the command list is at 0, and the table of slot 0 at 1000h, with its PRD at 1080h; all else is zero
 unfoldable pub first_memory : ℕ → ℕ
-first_memory = patched (patched (patched (λ _. 0) 0 header_bytes) 0x1000 command_fis_bytes) 0x1080 prd_bytes
+first_memory = patched (patched (patched (λ _. 0) 0 header_up_to_ctba) 0x1000 command_fis_up_to_count) 0x1080 prd_bytes
 
 -- sector k holds the byte k
 unfoldable pub first_disk_sector : ℕ → List ℕ
@@ -107,7 +107,7 @@ reading_port =
 abbrev pub first_read_device : Device
 first_read_device =
     record {
-      telling = true;
+      disks_tell_sectors = true;
       memory_size = FRAME_BYTES * 256;
       memory = first_memory;
       cap = 0x1f03;

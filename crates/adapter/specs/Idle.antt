@@ -18,11 +18,11 @@ pub record IsIdle (d : Device) : Type 0 where
   pub ports_are_idle : (port : ℕ) → IsIdlePort (d.port port)
 
 -- disks tell their sectors if the adapter is one that tells
-abbrev pub DisksAreKnownIfTelling : Device → Type 0
-DisksAreKnownIfTelling d = d.telling ≡ true → (port : ℕ) → HasKnownSectors (d.port port).disk
+abbrev pub DisksAreKnownIfTheyTell : Device → Type 0
+DisksAreKnownIfTheyTell d = d.disks_tell_sectors ≡ true → (port : ℕ) → HasKnownSectors (d.port port).disk
 
 -- Memory and disks hold bytes, and disks tell their sectors if the adapter is one that tells.
 pub record HoldsBytesAndTellsDisks (d : Device) : Type 0 where
   pub memory_holds_bytes : (at : ℕ) → d.memory at < 256
   pub disks_hold_sectors : (port : ℕ) → HasValidSectors (d.port port).disk
-  pub disks_are_known_if_telling : DisksAreKnownIfTelling d
+  pub disks_are_known_if_telling : DisksAreKnownIfTheyTell d

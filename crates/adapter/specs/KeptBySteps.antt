@@ -39,7 +39,7 @@ pub record KeepsOutsideReset (old new : Device) : Type 0 where
   pub controls_are_kept : (port : ℕ) → KeepsControlsFlagsRise (old.port port) (new.port port)
 
 pub record KeepsOverSteps (old new : Device) : Type 0 where
-  pub telling_is_kept : new.telling ≡ old.telling
+  pub disks_tell_sectors_is_kept : new.disks_tell_sectors ≡ old.disks_tell_sectors
   pub memory_size_is_kept : new.memory_size ≡ old.memory_size
   pub cap_is_kept : new.cap ≡ old.cap
   pub pi_is_kept : new.pi ≡ old.pi

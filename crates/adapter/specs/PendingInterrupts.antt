@@ -33,9 +33,9 @@ KeepsIsBit port (Writing Ghc v) = bit v 0 ≡ false
 KeepsIsBit port access = Unit {0}
 
 -- the access doesn't write PxIE of the port
-abbrev pub LeavesIe : ℕ → Access → Type 0
-LeavesIe port (Writing (Px its Ie) v) = its.0 ≢ port
-LeavesIe port access = Unit {0}
+abbrev pub LeavesPxIeUnwritten : ℕ → Access → Type 0
+LeavesPxIeUnwritten port (Writing (Px its Ie) v) = its.0 ≢ port
+LeavesPxIeUnwritten port access = Unit {0}
 
 -- PxIE enables each cause that is named
 abbrev pub EnablesNamedCauses : DevicePort → Type 0

@@ -67,8 +67,8 @@ pub record MayWriteCmd (p : DevicePort) (v : ℕ) : Type 0 where
 
 -- Each slot whose bit is set is one of the adapter's and has no command; its bytes say one, and if that is a queued
 -- command, its SACT bit is set already. How many queued commands are out isn't held against the depth that a disk
--- tells: to keep to that is the driver's. Nor is a plain command forbidden beside queued ones: `IsUnmixed` keeps it
--- from being taken.
+-- tells: to keep to that is the driver's. Nor is a plain command forbidden beside queued ones:
+-- `IsAloneOrAllAreQueued` keeps it from being taken.
 pub record MayIssue (d : Device) (p : DevicePort) (v : ℕ) : Type 0 where
   pub st_is_set : p.st ≡ true
   pub slots_are_usable : (slot : ℕ) → bit v slot ≡ true → slot ≤ d.cap / 256 % 32

@@ -4,9 +4,9 @@ use Rattle.std.specs.Prelude.{ℕ, Bool, true, false, ◌≡◌, ◌+◌, ◌*�
 use Rattle.std.specs.declared.snapshot.Snapshot.{Snapshot}
 use Rattle.ata_types.specs.declared.memory.TheConstants.{HEADER_BYTES, RECEIVED_FIS_BYTES}
 use Rattle.adapter.specs.Memory.{patched, bytes_at, changed}
-use Rattle.adapter.specs.Commands.{Meaning, is_queued, is_ranged, reads_memory, direction_of}
+use Rattle.adapter.specs.Commands.{Meaning, is_queued, moves_disk_sectors, reads_memory, direction_of}
 use Rattle.adapter.specs.Device.{Disk, HasKnownSectors, HasValidSectors, IsValidSector, FetchedCommand, Halt, DurableState, DevicePort, Device}
-use Rattle.adapter.specs.Device.Halt.{NotHalted, HaltedPlain, HaltedQueued, LogOnly}
+use Rattle.adapter.specs.Device.Halt.{NotHalted, HaltedByPlain, HaltedByQueued, LogOnly}
 use Rattle.adapter.specs.Decoding.{DecodesTo}
 use Rattle.adapter.specs.Trim.{trim_sectors, consecutive}
 use Rattle.adapter.specs.declared.command.Operation.{Operation}
@@ -43,12 +43,12 @@ admits LogOnly ReadLog = true
 admits _ operation = false
 
 abbrev pub halt_after_fault : Halt → Bool → Halt
-halt_after_fault HaltedQueued queued = HaltedQueued
-halt_after_fault LogOnly queued = HaltedQueued
-halt_after_fault _ queued = if queued then HaltedQueued else HaltedPlain
+halt_after_fault HaltedByQueued queued = HaltedByQueued
+halt_after_fault LogOnly queued = HaltedByQueued
+halt_after_fault _ queued = if queued then HaltedByQueued else HaltedByPlain
 
 abbrev pub halt_after_start : Halt → Halt
-halt_after_start HaltedQueued = LogOnly
+halt_after_start HaltedByQueued = LogOnly
 halt_after_start LogOnly = LogOnly
 halt_after_start _ = NotHalted
 
@@ -74,8 +74,8 @@ pub record IsFetchable (p : DevicePort) (slot : ℕ) : Type 0 where
   pub free : p.taken slot ≡ None
 
 -- a plain command is taken alone, a queued one beside queued ones
-abbrev pub IsUnmixed : DevicePort → Operation → Type 0
-IsUnmixed p operation =
+abbrev pub IsAloneOrAllAreQueued : DevicePort → Operation → Type 0
+IsAloneOrAllAreQueued p operation =
     (slot : ℕ) (t : FetchedCommand) → p.taken slot ≡ Some t → is_queued operation
     && is_queued t.meaning.operation ≡ true
 
@@ -88,7 +88,7 @@ AreBsyDrqBits kept_bits = bit_and kept_bits 0x88 ≡ kept_bits
 pub record MayFetch (d : Device) (port slot : ℕ) (meaning : Meaning) (places : List ℕ) : Type 0 where
   pub fetchable : IsFetchable (d.port port) slot
   pub working : IsWorking (d.port port) meaning.operation
-  pub is_unmixed : IsUnmixed (d.port port) meaning.operation
+  pub is_alone_or_all_are_queued : IsAloneOrAllAreQueued (d.port port) meaning.operation
   pub says : DecodesTo d.memory (d.port port).bases.clb slot meaning places
 
 pub record MayFetchFault (d : Device) (port slot kept_bits : ℕ) : Type 0 where
@@ -122,7 +122,7 @@ abbrev pub next_place : FetchedCommand → ℕ
 next_place t = slice_index t.places t.moved
 
 abbrev pub next_sector : FetchedCommand → ℕ
-next_sector t = if is_ranged t.meaning.operation then t.meaning.first + t.moved else 0
+next_sector t = if moves_disk_sectors t.meaning.operation then t.meaning.first + t.moved else 0
 
 -- The bytes that a move may bring: the disk's, where it tells them; memory's, for a command that reads memory; or any
 -- page, for IDENTIFY DEVICE and READ LOG EXT.
@@ -266,8 +266,8 @@ port_after_link_up p sig n =
 -- ---- ResetEnds
 
 -- CLB, CLBU, FB and FBU stay, and so do the disk and a halt
-abbrev pub port_after_reset : DevicePort → DevicePort
-port_after_reset p =
+abbrev pub port_after_hba_reset : DevicePort → DevicePort
+port_after_hba_reset p =
     record p {
       st = false;
       cr = false;
@@ -306,7 +306,7 @@ pub record MayScribble (p : DevicePort) (slot at : ℕ) (bytes : List ℕ) : Typ
 -- the bytes that the entry puts into the port's sector k, if any: a write's move, or a clear
 abbrev pub bytes_put_into : (port k : ℕ) → Entry → Option (List ℕ)
 bytes_put_into port k (entry.Move move) =
-    if (move.port.0 == port && move.sector == k) && (is_ranged move.operation && reads_memory move.operation)
+    if (move.port.0 == port && move.sector == k) && (moves_disk_sectors move.operation && reads_memory move.operation)
     then Some move.bytes.value else None
 bytes_put_into port k (entry.Clear clear) =
     if clear.port.0 == port && (nat_le clear.first k && nat_lt k (clear.first + clear.count))
@@ -347,7 +347,7 @@ Can (FrFall port) d = ((d.port port).fre ≡ false) × ((d.port port).cr ≡ fal
 Can (LinkUp port sig n) d = MayLinkUp (d.port port) sig
 Can (Unplug port) d = (d.port port).present ≡ true
 Can (Plug port disk) d = ((d.port port).present ≡ false) × HasValidSectors disk
-    × (d.telling ≡ true → HasKnownSectors disk)
+    × (d.disks_tell_sectors ≡ true → HasKnownSectors disk)
     × (disk.name ≡ (d.port port).disk.name → IsReplugOf d port disk)
 Can ResetEnds d = d.hr ≡ true
 Can (Scribble port slot at bytes) d = MayScribble (d.port port) slot at bytes
@@ -436,7 +436,7 @@ device_after (Plug port disk) d =
     })
     (entry.Plug (record { 0 = port }) disk.name)
 device_after ResetEnds d =
-    record d { hr = false; ae = false; ie = false; port = λ port. port_after_reset (d.port port) }
+    record d { hr = false; ae = false; ie = false; port = λ port. port_after_hba_reset (d.port port) }
 device_after (Scribble port slot at bytes) d = record d { memory = patched d.memory at bytes }
 
 -- ---- lists of steps

@@ -1,6 +1,6 @@
 // The calls of an adapter, and of one whose device can be told what to do.
 ghost use Rattle.std.specs.Prelude.{ℕ, ◌+◌, ◌≡◌, length, true, false};
-ghost use Rattle.adapter.specs.{Device.{Device}, AskedSteps.{DoesOrFailsStep}, Idle.{DisksAreKnownIfTelling}, Steps.{Steps}, Access.{Reads, Writes, Loads, Stores}, Rules.{MayRead, MayWrite, IsInMemoryNotOwnedByDevice, IsStable}};
+ghost use Rattle.adapter.specs.{Device.{Device}, AskedSteps.{DoesOrFailsStep}, Idle.{DisksAreKnownIfTheyTell}, Steps.{Steps}, Access.{Reads, Writes, Loads, Stores}, Rules.{MayRead, MayWrite, IsInMemoryNotOwnedByDevice, IsStable}};
 
 use ata_types::{Port, Slot};
 use hba_regs::Reg;
@@ -41,7 +41,7 @@ pub trait Adapter {
         ensures counted { access_count self.new ≡ access_count self.old + 1 };
 
     /// The adapter tells its disks' sectors only where each of its disks does.
-    ghost tells: { (a : Self) → DisksAreKnownIfTelling (device a) };
+    ghost tells: { (a : Self) → DisksAreKnownIfTheyTell (device a) };
 }
 
 /// A page of 512 bytes that a disk sends to the driver itself (ACS-3).

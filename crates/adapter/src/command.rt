@@ -1,6 +1,6 @@
 // Commands, and the words that header, FIS and PRDs have for them.
 ghost use Rattle.std.specs.Prelude.{◌≡◌, ◌↔◌, IsTrue};
-ghost use Rattle.adapter.specs.Commands.{direction_of, is_queued, is_ranged, transfer_sector_count, reads_memory, sends_page};
+ghost use Rattle.adapter.specs.Commands.{direction_of, is_queued, moves_disk_sectors, transfer_sector_count, reads_memory, sends_page};
 
 /// What a command asks of the disk: the commands of ACS-3 and Serial ATA that this driver knows.
 #[derive(Clone, Copy, Debug, PartialEq, Eq)]
@@ -35,8 +35,8 @@ impl Operation {
 
     /// Whether it names the sectors that it moves.
     #[inline]
-    pub fn is_ranged(self) -> bool
-        ensures { result ≡ is_ranged self }
+    pub fn moves_disk_sectors(self) -> bool
+        ensures { result ≡ moves_disk_sectors self }
     {
         matches!(
             self,
@@ -71,8 +71,8 @@ impl Operation {
         matches!(self, Operation::Trim)
     }
 
-    /// How many pieces of 512 bytes it moves, for so many sectors, 1 to 65,536: these matter only if it is ranged. (0
-    /// stands for 65,536 in a FIS, but not here.)
+    /// How many pieces of 512 bytes it moves, for so many sectors, 1 to 65,536: these matter only if it moves disk
+    /// sectors. (0 stands for 65,536 in a FIS, but not here.)
     #[inline]
     pub fn transfer_sector_count(self, count: u32) -> u32
         ensures { result ≡ transfer_sector_count self count }

@@ -4,7 +4,7 @@ ghost use Rattle.ata_types.specs.{declared.Port.{Port}, declared.memory.TheConst
 ghost use Rattle.hba_regs.specs.{declared.reg.PortReg.{PortReg}, declared.reg.Reg.{Reg}, declared.reg.Reg.TheVariants.{Px}, Bits.{bit}};
 ghost use Rattle.adapter.specs.{declared.access.DeviceStep.{DeviceStep}, Access.{Access, ShowsPendingAndPerhapsUnnamedCause, Does, DoesAll, IsDriven, Reads, Writes, is_named_cause, is_ips_set, named_causes_mask, raises_interrupt, shown_interrupt, device_after_write}, AskedSteps.{DoesOrFailsStep, IsScribbled, memory_filled_if_all_inside}, Commands.{Meaning}, Device.{Device, DevicePort}, FirstRead.{first_read_device, first_disk_sector}};
 ghost use Rattle.adapter.specs.{Guarded.{PassesTest, MissesRange, IsGuarded, IsKeptOutsideTables}, Idle.{IsIdle, HoldsBytesAndTellsDisks}, KeptBySteps.{KeepsOverSteps, KeepsControlsFlagsRise}, Memory.{bytes_at, patched}, OneCommand.{NoSlotHasCommand, HasOneCommand, IsOutsideCommand, is_read_only, is_not_device_writable, layout_of}, ReadDone.{IsReadDone, IsReadThatCanComplete, read_of}};
-ghost use Rattle.adapter.specs.{PendingInterrupts.{LeavesIe, KeepsIsBit, SetsCause, EnablesNamedCauses, interrupting_port, flush_cause_cleared, flushed, flushing, flush_taken}, Rules.{HasPort, IsOn, IsInMemoryNotOwnedByDevice, IsStable}, Decoding.{DecodesTo, piece_addresses}, RegisterEffects.{PortRegisterWritten, PortRegisterRead}, Steps.{Can, DeviceTransition, Steps, device_after}, declared.tape.Entry.{Entry}};
+ghost use Rattle.adapter.specs.{PendingInterrupts.{LeavesPxIeUnwritten, KeepsIsBit, SetsCause, EnablesNamedCauses, interrupting_port, flush_cause_cleared, flushed, flushing, flush_taken}, Rules.{HasPort, IsOn, IsInMemoryNotOwnedByDevice, IsStable}, Decoding.{DecodesTo, piece_addresses}, RegisterEffects.{PortRegisterWritten, PortRegisterRead}, Steps.{Can, DeviceTransition, Steps, device_after}, declared.tape.Entry.{Entry}};
 ghost use Rattle.hba_regs.specs.declared.reg.Reg.TheVariants as adapter;
 
 /// The device may do nothing, and what it does goes on.
@@ -34,7 +34,7 @@ pub fn law_memory_reads_back()
 {}
 
 /// A scribble fills the received FIS area, and then PRDBC of one slot after another whose command is taken.
-pub fn law_scribble_slot_by_slot()
+pub fn law_scribbled_memory_is_filled_slot_by_slot()
     ensures received_fis_area { (size byte : ℕ) (p : DevicePort) (old : ℕ → ℕ)
         → IsScribbled 0 size byte p old (memory_filled_if_all_inside size p.bases.fb RECEIVED_FIS_BYTES byte old) }
     ensures prdbc_of_slot { (slot size byte : ℕ) (p : DevicePort) (old before new : ℕ → ℕ)
@@ -115,7 +115,7 @@ pub fn law_kept_controls_and_rising_flags_compose()
 /// The port's interrupt is pending where PxIS shows a cause that PxIE enables; and so it is after each step of the
 /// device that raises such a cause: an end of a command, a fault, a fatal error, a disk that comes or goes (AHCI 1.3.1,
 /// 3.1.3 and 3.3.5). What steps raise is one of the causes that are named, and the mask has the bits of exactly these.
-pub fn law_set_cause_enabled_in_pxie_sets_ips()
+pub fn law_ips_is_set_while_enabled_cause_is_shown()
     ensures named { (place : ℕ) → is_named_cause place ≡ true → bit named_causes_mask place ≡ true }
     ensures no_other_is_named { (place : ℕ) → place < 32 → bit named_causes_mask place ≡ is_named_cause place }
     ensures steps_raise_named_causes_alone { (step : DeviceTransition) (port place : ℕ) (d : Device) → Can step d
@@ -149,7 +149,7 @@ pub fn law_ips_stays_set_until_written_or_hba_reset()
 pub fn law_interrupting_entries_set_ips_until_written()
     ensures { (port : ℕ) (e : Entry) (accesses : List Access) (gained : List Entry)
         (old new : Device) → interrupting_port e ≡ Some port → DoesAll accesses old new → All (KeepsIsBit port) accesses
-        → All (LeavesIe port) accesses → old.hr ≡ false → EnablesNamedCauses (old.port port)
+        → All (LeavesPxIeUnwritten port) accesses → old.hr ≡ false → EnablesNamedCauses (old.port port)
         → new.tape ≡ old.tape ++ gained → Contains gained e
         → is_ips_set (new.port port) ≡ true }
 {}

@@ -11,8 +11,8 @@ abbrev pub HasSector : Range → ℕ → Type 0
 HasSector r k = (r.first.0 ≤ k) × (k < range_end r)
 
 -- each sector of the one is a sector of the other
-abbrev pub IsWithin : Range → Range → Type 0
-IsWithin r other = (k : ℕ) → HasSector r k → HasSector other k
+abbrev pub IsSubsetOf : Range → Range → Type 0
+IsSubsetOf r other = (k : ℕ) → HasSector r k → HasSector other k
 
 -- some sector is in both
 abbrev pub Overlaps : Range → Range → Type 0

@@ -13,7 +13,7 @@ pub const CLIENTS: usize = 8;
 pub const MOST_GRANTS: usize = 64;
 
 /// Sectors of the longest read or write.
-pub const MOST_REQUEST_SECTORS: u32 = 1024;
+pub const MOST_READ_OR_WRITE_SECTORS: u32 = 1024;
 
 /// Frames of the longest read or write, eight sectors to each.
 pub const MOST_REQUEST_FRAMES: usize = 128;

@@ -1,6 +1,6 @@
 // Sectors, and ranges of them.
 ghost use Rattle.std.specs.Prelude.{◌≡◌, ◌↔◌, IsTrue};
-ghost use Rattle.ata_types.specs.Range.{IsWithin, Overlaps, range_end};
+ghost use Rattle.ata_types.specs.Range.{IsSubsetOf, Overlaps, range_end};
 
 /// A sector of a disk, by its number. A sector has 512 bytes.
 #[derive(Clone, Copy, Debug, Default, PartialEq, Eq, PartialOrd, Ord, Hash)]
@@ -23,7 +23,7 @@ impl Range {
 
     /// Whether each sector of this range is one of the other. An empty range is within every range.
     pub fn within(&self, other: &Range) -> bool
-        ensures { IsTrue result ↔ IsWithin self.now other.now }
+        ensures { IsTrue result ↔ IsSubsetOf self.now other.now }
     {
         self.count == 0 || (other.first <= self.first && self.end() <= other.end())
     }

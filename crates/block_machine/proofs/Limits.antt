@@ -217,8 +217,8 @@ accepted_owned start (step ∷ past) r (inl c) i lt = owner_step (after start pa
 accepted_owned start (step ∷ past) r (inr w) i lt = owner_step (after start past) step (nth_frame r.asked.frames.items i) ∙ accepted_owned start past r w i lt
 
 -- all of these together
-pub law_request_limits_hold_and_frames_are_lent : (start : Machine) (h : List Step) → IsInitial start → AllEnabled start h → KeepsLimitsAndHoldsOwnFrames (after start h)
-law_request_limits_hold_and_frames_are_lent start h s enabled = record {
+pub law_book_limits_hold_and_frames_are_lent : (start : Machine) (h : List Step) → IsInitial start → AllEnabled start h → KeepsLimitsAndHoldsOwnFrames (after start h)
+law_book_limits_hold_and_frames_are_lent start h s enabled = record {
   clients_are_within_limit = few start h s enabled;
   book_is_bounded = all_few start h s enabled (few start h s enabled);
   issued_four_times_at_most = λ e l. (all_counted start h s enabled e l).most;

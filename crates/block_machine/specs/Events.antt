@@ -18,7 +18,7 @@ use Rattle.ata_types.specs.declared.refusal.MemFault.{MemFault}
 use Rattle.block_machine.specs.Rules.{HasRow, IsSameGrantName, without_row}
 use Rattle.block_machine.specs.Refusals.{AdmissionContext, IsAcceptable, IsFirstRefusal, MayAccessFrame, IsFirstMemFault}
 use Rattle.block_machine.specs.DueRequests.{NoneDue}
-use Rattle.block_machine.specs.Ports.{Ports, PortsWellFormed, SamePort, SamePorts, SameSerialAndSize, Evidence, IsStoppedOrStuck, MayBecome, ChangesOnlyIfStoppedOrStuck, IsAfterStuckReset}
+use Rattle.block_machine.specs.Ports.{Ports, PortsWellFormed, SamePort, SamePorts, SameSerialAndSize, Evidence, IsStoppedOrStuck, MayBecome, MayBecomeInService, IsDeadAfterStuckResetIfServed}
 use Rattle.block_machine.specs.State.{Accepted, Pending, Machine, unanswered}
 use Rattle.block_machine.specs.Steps.{Step, Accept, Issue, Touch, End, Age, WaitAgain, Answer, Revoke, Release, Unplug, PlugDisk, Store, Load, IsEnabled, AllTouched, unanswered_count}
 use Rattle.block_machine.specs.Expected.{after, IsInitial, HoldsExpected}
@@ -382,7 +382,7 @@ pub record AnswersService (old : AbstractState) (evidence : Evidence) (steps : L
   pub empty_unless_ready : (port : Port) → EmptyUnlessReady new port
   pub answers_ok_what_had_ended : (port : Port) → old.ports.state port ≡ Ready
       → AnswersOkWhatHadEnded old.machine steps port
-  pub port_is_serviced : (port : Port) → ChangesOnlyIfStoppedOrStuck old.ports evidence new.ports port
+  pub port_is_serviced : (port : Port) → MayBecomeInService old.ports evidence new.ports port
   pub shown_disk_was_in_or_came : (port : Port) → SamePort old.ports new.ports port
       ⊎ ShownDiskWasInOrCame old steps new port
 
@@ -451,7 +451,7 @@ ResultMatchesSteps Service (Replied replies) old evidence steps new = AnswersSer
 ResultMatchesSteps Tick (Replied replies) old evidence steps new = AnswersTick old evidence steps replies new
 ResultMatchesSteps Reset (WasReset (Some replies)) old evidence steps new = AnswersReset old evidence steps replies new
 ResultMatchesSteps Reset (WasReset None) old evidence steps new = AllByDevice steps
-    × ((port : Port) → IsAfterStuckReset old.ports evidence new.ports port)
+    × ((port : Port) → IsDeadAfterStuckResetIfServed old.ports evidence new.ports port)
 ResultMatchesSteps (RevokeOf client number) (WasRevoked (Some replies)) old evidence steps new =
     AnswersRevoke client number old steps replies new
 ResultMatchesSteps (RevokeOf client number) (WasRevoked None) old evidence steps new =

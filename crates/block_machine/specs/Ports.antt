@@ -87,12 +87,12 @@ pub record MayBecome (old : Ports) (evidence : Evidence) (new : Ports) (port : P
 
 -- What a service may make of it: a dead port stays what it is, since a reset alone ends that;
 -- another becomes what a call that looks at it may make of it, and is what it was unless it was stopped, or got stuck.
-abbrev pub ChangesOnlyIfStoppedOrStuck : Ports → Evidence → Ports → Port → Type 0
-ChangesOnlyIfStoppedOrStuck old evidence new port = (old.state port ≡ Dead → SamePort old new port)
+abbrev pub MayBecomeInService : Ports → Evidence → Ports → Port → Type 0
+MayBecomeInService old evidence new port = (old.state port ≡ Dead → SamePort old new port)
     × (old.state port ≢ Dead → MayBecome old evidence new port
     × (SamePort old new port ⊎ IsStoppedOrStuck evidence port))
 
 -- What a reset that was stuck makes of it: a served port is dead, for which there is evidence, and remembers its disk.
-abbrev pub IsAfterStuckReset : Ports → Evidence → Ports → Port → Type 0
-IsAfterStuckReset old evidence new port = (new.served port ≡ old.served port)
+abbrev pub IsDeadAfterStuckResetIfServed : Ports → Evidence → Ports → Port → Type 0
+IsDeadAfterStuckResetIfServed old evidence new port = (new.served port ≡ old.served port)
     × (old.served port ≡ true → (new.state port ≡ Dead) × Contains evidence.stuck port) × SameSerialAndSize old new port

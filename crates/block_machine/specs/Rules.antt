@@ -15,7 +15,7 @@ use Rattle.ata_types.specs.declared.refusal.Rule.TheVariants.{NoGrant, NoRight, 
 use Rattle.ata_types.specs.declared.refusal.Refusal.{Refusal}
 use Rattle.ata_types.specs.declared.refusal.Refusal.TheVariants as refused
 use Rattle.ata_types.specs.SectorGrants.{AllowsOp, CoversSectors}
-use Rattle.ata_types.specs.declared.limits.TheConstants.{MOST_REQUEST_SECTORS}
+use Rattle.ata_types.specs.declared.limits.TheConstants.{MOST_READ_OR_WRITE_SECTORS}
 
 -- both pairs of a client and a grant's number are the same
 abbrev pub IsSameGrantName : ClientId → ℕ → ClientId → ℕ → Type 0
@@ -47,8 +47,8 @@ without_row client number rows = filter (λ row. not (is_same_grant_name client 
 
 -- the operation may have so many sectors
 abbrev pub IsAllowedCount : Op → ℕ → Type 0
-IsAllowedCount Read n = (1 ≤ n) × (n ≤ MOST_REQUEST_SECTORS)
-IsAllowedCount Write n = (1 ≤ n) × (n ≤ MOST_REQUEST_SECTORS)
+IsAllowedCount Read n = (1 ≤ n) × (n ≤ MOST_READ_OR_WRITE_SECTORS)
+IsAllowedCount Write n = (1 ≤ n) × (n ≤ MOST_READ_OR_WRITE_SECTORS)
 IsAllowedCount Trim n = (1 ≤ n) × (n ≤ 4194240)
 IsAllowedCount Flush n = n ≡ 0
 

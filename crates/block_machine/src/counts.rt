@@ -2,14 +2,14 @@
 ghost use Rattle.std.specs.Prelude.{◌≡◌, ◌↔◌, IsTrue};
 ghost use Rattle.block_machine.specs.Rules.{IsAllowedCount, frame_count_for};
 
-use ata_types::{MOST_REQUEST_SECTORS, Op};
+use ata_types::{MOST_READ_OR_WRITE_SECTORS, Op};
 
 /// Whether the operation may have so many sectors.
 pub fn is_allowed_count(op: Op, count: u32) -> bool
     ensures { IsTrue result ↔ IsAllowedCount op count }
 {
     match op {
-        Op::Read | Op::Write => 1 <= count && count <= MOST_REQUEST_SECTORS,
+        Op::Read | Op::Write => 1 <= count && count <= MOST_READ_OR_WRITE_SECTORS,
         Op::Trim => 1 <= count && count <= 4_194_240,
         Op::Flush => count == 0,
     }

@@ -162,7 +162,7 @@ pub fn law_ready_ports_are_served()
 
 /// The limits hold after every history; and the frames of each request that is unanswered or kept are its client's, and
 /// lent to it.
-pub fn law_request_limits_hold_and_frames_are_lent()
+pub fn law_book_limits_hold_and_frames_are_lent()
     ensures { (start : Machine) (history : List Step) → IsInitial start → AllEnabled start history
         → KeepsLimitsAndHoldsOwnFrames (after start history) }
 {}
@@ -216,7 +216,7 @@ pub fn law_due_test_is_exact()
 {}
 
 /// A request of the port is due exactly where it is one of the port's due requests; and these are of the port.
-pub fn law_due_list_is_exact()
+pub fn law_due_of_port_is_exact()
     ensures exact { (mode : QueueMode) (port : Port) (book : List Unanswered) (r : Unanswered) → r.port ≡ port
         → Contains (due_of mode port book) r ↔ IsDue mode book r }
     ensures due_are_of_port { (mode : QueueMode) (port : Port) (book : List Unanswered) (r : Unanswered)

@@ -67,9 +67,9 @@ pub record HistoryLaws : Type 0 where
   pub run : (wanted : List Wanted) (first : JointState Device) (past : List (JointEvent Device DeviceStep)) → IsDriverHistory wanted first past
       → IsRun first.abstract (events_of past)
   pub reads : (wanted : List Wanted) (first : JointState Device) (past : List (JointEvent Device DeviceStep)) → IsDriverHistory wanted first past
-      → first.device.telling ≡ true → EveryReadHoldsExpected first.abstract (events_of past)
+      → first.device.disks_tell_sectors ≡ true → EveryReadHoldsExpected first.abstract (events_of past)
   pub lasts : (wanted : List Wanted) (first : JointState Device) (past : List (JointEvent Device DeviceStep)) → IsDriverHistory wanted first past
-      → first.device.telling ≡ true → EveryReplugFindsFlushedOrLater first.abstract.machine (steps_of (events_of past))
+      → first.device.disks_tell_sectors ≡ true → EveryReplugFindsFlushedOrLater first.abstract.machine (steps_of (events_of past))
 
 -- What is known of ports that were found ready as an adapter was taken over.
 abbrev pub ReadyRunWell : Type 0
@@ -319,7 +319,7 @@ module _ (laws : HistoryLaws) where
             starts_at = a.meets_client_promise.starts_at;
             ends_at = subst (λ (l : Calls). IsSeenAt (observed_state_of device new) (joint_state_after first l)) whole b.meets_client_promise.ends_at;
             is_run = subst (λ (l : Calls). IsRun first.abstract (events_of l)) whole b.meets_client_promise.is_run;
-            reads_hold_if_disks_tell = subst (λ (l : Calls). first.device.telling ≡ true → EveryReadHoldsExpected first.abstract (events_of l)) whole b.meets_client_promise.reads_hold_if_disks_tell;
+            reads_hold_if_disks_tell = subst (λ (l : Calls). first.device.disks_tell_sectors ≡ true → EveryReadHoldsExpected first.abstract (events_of l)) whole b.meets_client_promise.reads_hold_if_disks_tell;
             invariant_at_start = a.meets_client_promise.invariant_at_start;
             matches_tape = all_backed new.wanted first past (two ++ one) leads.history;
           };

@@ -12,7 +12,7 @@ use Rattle.adapter.specs.Rules.{IsOn}
 use Rattle.adapter.specs.declared.access.DeviceStep.{DeviceStep}
 use Rattle.adapter.specs.declared.tape.Entry.{Entry}
 use Rattle.refinement.specs.Relation.{IsDiskOf, SameClientFrames, SameSectors}
-use Rattle.refinement.specs.Tape.{PutsInDisks, TellsDeviceSteps}
+use Rattle.refinement.specs.Tape.{PortPlugsPutInDisks, TellsDeviceSteps}
 use Rattle.block_machine.specs.Events.{AbstractCall, AbstractCallResult, EveryReadHoldsExpected, EmptyUnlessReady, IsRun, steps_of}
 use Rattle.block_machine.specs.Histories.{JointEvent, JointState, events_of, joint_state_after}
 use Rattle.durability.specs.Durable.{EveryReplugFindsFlushedOrLater}
@@ -74,7 +74,7 @@ pub record ClientPromiseInvariant (wanted : List Wanted) (i : JointState Device)
   pub unready_have_none_while_on : (p : Port) → p.0 < 4 → IsOn i.device → EmptyUnlessReady i.abstract p
   pub client_frames_are_same : SameClientFrames i.abstract.machine i.device.memory
   pub disks_are_same : (port : ℕ) → IsDiskOf i.abstract.machine (i.device.port port) port
-  pub sectors_are_same_if_disks_tell : i.device.telling ≡ true → (port : ℕ)
+  pub sectors_are_same_if_disks_tell : i.device.disks_tell_sectors ≡ true → (port : ℕ)
       → SameSectors i.abstract.machine (i.device.port port).disk port
 
 -- ---- the promise
@@ -87,7 +87,7 @@ pub record MatchesTape (wanted : List Wanted) (first : JointState Device) (past 
   pub new_entries : List Entry
   pub tape_is : h.device.tape ≡ (joint_state_after first past).device.tape ++ new_entries
   pub tells_device_steps : TellsDeviceSteps (joint_state_after first past).abstract.machine new_entries h.event.steps
-  pub plugged_disks_match_steps : (p : ℕ) → (disks : List Disk) × PutsInDisks p disks h.event.steps
+  pub plugged_disks_match_steps : (p : ℕ) → (disks : List Disk) × PortPlugsPutInDisks p disks h.event.steps
       × ((h.device.port p).plug_history ≡ ((joint_state_after first past).device.port p).plug_history ++ disks)
   pub invariant_holds : ClientPromiseInvariant wanted (joint_state_after first (h ∷ past))
 
@@ -104,7 +104,7 @@ pub record MeetsClientPromise (first : JointState Device) (past added : List (Jo
   pub starts_at : IsSeenAt old (joint_state_after first past)
   pub ends_at : IsSeenAt new (joint_state_after first (added ++ past))
   pub is_run : IsRun first.abstract (events_of (added ++ past))
-  pub reads_hold_if_disks_tell : first.device.telling ≡ true
+  pub reads_hold_if_disks_tell : first.device.disks_tell_sectors ≡ true
       → EveryReadHoldsExpected first.abstract (events_of (added ++ past))
   pub invariant_at_start : ClientPromiseInvariant old.wanted (joint_state_after first past)
   pub matches_tape : HoldsOfEachAdded (MatchesTape new.wanted first) past added
@@ -124,5 +124,5 @@ ConfinesMovesAndTrimClears first past added = HoldsOfEachAdded
 -- put there, or those of a write or trim accepted later, where the adapter's disks tell their sectors.
 pub record FlushesSurviveReplugIfDisksTell (first : JointState Device) (calls : List
     (JointEvent Device DeviceStep)) : Type 0 where
-  pub plugs_find_flushed_if_disks_tell : first.device.telling ≡ true
+  pub plugs_find_flushed_if_disks_tell : first.device.disks_tell_sectors ≡ true
       → EveryReplugFindsFlushedOrLater first.abstract.machine (steps_of (events_of calls))

@@ -21,7 +21,7 @@ fn none_of_two(alloc: Global) -> Result<(Quarantine, Quarantine), AllocError>
     match Quarantine::new(alloc) {
         Ok(second) => Ok((first, second)),
         Err(error) => {
-            first.destroy();
+            first.destroy_empty();
             Err(error)
         }
     }
@@ -35,8 +35,8 @@ pub(crate) fn empty_quarantines(alloc: Global) -> Result<[Quarantine; PORTS], Al
     match none_of_two(alloc) {
         Ok((third, fourth)) => Ok([first, second, third, fourth]),
         Err(error) => {
-            first.destroy();
-            second.destroy();
+            first.destroy_empty();
+            second.destroy_empty();
             Err(error)
         }
     }
@@ -47,10 +47,10 @@ pub(crate) fn destroy_quarantines(kept: [Quarantine; PORTS])
     requires { (port : ℕ) → quarantined_at kept port ≡ [] }
 {
     let [first, second, third, fourth] = kept;
-    first.destroy();
-    second.destroy();
-    third.destroy();
-    fourth.destroy();
+    first.destroy_empty();
+    second.destroy_empty();
+    third.destroy_empty();
+    fourth.destroy_empty();
 }
 
 /// Ports of which these disks are wanted, and that keep these loans. None is served yet: each takes plain commands, and

@@ -13,7 +13,7 @@ use adapter::Stepped;
 use driver_history::laws::{
     law_answers_justified, law_device_moves_and_clears_are_confined,
     law_healthy_calls_tell_no_fault_and_issue_due, law_histories_are_runs,
-    law_ok_reads_hold_expected_if_disks_tell, law_replugs_keep_flushed_if_disks_tell,
+    law_ok_reads_hold_expected_if_sectors_told, law_replugs_keep_flushed_if_sectors_told,
     law_services_answer_where_bits_are_clear,
 };
 use host_boot::laws::law_ready_ports_run_and_unusable_disks_show;
@@ -41,8 +41,8 @@ pub fn law_calls_that_extend_history_keep_promise<A: Stepped>()
     law_answers_justified();
     law_device_moves_and_clears_are_confined();
     law_histories_are_runs();
-    law_ok_reads_hold_expected_if_disks_tell();
-    law_replugs_keep_flushed_if_disks_tell();
+    law_ok_reads_hold_expected_if_sectors_told();
+    law_replugs_keep_flushed_if_sectors_told();
 }
 
 /// A port that is ready when its server is made runs well then, where nothing went wrong on it since the adapter was

@@ -19,7 +19,7 @@ use ata_types::{
     AdapterStuck, MOST_UNANSWERED_OF_A_CLIENT, MOST_UNANSWERED_OF_ALL_CLIENTS, Op, PORTS, Port,
     PortState, Range, Refusal, Replies, Request, RequestId,
 };
-use block_machine::laws::law_due_list_is_exact;
+use block_machine::laws::law_due_of_port_is_exact;
 use configuration::{Config, Plan};
 use dma_frames::FrameTable;
 use grants::{Grants, decide};
@@ -238,7 +238,7 @@ impl<A: Adapter> Server<A> {
     {
         law_requests_preserve_invariant();
         law_acceptances_extend_history();
-        law_due_list_is_exact();
+        law_due_of_port_is_exact();
         let id = RequestId(self.last + 1);
         let entry = PendingRequest {
             id,

@@ -36,7 +36,7 @@ trim = record { operation = operation.Trim; first = 0; count = 0 }
 
 pub flush_table : (command : Command) → command ≡ command_of operation.Flush 0 0 0 → IsTableFor 0 command [] flush []
 flush_table command is = record {
-  meaning = record { ranged = λ e. absurd cc; not_ranged = λ _. (refl, refl) };
+  meaning = record { sectors_fit_if_it_moves_some = λ e. absurd cc; sectors_are_zero_if_it_moves_none = λ _. (refl, refl) };
   fields = is;
   prds_are_whole_pieces = All-nil IsWholePieces;
   places_are = refl;
@@ -44,7 +44,7 @@ flush_table command is = record {
 }
 
 pub is_trim : IsValidMeaning trim
-is_trim = record { ranged = λ e. absurd cc; not_ranged = λ _. (refl, refl) }
+is_trim = record { sectors_fit_if_it_moves_some = λ e. absurd cc; sectors_are_zero_if_it_moves_none = λ _. (refl, refl) }
 
 -- a task alone is armed
 pub armed_one : (port : Port) (t : PlacedTask) (own : ℕ) (old mid armed : Device) → IsOn old → HasPort old port.0 → t.slot < 32 → t.slot ≤ old.cap / 256 % 32 → RunsItsList port.0 old → SomeMachineAgreesWith (IsSlotStateFree port.0 t.slot) old →

@@ -24,7 +24,7 @@ use Rattle.refinement.specs.Slots.{Free, Armed, SlotDecodesTo, SlotStates, set_s
 use Rattle.command_table.specs.TableStores.{FillsHeaderWithPrdbcZero, IsInTable, IsHeaderOrTableStore, IsSlotStateFree}
 use Rattle.commands.specs.Batches.{BatchSlotsAreUnused, IsBatchStored, IsSlotOf, IsStoreForBatch, MemoryEncodesTask, PlacedTask, StoresTransfer}
 use Rattle.commands.specs.Issuing.{MayIssueTransfer}
-use Rattle.commands.specs.Tasks.{IsFitTransfer, IsStoreFor, IsTransfer, RunsItsList, piece_addresses_of, meaning_of}
+use Rattle.commands.specs.Tasks.{IsFitTransfer, IsStoreFor, IsReadOrWrite, RunsItsList, task_places, meaning_of}
 use Rattle.commands.proofs.Batch.{PutsHere, PutsNoOther, all_as, all_in, contains_here}
 use Rattle.commands.proofs.Stores.{ActLaws, IsStoring, Leaving, batch_stores, simulated_as, simulated_none, simulated_then, stored_in, stores_may, stores_on, stores_same, stores_there, table_stores}
 use Rattle.commands.proofs.Telling.{no_block, of_transfer}
@@ -88,7 +88,7 @@ module _ (laws : Laws) (port : Port) (slot other : ℕ) (low : port.0 < 4) (smal
   table_leaves (Reading q v) here = absurd here
   table_leaves (Writing q v) here = absurd here
 
-store_of_table : (port slot : ℕ) (access : Access) (op : Op) → IsTransfer op → IsHeaderOrTableStore port slot access → IsStoreFor op port slot access
+store_of_table : (port slot : ℕ) (access : Access) (op : Op) → IsReadOrWrite op → IsHeaderOrTableStore port slot access → IsStoreFor op port slot access
 store_of_table port slot access op is here = of_transfer (λ o. IsStoreFor o port slot access) here here op is
 
 module _ (laws : Laws) (port : Port) (tasks : List PlacedTask) (t : PlacedTask) (start mid : Device) (b : IsBatchStored port tasks start mid) (agreed : SomeMachineAgreesWith (BatchSlotsAreUnused port.0 (tasks ++ t ∷ [])) start)
@@ -161,7 +161,7 @@ module _ (laws : Laws) (port : Port) (tasks : List PlacedTask) (t : PlacedTask) 
         let says : MemoryEncodesTask port.0 y mid.memory = All-contains (λ z. MemoryEncodesTask port.0 z mid.memory) tasks y b.slots_say_tasks is in
         let its_small : y.slot < 32 = All-contains (λ z. z.slot < 32) tasks y b.slots_in_range is in
         let its_fit : IsFitTransfer y.task y.frames = All-contains (λ z. IsFitTransfer z.task z.frames) tasks y b.transfers_fit is in
-        let places : List ℕ = piece_addresses_of port.0 y.task.op y.task.range.count y.frames in
+        let places : List ℕ = task_places port.0 y.task.op y.task.range.count y.frames in
         let z : ActsReach w.stores.is_driven.accesses (driver_state_of_slots s mid) m (driver_state_of_slots s new) (AreByDeviceAndKeepUnwrittenSlots (IsHeaderOrTableStore port.0 t.slot) s.slot_states) = w.stores.acts_reach s m m_reached goes.driver_relation (its agreed.0 agreed.1) in
         let after_both : IsStoredOnPortWithStSet new port.0 y.slot (meaning_of y.task) places =
         laws.stays port y.slot (meaning_of y.task) places z.acts (driver_state_of_slots s mid) (driver_state_of_slots s new) m m_reached goes.driver_relation z.acts_are_done

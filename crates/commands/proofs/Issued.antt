@@ -38,7 +38,7 @@ use Rattle.refinement.specs.Slots.{SlotState, Free, Armed, Own, Serves, SlotStat
 use Rattle.refinement.specs.StartedPort.{WritesCmdOnlyWithStSet}
 use Rattle.commands.specs.Batches.{BatchSlotsAreUnused, HaveOwnSlots, IsBatchIssued, IsCommandIssueAccess, IsSlotOf, IsStoreForBatch, IssuesBatchAtEnd, MayServeBatch, MemoryEncodesTask, PlacedTask, StoresThenWritesAll, issues_newest_first, with_serving_batch}
 use Rattle.commands.specs.Issuing.{IsArmedFor}
-use Rattle.commands.specs.Tasks.{WritesSactIfQueued, BlockNamesSectors, IsFreeArmedOrServing, IsTaskOf, RunsItsList, piece_addresses_of, meaning_of, task_operation, issuing_writes}
+use Rattle.commands.specs.Tasks.{WritesSactIfQueued, BlockNamesSectors, IsFreeArmedOrServing, IsTaskOf, RunsItsList, task_places, meaning_of, task_operation, issuing_writes}
 use Rattle.commands.proofs.Batch.{all_as, all_in, all_one, armed_here, armed_others, uses_armed, bits_begin, bits_more, bits_on, bits_written, changed_here, ci_bits, contains_here, contains_there, first_apart, own_bit, own_bit_is, rest_apart, sact_bits, served_armed, served_here, served_others, uses_served, serving_batch_is, with_bits, zip_as}
 use Rattle.commands.proofs.Stores.{ActLaws, IsStoring, Leaving, batch_stores, does_then, store_for, stored_in, stores_may, stores_on, stores_same, stores_there, storing_writes_none}
 use Rattle.commands.proofs.Telling.{task_block, task_means}
@@ -144,7 +144,7 @@ record Reaches (port : Port) (tasks : List PlacedTask) (queued : Bool) (accesses
   others : (q k : ℕ) → (q ≡ port.0 → IsSlotOf tasks k → ⊥) → All (λ act. act.state_after.slot_states q k ≡ s.slot_states q k) acts
 
 abbrev places_for : Port → PlacedTask → List ℕ
-places_for port t = piece_addresses_of port.0 t.task.op t.task.range.count t.frames
+places_for port t = task_places port.0 t.task.op t.task.range.count t.frames
 
 module _ (laws : Laws) (port : Port) where
   -- bit by bit

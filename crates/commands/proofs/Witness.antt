@@ -5,7 +5,7 @@ use Rattle.ata_types.specs.declared.Port.{Port}
 use Rattle.ata_types.specs.declared.refusal.Rule.TheVariants.{FrameCount}
 use Rattle.ata_types.specs.declared.request.Op.{Op}
 use Rattle.ata_types.specs.declared.request.Op.TheVariants.{Read}
-use Rattle.adapter.specs.Commands.{Meaning, is_queued, is_ranged}
+use Rattle.adapter.specs.Commands.{Meaning, is_queued, moves_disk_sectors}
 use Rattle.adapter.specs.FirstRead.{first_read_device}
 use Rattle.adapter.specs.Memory.{changed}
 use Rattle.adapter.specs.ReadDone.{read_of}
@@ -55,7 +55,7 @@ module _ (known : PreparedReadWitness) (one : (memory : ℕ → ℕ) (list slot 
       some_read e = cc
 
   first_is : request.asked.first.0 ≡ 100
-  first_is = sym (prepared.means.first_sector_is_if_ranged (ap (λ (m : Meaning). is_ranged m.operation) same.0)) ∙ ap (λ (m : Meaning). m.first) same.0
+  first_is = sym (prepared.means.first_sector_is_if_it_moves_sectors (ap (λ (m : Meaning). moves_disk_sectors m.operation) same.0)) ∙ ap (λ (m : Meaning). m.first) same.0
 
   count_is : request.asked.count ≡ 8
   count_is = sym (subst (λ (op : Op). AreRequestPlaces op 0 request prepared.places) read_is prepared.means.places_are).0 ∙ ap (λ (places : List ℕ). length places) same.1

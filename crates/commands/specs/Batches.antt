@@ -23,7 +23,7 @@ use Rattle.refinement.specs.MemoryLayout.{command_list_address}
 use Rattle.refinement.specs.ReadySlots.{IsStoredOnPortWithStSet}
 use Rattle.refinement.specs.Slots.{Free, SlotDecodesTo, SlotStates}
 use Rattle.command_table.specs.TableStores.{IsHeaderTableOrBlockStore, IsHeaderOrTableStore, IsSlotStateFree}
-use Rattle.commands.specs.Tasks.{BlockNamesSectors, IsFreeArmedOrServing, IsFitTransfer, IsStoreFor, IsTaskOf, RunsItsList, piece_addresses_of, meaning_of, with_serving, issuing_writes}
+use Rattle.commands.specs.Tasks.{BlockNamesSectors, IsFreeArmedOrServing, IsFitTransfer, IsStoreFor, IsTaskOf, RunsItsList, task_places, meaning_of, with_serving, issuing_writes}
 use Rattle.commands.specs.declared.ncq.Task.{Task}
 
 -- ---- a batch
@@ -58,7 +58,7 @@ pub record HasExactlySlotBitsOf (tasks : List PlacedTask) (v : ℕ) : Type 0 whe
 -- the slot's header and table say what the task is to do, and a trim's block names its sectors
 pub record MemoryEncodesTask (port : ℕ) (t : PlacedTask) (memory : ℕ → ℕ) : Type 0 where
   pub slot_says_task : SlotDecodesTo memory (command_list_address port) port t.slot (meaning_of t.task)
-      (piece_addresses_of port t.task.op t.task.range.count t.frames)
+      (task_places port t.task.op t.task.range.count t.frames)
   pub block_names_sectors : BlockNamesSectors t.task.op t.task.range port memory
 
 -- ---- it is stored
@@ -161,7 +161,7 @@ pub record IsBatchIssued (port : Port) (tasks : List PlacedTask) (old new : Devi
   pub adapter_is_on : IsOn new
   pub issues : IssuesBatch port tasks old new
   pub stored : All (λ t. IsStoredOnPortWithStSet new port.0 t.slot (meaning_of t.task)
-      (piece_addresses_of port.0 t.task.op t.task.range.count t.frames)) tasks
+      (task_places port.0 t.task.op t.task.range.count t.frames)) tasks
   pub block_names_sectors : All (λ t. BlockNamesSectors t.task.op t.task.range port.0 new.memory) tasks
   pub ci_is_set : All (λ t. (new.port port.0).ci t.slot ≡ true) tasks
   pub sact_is_set : All (λ t. t.task.queued ≡ true → (new.port port.0).sact t.slot ≡ true) tasks

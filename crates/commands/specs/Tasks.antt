@@ -7,7 +7,7 @@ use Rattle.ata_types.specs.declared.request.Frame.{Frame}
 use Rattle.ata_types.specs.declared.request.Op.{Op}
 use Rattle.ata_types.specs.declared.request.Op.TheVariants.{Read, Write, Trim, Flush}
 use Rattle.ata_types.specs.declared.request.RequestId.{RequestId}
-use Rattle.ata_types.specs.declared.limits.TheConstants.{MOST_REQUEST_SECTORS}
+use Rattle.ata_types.specs.declared.limits.TheConstants.{MOST_READ_OR_WRITE_SECTORS}
 use Rattle.hba_regs.specs.declared.reg.Reg.TheVariants.{Px}
 use Rattle.hba_regs.specs.declared.reg.PortReg.TheVariants.{Ci, Sact}
 use Rattle.adapter.specs.Access.{Access, Writes}
@@ -30,16 +30,16 @@ use Rattle.commands.specs.declared.ncq.Task.{Task}
 
 -- ---- tasks
 
--- a request that moves its sectors to or from its frames
-abbrev pub IsTransfer : Op → Type 0
-IsTransfer op = (op ≡ Read) ⊎ (op ≡ Write)
+-- a read or a write: what moves its sectors to or from its frames
+abbrev pub IsReadOrWrite : Op → Type 0
+IsReadOrWrite op = (op ≡ Read) ⊎ (op ≡ Write)
 
 -- A read or a write of 1 to 1024 sectors, the first of them below 2^48, and the frames that they need, eight sectors to
 -- a frame.
 pub record IsFitTransfer (r : Task) (frames : List Frame) : Type 0 where
-  pub is_transfer : IsTransfer r.op
+  pub is_transfer : IsReadOrWrite r.op
   pub count_is_positive : 1 ≤ r.range.count
-  pub count_is_allowed : r.range.count ≤ MOST_REQUEST_SECTORS
+  pub count_is_allowed : r.range.count ≤ MOST_READ_OR_WRITE_SECTORS
   pub first_in_range : r.range.first.0 < 2 ^ 48
   pub frame_count_is : length frames ≡ (r.range.count + 7) / 8
 
@@ -70,11 +70,11 @@ meaning_of r = record {
 
 -- The addresses that the slot's bytes say, on this port: a transfer's sectors are in its frames, and a trim's block is
 -- in the scratch frame.
-abbrev pub piece_addresses_of : ℕ → Op → ℕ → List Frame → List ℕ
-piece_addresses_of port Read count frames = places_of frames count
-piece_addresses_of port Write count frames = places_of frames count
-piece_addresses_of port Trim count frames = scratch_frame_address port ∷ []
-piece_addresses_of port Flush count frames = []
+abbrev pub task_places : ℕ → Op → ℕ → List Frame → List ℕ
+task_places port Read count frames = places_of frames count
+task_places port Write count frames = places_of frames count
+task_places port Trim count frames = scratch_frame_address port ∷ []
+task_places port Flush count frames = []
 
 -- a trim's block stands in the port's scratch frame, and names its sectors (ACS-3)
 abbrev pub BlockNamesSectors : Op → Range → ℕ → (ℕ → ℕ) → Type 0

@@ -14,8 +14,8 @@ use refinement::acts::{
 };
 use refinement::fragments::law_other_ports_are_untouched;
 use refinement::laws::{
-    law_advances_compose, law_device_and_faithful_step_lists_compose,
-    law_device_steps_are_a_call_part, law_device_steps_are_simulated, law_enabled_issues_stay,
+    law_device_and_faithful_step_lists_compose, law_device_steps_are_a_call_part,
+    law_device_steps_are_simulated, law_driver_advances_compose, law_enabled_issues_stay,
     law_prepared_read_example_agrees, law_setting_changes_one_slot, law_stored_commands_stay,
     law_tables_and_idle_scratch_are_kept, law_two_stored_reads_example_agrees,
 };
@@ -52,7 +52,7 @@ pub fn law_ci_write_issues_armed_batch()
     law_device_steps_are_a_call_part();
     law_enabled_issues_stay();
     law_tables_and_idle_scratch_are_kept();
-    law_advances_compose();
+    law_driver_advances_compose();
     law_device_and_faithful_step_lists_compose();
     law_other_ports_are_untouched();
     law_setting_changes_one_slot();
@@ -76,7 +76,7 @@ pub fn law_stored_task_extends_batch()
 {
     law_acts_compose();
     law_acts_advance_driver();
-    law_advances_compose();
+    law_driver_advances_compose();
     law_device_and_faithful_step_lists_compose();
     law_other_ports_are_untouched();
     law_setting_changes_one_slot();

@@ -9,8 +9,8 @@ ghost use Rattle.commands.specs.Masks.{IsDoneMask, ReadsDone, FindsEachClearSlot
 use adapter::laws::law_step_lists_keep_what_steps_keep;
 use refinement::acts::law_an_access_or_own_step_is_one_act;
 use refinement::laws::{
-    law_advances_compose, law_book_only_advances_over_device_steps,
-    law_device_and_faithful_step_lists_compose, law_register_reading_is_simulated,
+    law_device_and_faithful_step_lists_compose, law_driver_advances_compose,
+    law_register_reading_is_simulated, law_requests_only_advance_over_device_steps,
 };
 use refinement::port_facts::{
     law_adapter_stays_same_and_on_until_ghc_write, law_port_controls_stay_until_written,
@@ -27,9 +27,9 @@ pub fn law_ci_then_sact_reads_find_done_slots()
     law_adapter_stays_same_and_on_until_ghc_write();
     law_port_controls_stay_until_written();
     law_slot_is_clear_iff_ended_while_st_set();
-    law_advances_compose();
+    law_driver_advances_compose();
     law_device_and_faithful_step_lists_compose();
     law_register_reading_is_simulated();
     law_step_lists_keep_what_steps_keep();
-    law_book_only_advances_over_device_steps();
+    law_requests_only_advance_over_device_steps();
 }

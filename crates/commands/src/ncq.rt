@@ -10,14 +10,14 @@ ghost use Rattle.std.specs.Prelude.{◌≡◌, ◌≤◌, ◌<◌, ◌*◌, ◌/
 ghost use Rattle.adapter.specs.{Commands.{command_of}, Device.{Device}, Rules.{IsOn, HasPort}, AccessBounds.{MakesAtMost}};
 ghost use Rattle.refinement.specs.Fragments.{IsSoleBit};
 ghost use Rattle.hba_regs.specs.{declared.reg.PortReg.TheVariants.{Ci, Sact}, declared.reg.Reg.TheVariants.{Px}};
-ghost use Rattle.commands.specs.{Batches.{HasExactlySlotBitsOf, IsBatchIssued, IsBatchStored, PlacedTask, StoresTransfer}, Issuing.{IsIssued, MayIssueTask, MayIssueTransfer}, Masks.{IsDoneMask, ReadsDone, FindsEachClearSlot}, Tasks.{WritesSactIfQueued, IsFitTransfer, IsTransfer, task_operation}, Costs.{BATCH_WRITE_ACCESSES, DONE_ACCESSES, ISSUE_ACCESSES}};
+ghost use Rattle.commands.specs.{Batches.{HasExactlySlotBitsOf, IsBatchIssued, IsBatchStored, PlacedTask, StoresTransfer}, Issuing.{IsIssued, MayIssueTask, MayIssueTransfer}, Masks.{IsDoneMask, ReadsDone, FindsEachClearSlot}, Tasks.{WritesSactIfQueued, IsFitTransfer, IsReadOrWrite, task_operation}, Costs.{BATCH_WRITE_ACCESSES, DONE_ACCESSES, ISSUE_ACCESSES}};
 ghost use Rattle.command_table.specs.Costs.{TABLE_ACCESSES};
 
 use crate::laws::law_ci_write_issues_armed_batch;
 use crate::laws_of_done::law_ci_then_sact_reads_find_done_slots;
 use adapter::{Adapter, Command};
 use ata_types::{
-    DRIVER_BYTES, Frame, MOST_REQUEST_FRAMES, MOST_REQUEST_SECTORS, Op, Port, READ_DMA_EXT,
+    DRIVER_BYTES, Frame, MOST_READ_OR_WRITE_SECTORS, MOST_REQUEST_FRAMES, Op, Port, READ_DMA_EXT,
     READ_FPDMA_QUEUED, Range, Slot, WRITE_DMA_EXT, WRITE_FPDMA_QUEUED,
 };
 use command_table::{prds_in, write_table};
@@ -50,8 +50,8 @@ pub struct Task {
 /// The command of a transfer in a slot (ACS-3): of a queued one, the features field has the sectors, and the count
 /// field the tag.
 fn command(transfer: &Task, slot: Slot) -> Command
-    requires transfers { IsTransfer transfer.now.op }
-    requires few { transfer.now.range.count ≤ MOST_REQUEST_SECTORS }
+    requires transfers { IsReadOrWrite transfer.now.op }
+    requires few { transfer.now.range.count ≤ MOST_READ_OR_WRITE_SECTORS }
     requires slot { slot.0 < 32 }
     ensures { result ≡ command_of (task_operation transfer.now.queued transfer.now.op) slot.0 transfer.now.range.first.0
         transfer.now.range.count }

@@ -4,7 +4,7 @@ use Rattle.std.specs.Prelude.{Contains, IfSome, if◌then◌else◌, is_some, na
 use Rattle.std.proofs.lemmas.Bool.{cases_order}
 use Rattle.std.proofs.lemmas.Bool.Decides.{eqb_tells}
 use Rattle.std.proofs.lemmas.Option.{same_Some}
-use Rattle.sector_store.specs.Stores.{RecordsOneMoreFailure, with_sector}
+use Rattle.sector_store.specs.Stores.{HasRecordAndNotesOneMoreFailure, with_sector}
 use Rattle.sector_store.specs.declared.store.Failures.{Failures}
 use Rattle.device_model.proofs.Absurd.{fun_ext, some-none}
 use Rattle.device_model.specs.WriteCaches.{HasRoomForOldSectors, RollsBack, WritesFail, sector_told}
@@ -92,7 +92,7 @@ put_lasts olds now k put told then_told lasts written false puts held = ap (opti
 abbrev pub WritesOne : {S : Type 0} → (S → ℕ) → (S → Option (ℕ → List ℕ)) → (S → Option Failures) → OldSector → S → S → Type 0
 WritesOne size told failures old was now = (size now ≡ size was)
     × (((old.sector < size was) × (told now ≡ option_map (λ f. with_sector f old.sector old.bytes) (told was)) × (failures now ≡ failures was))
-    ⊎ (((old.sector < size was) × (told now ≡ told was) × RecordsOneMoreFailure true old.sector (failures was) (failures now))
+    ⊎ (((old.sector < size was) × (told now ≡ told was) × HasRecordAndNotesOneMoreFailure true old.sector (failures was) (failures now))
     ⊎ ((size was ≤ old.sector) × (told now ≡ told was) × (failures now ≡ failures was))))
 
 -- these old sectors were written back one after another, in their order
@@ -235,7 +235,7 @@ module _ {S : Type 0} (size : S → ℕ) (told : S → Option (ℕ → List ℕ)
         other k (inl past) is = omega (arith, past, inside, is)
         other k (inr at) is = let up = rested.low_none k at in omega (arith, up, is)
 
-    turned_failed : o.sector < size was → told mid ≡ told was → RecordsOneMoreFailure true o.sector (failures was) (failures mid) → Turned low (o ∷ olds) was now
+    turned_failed : o.sector < size was → told mid ≡ told was → HasRecordAndNotesOneMoreFailure true o.sector (failures was) (failures mid) → Turned low (o ∷ olds) was now
     turned_failed inside kept fails =
         record {
           failed = o.sector ∷ rested.failed;
@@ -397,7 +397,7 @@ take_more (o ∷ olds) (suc place) d inside =
 pub wrote_one : {S : Type 0} (size : S → ℕ) (told : S → Option (ℕ → List ℕ)) (failures : S → Option Failures) (old : OldSector) (done : Bool) (was now : S) → size now ≡ size was →
     (done ≡ true → old.sector < size was) → (done ≡ true → told now ≡ option_map (λ f. with_sector f old.sector old.bytes) (told was)) →
     ((done ≡ true) ⊎ (size was ≤ old.sector) → failures now ≡ failures was) → (done ≡ false → told now ≡ told was) →
-    (done ≡ false → old.sector < size was → RecordsOneMoreFailure true old.sector (failures was) (failures now)) → WritesOne size told failures old was now
+    (done ≡ false → old.sector < size was → HasRecordAndNotesOneMoreFailure true old.sector (failures was) (failures now)) → WritesOne size told failures old was now
 wrote_one size told failures old true was now sized inside puts serves kept fails = (sized, inl (inside refl, puts refl, serves (inl refl)))
 wrote_one size told failures old false was now sized inside puts serves kept fails =
     (sized, inr (elim (below_or old.sector (size was)) [ inl lt ↦ inl (lt, kept refl, fails refl lt) | inr past ↦ inr (past, kept refl, serves (inr past)) ]))

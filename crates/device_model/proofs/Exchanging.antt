@@ -6,7 +6,7 @@ use Rattle.std.specs.Global.{Vec}
 use Rattle.std.specs.Vec.{with_items}
 use Rattle.std.proofs.Math.Seq.{drop-append_seam, take-append_seam}
 use Rattle.std.proofs.lemmas.List.{drop-drop, take-append-drop, with_items_is}
-use Rattle.adapter.specs.Commands.{direction_of, is_ranged, reads_memory}
+use Rattle.adapter.specs.Commands.{direction_of, moves_disk_sectors, reads_memory}
 use Rattle.adapter.specs.Device.{Device}
 use Rattle.adapter.specs.Memory.{patched}
 use Rattle.adapter.specs.Decoding.{pieces}
@@ -208,12 +208,12 @@ next_grown {old} {h} {next} {t} port slot is at =
     }
 
 -- the sector that a command names next, once one more piece is moved
-one_further : (t : TakenCommand) (sector : ℕ) → is_ranged t.operation ≡ true → sector ≡ next_sector (taken_of t) →
+one_further : (t : TakenCommand) (sector : ℕ) → moves_disk_sectors t.operation ≡ true → sector ≡ next_sector (taken_of t) →
     sector + 1 ≡ next_sector (taken_of (record t { moved = t.moved + 1 }))
-one_further t sector ranged is =
-    let was : next_sector (taken_of t) ≡ t.first + t.moved = ap (λ (b : Bool). if b then t.first + t.moved else 0) ranged in
+one_further t sector moves_sectors is =
+    let was : next_sector (taken_of t) ≡ t.first + t.moved = ap (λ (b : Bool). if b then t.first + t.moved else 0) moves_sectors in
     let now : next_sector (taken_of (record t { moved = t.moved + 1 })) ≡ t.first + (t.moved + 1) =
-    ap (λ (b : Bool). if b then t.first + (t.moved + 1) else 0) ranged in
+    ap (λ (b : Bool). if b then t.first + (t.moved + 1) else 0) moves_sectors in
     omega (arith, is, was, now)
 
 -- once the next piece of a command is noted, the one behind it is next

@@ -1,7 +1,7 @@
 -- A command fails on a sector: the store of the disk has failed, or the sector is past the disk.
 use Rattle.std.specs.Prelude.{option_map}
 use Rattle.std.proofs.Common.{ℕ, true, ◌≡◌, ◌≢◌, ◌∙◌, List, Option, Some, sym, ap, subst, inr}
-use Rattle.adapter.specs.Commands.{is_queued, is_ranged, reads_memory}
+use Rattle.adapter.specs.Commands.{is_queued, moves_disk_sectors, reads_memory}
 use Rattle.adapter.specs.Device.{Device, FetchedCommand}
 use Rattle.adapter.specs.Steps.{Can, device_after, next_sector}
 use Rattle.adapter.specs.Steps.DeviceTransition.{Fault}
@@ -32,10 +32,10 @@ module _ {S : Type 0} (size : S → ℕ) (told : S → Option (ℕ → List ℕ)
     (m mid last : Model S) (failed : IsFailed size told failures p slot error t mid last) where
   -- as the next sector was to be moved
   pub fails_to_move : device_at size told mid ≡ device_at size told m → page_source_of mid p.0 ≡ page_source_of m p.0 → HasMove (device_at size told m) p.0 slot.0 t →
-      is_ranged t.meaning.operation ≡ true →
+      moves_disk_sectors t.meaning.operation ≡ true →
       SectorIsPastDiskOrStoreFails (port_has_cache m p.0) (reads_memory t.meaning.operation) (next_sector t) ((device_at size told m).port p.0).disk.sector_count error (disk_failures failures m p.0) (disk_failures failures mid p.0) →
       CommandOfStepFails size told failures (asked.Move p slot) m last
-  fails_to_move same says move ranged cause =
+  fails_to_move same says move moves_sectors cause =
       let P : Option Failures → Type 0 = λ now.
       SectorIsPastDiskOrStoreFails (port_has_cache m p.0) (reads_memory t.meaning.operation) (next_sector t) ((device_at size told m).port p.0).disk.sector_count error (disk_failures failures m p.0) now in
       let Q : FetchedCommand → Device → Type 0 = λ x d. Can (Fault p.0 slot.0 error 0 x) d in
@@ -43,7 +43,7 @@ module _ {S : Type 0} (size : S → ℕ) (told : S → Option (ℕ → List ℕ)
       record {
         fetched_command = t;
         has_move = move;
-        ranged = ranged;
+        moves_sectors = moves_sectors;
         error = error;
         cause = subst P (sym (fine_on size told failures p slot error t mid last failed)) cause;
         can = subst (λ (d : Device). Q t d) same (subst (λ (x : FetchedCommand). Q x (device_at size told mid)) failed.same failed.fails.fault.can);

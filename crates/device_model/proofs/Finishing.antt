@@ -2,7 +2,7 @@
 use Rattle.std.proofs.Common.{[], ◌∷◌, ℕ, Bool, true, false, zero, suc, ◌≡◌, ◌<◌, ◌≤◌, ◌+◌, ◌⊎◌, List, length, slice_index, slice_index_or, Option, None, Some, refl, sym, ◌∙◌, ap, subst, inl, inr, arith}
 use Rattle.std.specs.Prelude.{if◌then◌else◌}
 use Rattle.adapter.specs.AskedSteps.{DoesClear, DoesFetch, DoesMove, DoesDone, DoesSlotStep, DoesExactlySlotSteps, EndsAndPosts, DoesAtLeastOneSlotStep}
-use Rattle.adapter.specs.Commands.{Meaning, is_queued, is_ranged}
+use Rattle.adapter.specs.Commands.{Meaning, is_queued, moves_disk_sectors}
 use Rattle.adapter.specs.Device.{Disk, FetchedCommand, Halt, DevicePort, Device}
 use Rattle.adapter.specs.Memory.{changed}
 use Rattle.adapter.specs.OneCommand.{SlotHasNoCommand}
@@ -15,7 +15,7 @@ use Rattle.device_model.proofs.Absurd.{some-none, some_one, true-false}
 use Rattle.device_model.proofs.Places.{changed_same}
 use Rattle.adapter.proofs.SaysLemmas.{says_meaning, says_places}
 use Rattle.device_model.specs.StepEffects.{HasCleared, HasEndedSlot}
-use Rattle.device_model.specs.Finishing.{HasDisksOrOperationIsRanged, HasMove, HasMovesLeftInMemory, IsInProgress, MayFinish}
+use Rattle.device_model.specs.Finishing.{HasDisksOrOperationMovesSectors, HasMove, HasMovesLeftInMemory, IsInProgress, MayFinish}
 use Rattle.device_model.specs.SentFises.{SendsEnd}
 use Rattle.device_model.specs.Slots.{IsMovedTrimWithSectorsLeftAtLeast, WorksOnIn, IsNextMove}
 use Rattle.device_model.specs.Trims.{HasClear, HasClearsLeft, next_run_length, uncleared}
@@ -308,25 +308,25 @@ next_has_move h o d port slot next r has same is =
     subst P same (record { works = is.works_on.works (o.media port); piece_is_left = is.piece_is_left; piece_is_inside = omega (arith, place, there); has_disks = subst Q (sym same) has })
 
 -- a move of a device is of a sector on its disk, if it is of one
-brings_on_disk : (disk : Disk) (memory : ℕ → ℕ) (t : FetchedCommand) (k : Operation) (bytes : List ℕ) → is_ranged k ≡ true →
+brings_on_disk : (disk : Disk) (memory : ℕ → ℕ) (t : FetchedCommand) (k : Operation) (bytes : List ℕ) → moves_disk_sectors k ≡ true →
     MayBring disk memory t k bytes → next_sector t < disk.sector_count
-brings_on_disk disk memory t operation.Read bytes ranged brings = brings.0
-brings_on_disk disk memory t operation.Write bytes ranged brings = brings.0
-brings_on_disk disk memory t operation.ReadQueued bytes ranged brings = brings.0
-brings_on_disk disk memory t operation.WriteQueued bytes ranged brings = brings.0
-brings_on_disk disk memory t operation.Identify bytes ranged brings = absurd (cc ranged)
-brings_on_disk disk memory t operation.Flush bytes ranged brings = absurd (cc ranged)
-brings_on_disk disk memory t operation.Trim bytes ranged brings = absurd (cc ranged)
-brings_on_disk disk memory t operation.ReadLog bytes ranged brings = absurd (cc ranged)
+brings_on_disk disk memory t operation.Read bytes moves_sectors brings = brings.0
+brings_on_disk disk memory t operation.Write bytes moves_sectors brings = brings.0
+brings_on_disk disk memory t operation.ReadQueued bytes moves_sectors brings = brings.0
+brings_on_disk disk memory t operation.WriteQueued bytes moves_sectors brings = brings.0
+brings_on_disk disk memory t operation.Identify bytes moves_sectors brings = absurd (cc moves_sectors)
+brings_on_disk disk memory t operation.Flush bytes moves_sectors brings = absurd (cc moves_sectors)
+brings_on_disk disk memory t operation.Trim bytes moves_sectors brings = absurd (cc moves_sectors)
+brings_on_disk disk memory t operation.ReadLog bytes moves_sectors brings = absurd (cc moves_sectors)
 
 -- where a move may be made on a port that has disks, and its piece is in the memory, it is possible
 pub has_move : (d : Device) (port slot : ℕ) (t : FetchedCommand) (bytes : List ℕ) → ((sector : ℕ) → sector < (d.port port).disk.sector_count → HasDisks d port) →
-    HasDisksOrOperationIsRanged d port t.meaning.operation → next_place t + 512 ≤ d.memory_size → Can (Move port slot t bytes) d → HasMove d port slot t
+    HasDisksOrOperationMovesSectors d port t.meaning.operation → next_place t + 512 ≤ d.memory_size → Can (Move port slot t bytes) d → HasMove d port slot t
 has_move d port slot t bytes sized has inside can =
-    record { works = can.works; piece_is_left = can.piece_is_left; piece_is_inside = inside; has_disks = elim has [ inl here ↦ here | inr ranged ↦ on ranged ] }
+    record { works = can.works; piece_is_left = can.piece_is_left; piece_is_inside = inside; has_disks = elim has [ inl here ↦ here | inr moves_sectors ↦ on moves_sectors ] }
   where
-    on : is_ranged t.meaning.operation ≡ true → HasDisks d port
-    on ranged = sized (next_sector t) (brings_on_disk (d.port port).disk d.memory t t.meaning.operation bytes ranged can.brings)
+    on : moves_disk_sectors t.meaning.operation ≡ true → HasDisks d port
+    on moves_sectors = sized (next_sector t) (brings_on_disk (d.port port).disk d.memory t t.meaning.operation bytes moves_sectors can.brings)
 
 -- where a move is left, one is possible
 pub going_has_move : (d : Device) (port slot left clears : ℕ) → HasDisks d port → (going : IsInProgress d port slot (suc left) clears) → HasMove d port slot going.fetched_command

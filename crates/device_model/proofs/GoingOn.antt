@@ -4,7 +4,7 @@ use Rattle.std.proofs.lemmas.Bool.Decides.{eqb_tells}
 use Rattle.adapter.specs.Device.{DevicePort, Device}
 use Rattle.adapter.specs.Memory.{changed}
 use Rattle.adapter.specs.AskedSteps.{DoesSlotStep, DoesExactlySlotSteps, DoesAtLeastOneSlotStep}
-use Rattle.adapter.specs.Steps.{MayLinkUp, port_after_clear, port_after_done_except_lasting, port_with_lasting_after_operation, port_after_fetch, port_after_link_up, port_after_move, with_port, port_after_reset}
+use Rattle.adapter.specs.Steps.{MayLinkUp, port_after_clear, port_after_done_except_lasting, port_with_lasting_after_operation, port_after_fetch, port_after_link_up, port_after_move, with_port, port_after_hba_reset}
 use Rattle.adapter.specs.Steps.DeviceTransition.{Fall, FrFall, LinkUp}
 use Rattle.device_model.proofs.Places.{fun_ext, changed_same, changed_other, changed_each}
 use Rattle.device_model.proofs.Own.{own_none, own_on, own_one}
@@ -87,7 +87,7 @@ linked_settled settled was linked m same fallen area due engine received =
 pub no_bits : word_bits 0 ≡ (λ _. false)
 no_bits = fun_ext zero_bit
 
-pub blank_reset : (m : Media) → port_after_reset (port_of reset_port_without_disk m) ≡ port_of reset_port_without_disk m
+pub blank_reset : (m : Media) → port_after_hba_reset (port_of reset_port_without_disk m) ≡ port_of reset_port_without_disk m
 blank_reset m = λ i. record (port_of reset_port_without_disk m) { ci = sym no_bits i; sact = sym no_bits i; is = sym no_bits i }
 
 pub blank_settled : (m : Media) → IsSettledPort (port_of reset_port_without_disk m)

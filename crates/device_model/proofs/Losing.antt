@@ -12,7 +12,7 @@ use Rattle.sector_store.specs.declared.store.Failures.{Failures}
 use Rattle.std.proofs.lemmas.Option.{same_Some}
 use Rattle.device_model.specs.WriteCaches.{RollsBack, WritesFail, lasting_in, sector_told}
 use Rattle.device_model.specs.Disks.{LosesCache, bay_of, disk_in_bay, disk_number, identity, is_same_index, lasting_of, plugged_as}
-use Rattle.device_model.specs.StepEffects.{HasBayAndLosesCache, DidStep, IsLeftOut, LacksMemory, IsPossible}
+use Rattle.device_model.specs.StepEffects.{HasBayAndRollsBackIfCached, DidStep, IsLeftOut, LacksMemory, IsPossible}
 use Rattle.device_model.specs.ModelState.{device_at, media_of, all_media_at, tells}
 use Rattle.device_model.specs.OldSectors.{with_old_bytes}
 use Rattle.device_model.specs.WholeAdapter.{AllMedia, device_of, all_media_after_plug}
@@ -115,7 +115,7 @@ module _ {S : Type 0} (size : S → ℕ) (told : S → Option (ℕ → List ℕ)
 pub lost_of : {S : Type 0} (size : S → ℕ) (told : S → Option (ℕ → List ℕ)) (failures : S → Option Failures) (old new : Model S) (p : Port) (a b : Bay S) →
     bay_of old p.0 ≡ Some a → bay_of new p.0 ≡ Some b → DidStep size told failures (asked.LosePlug p) old new → LosesCache size told failures a b
 lost_of {S} size told failures old new p a b was is did =
-    let both : Option (Bay S) → Option (Bay S) → Type 0 = λ x y. HasBayAndLosesCache size told failures x y in
+    let both : Option (Bay S) → Option (Bay S) → Type 0 = λ x y. HasBayAndRollsBackIfCached size told failures x y in
     elim did.completes_or_fails [
       | inl whole ↦ subst (both (Some a)) is (subst (λ x. both x (bay_of new p.0)) was (whole.lose_plug_loses_cache refl))
       | inr never ↦ absurd never
@@ -186,7 +186,7 @@ module _ {S : Type 0} (size : S → ℕ) (told : S → Option (ℕ → List ℕ)
         device_of new.hardware (all_media_after_plug o p.0 disk) ≡ device_after (Plug p.0 disk) (device_of m.hardware o) =
         λ o disk named same. did o disk named (sym (ap (λ (w : DiskIndex). is_same_index w a.which) which_is ∙ same_self a.which) ∙ same) in
         let P : ℕ → Type 0 = λ n. DoesPlug p.0 n (device_at size told m) (device_at size told new) in
-        let both : Option (Bay S) → Option (Bay S) → Type 0 = λ x y. HasBayAndLosesCache size told failures x y in (
+        let both : Option (Bay S) → Option (Bay S) → Type 0 = λ x y. HasBayAndRollsBackIfCached size told failures x y in (
           may,
           record {
             completes_or_fails = inl (record {

@@ -74,7 +74,7 @@ all_told told all (Some b ∷ bays) =
 -- a new port has in it what is given for it
 pub new_port : {S : Type 0} (size : S → ℕ) (told : S → Option (ℕ → List ℕ)) (given : Option (PortDisks S)) (p : PortModel) (m : Media) → p.present ≡ is_some given → p.lasting_tape_length ≡ 0 →
     IsNewMedia size told given m → HasFirstGivenDiskOrNone size told given (port_of p m)
-new_port size told None p m present since is = (present, ap (λ (x : Media). x.plugged) is)
+new_port size told None p m present since is = (present, ap (λ (x : Media). x.plug_history) is)
 new_port size told (Some disks) p m present since is = (present, is.0, is.1, λ i. record { sectors = is.2 i; tape_length = since i })
 
 -- for a port past the last one none is given

@@ -15,7 +15,7 @@ use Rattle.adapter.specs.Steps.{DeviceTransition, Can, Steps, device_after, newl
 use Rattle.adapter.proofs.Runs.{Steps-one, Steps-refl, Steps-trans}
 use Rattle.adapter.specs.Steps.DeviceTransition.{Fetch, FetchFault, Move, Clear, Done, Fault, Fatal, Fall, FrFall, LinkUp, Unplug, Plug, ResetEnds, Scribble}
 use Rattle.device_model.specs.HeldPorts.{IsPortHeld, IsPortReleased}
-use Rattle.device_model.specs.SentFises.{SendsFisAfterTransition, SendsEnd, SendsFaultOfOperation, SendsFault}
+use Rattle.device_model.specs.SentFises.{SendsFisAfterSpontaneousStep, SendsEnd, SendsFaultOfOperation, SendsFault}
 use Rattle.device_model.specs.ModelOwnSteps.{DoesSpontaneousSteps, EndsPendingResetUnlessAllHeld, SendsPages, IsSpontaneousStep, LeadsBySteps, LeadsByStepsWithFises}
 use Rattle.device_model.proofs.Posting.{after_rest, after_steps, end_rest, fault_rest}
 use Rattle.device_model.proofs.Transfers.{page_plain}
@@ -27,7 +27,7 @@ all_one : {X : Type 0} (P : X → Type 0) (x : X) → P x → All P (x ∷ [])
 all_one P x here zero d small = here
 all_one P x here (suc k) d small = absurd (omega (arith, small))
 
-pub own_one : (Own : DeviceTransition → Type 0) (step : DeviceTransition) (old new : Device) → Own step → Can step old → SendsFisAfterTransition step (device_after step old) new → LeadsBySteps Own old new
+pub own_one : (Own : DeviceTransition → Type 0) (step : DeviceTransition) (old new : Device) → Own step → Can step old → SendsFisAfterSpontaneousStep step (device_after step old) new → LeadsBySteps Own old new
 own_one Own step old new own can sends = record { steps = step ∷ []; steps_are_own = all_one Own step own; steps_lead = (can, new, sends, refl) }
 
 leads_on : (first more : List DeviceTransition) (old mid new : Device) → LeadsByStepsWithFises first old mid → LeadsByStepsWithFises more mid new → LeadsByStepsWithFises (first ++ more) old new

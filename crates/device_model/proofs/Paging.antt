@@ -4,12 +4,12 @@ use Rattle.std.specs.Prelude.{◌&&◌, not, if◌then◌else◌, is_some, optio
 use Rattle.std.proofs.lemmas.Bool.Decides.{eqb_tells}
 use Rattle.adapter.specs.Access.{notes_after_reading, device_after_reading}
 use Rattle.adapter.specs.AskedSteps.{DoesFetch, DoesSlotStep, DoesExactlySlotSteps, DoesAtLeastOneSlotStep}
-use Rattle.adapter.specs.Commands.{Meaning, is_queued, is_ranged, sends_page}
+use Rattle.adapter.specs.Commands.{Meaning, is_queued, moves_disk_sectors, sends_page}
 use Rattle.adapter.specs.Device.{Notes, DevicePort, Device, FetchedCommand}
 use Rattle.adapter.specs.Memory.{changed}
 use Rattle.adapter.specs.OneCommand.{SlotHasNoCommand}
 use Rattle.adapter.specs.Decoding.{DecodesTo}
-use Rattle.adapter.specs.Steps.{Can, IsFetchable, IsWorking, IsUnmixed, WorksOn, newly_fetched, port_after_clear, port_after_done_except_lasting, port_with_lasting_after_operation, port_after_fetch, port_after_move}
+use Rattle.adapter.specs.Steps.{Can, IsFetchable, IsWorking, IsAloneOrAllAreQueued, WorksOn, newly_fetched, port_after_clear, port_after_done_except_lasting, port_with_lasting_after_operation, port_after_fetch, port_after_move}
 use Rattle.adapter.specs.Steps.DeviceTransition.{Fetch}
 use Rattle.adapter.specs.declared.command.Operation.{Operation}
 use Rattle.device_model.proofs.Absurd.{some-none, some_one, true-false}
@@ -91,7 +91,7 @@ BringsPage operation places = sends_page operation ≡ true
 
 -- a command that names no sectors
 abbrev IsUnranged : Operation → List ℕ → Type 0
-IsUnranged operation places = is_ranged operation ≡ false
+IsUnranged operation places = moves_disk_sectors operation ≡ false
 
 -- a Finish of it asks for none
 pub page_asks_none : (d : Device) (port slot left clears : ℕ) → HasFinishablePageCommand d port slot → (may : MayFinish d port slot left clears) →
@@ -122,7 +122,7 @@ page_whole p s cached was now says later old new has (mid, before, fails) = by b
 
     by : (mid ≡ old) ⊎ DoesAtLeastOneSlotStep (SendsEnd s.0) p.0 s.0 old mid →
         FailsToMove cached p.0 s.0 was now says later mid new ⊎ FailsToClear cached p.0 s.0 was now says later mid new → ⊥
-    by gone (inl moves) = true-false moves.ranged (page_unranged _ (page gone moves.fetched_command moves.has_move.works.taken).0)
+    by gone (inl moves) = true-false moves.moves_sectors (page_unranged _ (page gone moves.fetched_command moves.has_move.works.taken).0)
     by gone (inr clears) = true-false (page gone clears.fetched_command clears.has_clear.works.taken).0 (ap sends_page clears.has_clear.trim)
 
 pub page_completes : {S : Type 0} (size : S → ℕ) (told : S → Option (ℕ → List ℕ)) (failures : S → Option Failures) (old new : Model S) (p : Port) (s : Slot) →
@@ -146,9 +146,9 @@ finish_keeps {S} size told failures old new p s false a has q w = each_port (opt
 pub finish_moves : (p : Port) (s : Slot) (did : Bool) (old new : Device) (left clears : ℕ) → HasDisks old p.0 → 1 ≤ left →
     (did ≡ true → DoesAtLeastOneSlotStep (SendsEnd s.0) p.0 s.0 old new) → (did ≡ false → new ≡ old) → MayFinish old p.0 s.0 left clears →
     MayAskStore (asked.Move p s) new → MayAskStore (asked.Finish p s) old
-finish_moves p s did old new left clears here some went stayed may moves = by (is_ranged may.fetched_command.meaning.operation) refl
+finish_moves p s did old new left clears here some went stayed may moves = by (moves_disk_sectors may.fetched_command.meaning.operation) refl
   where
-    by : (b : Bool) → is_ranged may.fetched_command.meaning.operation ≡ b → MayAskStore (asked.Finish p s) old
+    by : (b : Bool) → moves_disk_sectors may.fetched_command.meaning.operation ≡ b → MayAskStore (asked.Finish p s) old
     by true e = (here, moves.0, left, clears, may, inl (e, some))
     by false e =
         let only = only_of IsUnranged old p.0 s.0 left clears may e in
@@ -162,20 +162,20 @@ finish_clears p s old left clears here small some ready = (here, small, left, cl
 
 -- what the hardware moves next is a sector only where a Move moves one
 pub next_moves : (h : Hardware) (o : AllMedia) (d : Device) (p : Port) (s : Slot) (next : NextMove) (r : TakenCommand) → HasDisks d p.0 → s.0 < 32 →
-    device_of h o ≡ d → IsNextMove h p.0 s.0 next r → is_ranged next.operation ≡ true → MayAskStore (asked.Move p s) d
-next_moves h o d p s next r here small same is ranged = (
+    device_of h o ≡ d → IsNextMove h p.0 s.0 next r → moves_disk_sectors next.operation ≡ true → MayAskStore (asked.Move p s) d
+next_moves h o d p s next r here small same is moves_sectors = (
   small,
   taken_of r,
   next_has_move h o d p.0 s.0 next r here same is,
-  ap is_ranged (sym is.operation_is) ∙ ranged,
+  ap moves_disk_sectors (sym is.operation_is) ∙ moves_sectors,
 )
 
 -- and else it is none
 pub next_unranged : (h : Hardware) (o : AllMedia) (d : Device) (p : Port) (s : Slot) (next : NextMove) (r : TakenCommand) → HasDisks d p.0 → s.0 < 32 →
-    device_of h o ≡ d → IsNextMove h p.0 s.0 next r → (MayAskStore (asked.Move p s) d → ⊥) → is_ranged next.operation ≡ false
-next_unranged h o d p s next r here small same is none = by (is_ranged next.operation) refl
+    device_of h o ≡ d → IsNextMove h p.0 s.0 next r → (MayAskStore (asked.Move p s) d → ⊥) → moves_disk_sectors next.operation ≡ false
+next_unranged h o d p s next r here small same is none = by (moves_disk_sectors next.operation) refl
   where
-    by : (b : Bool) → is_ranged next.operation ≡ b → is_ranged next.operation ≡ false
+    by : (b : Bool) → moves_disk_sectors next.operation ≡ b → moves_disk_sectors next.operation ≡ false
     by true e = absurd (none (next_moves h o d p s next r here small same is e))
     by false e = e
 
@@ -209,7 +209,7 @@ found_stuck d port slot false e found = found
 
 -- where a command is taken, none that sends a page may be
 pub taken_bars : (d : Device) (port slot k : ℕ) (t : FetchedCommand) → (d.port port).taken slot ≡ Some t → MayTakePageCommand d port k → ⊥
-taken_bars d port slot k t is may = some-none is (alone_none (d.port port) may.meaning.operation (page_plain _ may.sends_page) may.can.is_unmixed slot)
+taken_bars d port slot k t is may = some-none is (alone_none (d.port port) may.meaning.operation (page_plain _ may.sends_page) may.can.is_alone_or_all_are_queued slot)
 
 fetched_is : (port slot : ℕ) (old new : Device) (f : DoesFetch port slot old new) → (new.port port).taken ≡ changed (old.port port).taken slot (Some (newly_fetched f.meaning f.places))
 fetched_is port slot old new f =
@@ -277,7 +277,7 @@ taken_has port slot k old new f has = by has.may_finish.is_begun_or_fetchable
               ∙ (ap (λ (g : ℕ → Option FetchedCommand). g k) (sym (fetched_is port slot old new f)) ∙ works.taken) in
               let no : (is_queued f.meaning.operation && is_queued t.meaning.operation) ≡ false =
               plain_right (is_queued f.meaning.operation) (is_queued t.meaning.operation) (page_plain _ has.sends_page) in
-              true-false (f.can.is_unmixed k t was) no
+              true-false (f.can.is_alone_or_all_are_queued k t was) no
         ]
 
 pub fetched_has : (port slot k : ℕ) (did : Bool) (old new : Device) → (did ≡ true → DoesFetch port slot old new) →
@@ -498,7 +498,7 @@ has_noted d f n port slot is has = record {
           record {
             fetchable = record { st_is_set = fetchable.st_is_set; issued = fetchable.issued; free = fetchable.free };
             working = working_noted (d.port port) n t.meaning.operation working;
-            is_unmixed = subst (λ (p : DevicePort). IsUnmixed p t.meaning.operation) is may.0.is_unmixed;
+            is_alone_or_all_are_queued = subst (λ (p : DevicePort). IsAloneOrAllAreQueued p t.meaning.operation) is may.0.is_alone_or_all_are_queued;
             says = subst (λ (p : DevicePort). DecodesTo d.memory p.bases.clb slot t.meaning t.places) is may.0.says;
           },
           may.1,
@@ -515,7 +515,7 @@ may_noted d f n port slot is may =
       can = record {
         fetchable = record { st_is_set = fetchable.st_is_set; issued = fetchable.issued; free = fetchable.free };
         working = working_noted (d.port port) n may.meaning.operation working;
-        is_unmixed = subst (λ (p : DevicePort). IsUnmixed p may.meaning.operation) is may.can.is_unmixed;
+        is_alone_or_all_are_queued = subst (λ (p : DevicePort). IsAloneOrAllAreQueued p may.meaning.operation) is may.can.is_alone_or_all_are_queued;
         says = subst (λ (p : DevicePort). DecodesTo d.memory p.bases.clb slot may.meaning may.places) is may.can.says;
       };
     }

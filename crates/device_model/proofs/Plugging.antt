@@ -76,7 +76,7 @@ module _ {S : Type 0} (size : S → ℕ) (told : S → Option (ℕ → List ℕ)
     media =
         let more = later (λ w s. disk_over w (size s) (told s)) in
         let named = lasts ∙ by_name b.which a.which (lasting_of told a) (told b.disk.store) in
-        (λ i. record { disk = put_disk; plugged = disk_over Disk0 (size (first i).value) (told (first i).value) ∷ more i; lasting = named i })
+        (λ i. record { disk = put_disk; plug_history = disk_over Disk0 (size (first i).value) (told (first i).value) ∷ more i; lasting = named i })
         ∙ ap (λ x. media_after_plug (media_of size told x) put_disk) (sym was)
 
     disk_is : (media_of size told (bay_of m p.0)).disk ≡ disk_over a.which (size a.disk.store) (told a.disk.store)
@@ -97,7 +97,7 @@ module _ {S : Type 0} (size : S → ℕ) (told : S → Option (ℕ → List ℕ)
           can = (
             free _ refl,
             disks_are size told are (Some b),
-            λ telling. bay_disk_has_known_sectors size told (Some b) (tells_so ∙ (ap (tells told) (sym was) ∙ each_bay_store_is_known size told m.bays.items telling p.0)),
+            λ disks_tell_sectors. bay_disk_has_known_sectors size told (Some b) (tells_so ∙ (ap (tells told) (sym was) ∙ each_bay_store_is_known size told m.bays.items disks_tell_sectors p.0)),
             λ same.
                 let which_same : b.which ≡ a.which = one_number b.which a.which (same ∙ ap (λ (d : Disk). d.name) disk_is) in
                 let so = that which_same in

@@ -14,7 +14,7 @@ use Rattle.adapter.proofs.Going.{post_steps}
 use Rattle.sector_store.specs.declared.store.Failures.{Failures}
 use Rattle.device_model.specs.StepEffects.{ClearsFewerSectorsThan, DidStep, StepFails, FailsToClear, FailsToMove}
 use Rattle.device_model.specs.ModelState.{device_at}
-use Rattle.device_model.specs.SentFises.{IsSentOrLost, SendsFisOfAskedEndOrFault, SendsFisAfterTransition, SendsEnd, SendsFaultOfOperation, SendsFault, fre_is_set_and_area_fits}
+use Rattle.device_model.specs.SentFises.{IsSentOrLost, SendsFisOfAskedEndOrFault, SendsFisAfterSpontaneousStep, SendsEnd, SendsFaultOfOperation, SendsFault, fre_is_set_and_area_fits}
 use Rattle.device_model.specs.declared.bay.PageSource.{PageSource}
 use Rattle.device_model.specs.declared.model.Model.{Model}
 
@@ -47,7 +47,7 @@ fault_may : (queued : Bool) (port : ℕ) (o : Operation) (old new : Device) → 
 fault_may true port o old new s = sent_may port 0x58 s.0 old new s.2
 fault_may false port o old new s = sent_may port 0x40 s.0 old new s.2
 
-after_may : (step : DeviceTransition) (old new : Device) → SendsFisAfterTransition step old new → (port : ℕ) × PostsAnyBytesOrNone port 0 operation.Read old new
+after_may : (step : DeviceTransition) (old new : Device) → SendsFisAfterSpontaneousStep step old new → (port : ℕ) × PostsAnyBytesOrNone port 0 operation.Read old new
 after_may (Done port slot flag t) old new s = (port, end_may port slot flag t.meaning.operation old new s)
 after_may (LinkUp port sig n) old new s = (port, sent_may port 0x40 s.0 old new s.2)
 after_may (Fetch port slot meaning places) old new e = (0, inl e)
@@ -78,12 +78,12 @@ end_rest port slot flag o old new s = may_rest port flag o old new (end_may port
 pub fault_rest : (queued : Bool) (port : ℕ) (old new : Device) → SendsFault queued port old new → new ≡ record old { memory = new.memory }
 fault_rest queued port old new s = may_rest port 30 operation.Read old new (fault_may queued port operation.Read old new s)
 
-pub after_rest : (step : DeviceTransition) (old new : Device) → SendsFisAfterTransition step old new → new ≡ record old { memory = new.memory }
+pub after_rest : (step : DeviceTransition) (old new : Device) → SendsFisAfterSpontaneousStep step old new → new ≡ record old { memory = new.memory }
 after_rest step old new s = let m = after_may step old new s in may_rest m.0 0 operation.Read old new m.1
 
 -- ---- it is a step of the device
 
-pub after_steps : (step : DeviceTransition) (old new : Device) → SendsFisAfterTransition step old new → Steps old new
+pub after_steps : (step : DeviceTransition) (old new : Device) → SendsFisAfterSpontaneousStep step old new → Steps old new
 after_steps step old new s = let m = after_may step old new s in post_steps m.0 0 operation.Read old new m.1
 
 -- ---- what was asked of the model was asked of an adapter

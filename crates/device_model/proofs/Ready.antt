@@ -9,7 +9,7 @@ use Rattle.adapter.specs.AskedSteps.{DoesFetch}
 use Rattle.adapter.specs.Commands.{Meaning, sends_page}
 use Rattle.adapter.specs.Device.{Device, DevicePort, FetchedCommand}
 use Rattle.adapter.specs.Decoding.{DecodesTo, pieces, piece_addresses}
-use Rattle.adapter.specs.Steps.{Can, IsUnmixed, WorksOn, admits, newly_fetched, port_after_fetch}
+use Rattle.adapter.specs.Steps.{Can, IsAloneOrAllAreQueued, WorksOn, admits, newly_fetched, port_after_fetch}
 use Rattle.adapter.specs.Steps.DeviceTransition.{Fetch}
 use Rattle.adapter.specs.declared.command.Operation.{Operation}
 use Rattle.adapter.specs.declared.command.Prd.{Prd}
@@ -113,7 +113,7 @@ IsBeside p r = AdmitsByHaltAndTaken p r.operation
 pub may_be_taken : (p : PortModel) (slot : ℕ) (r : TakenCommand) → IsFetchableIfHaltAdmits p slot → IsBeside p r → (m : Media) →
     MayTakeIfDecoded (port_of p m) slot r.operation
 may_be_taken p slot r may beside m =
-    let w = may m r.operation beside.0 in record { fetchable = w.0; working = w.1; is_unmixed = beside.1 m }
+    let w = may m r.operation beside.0 in record { fetchable = w.0; working = w.1; is_alone_or_all_are_queued = beside.1 m }
 
 module _ (h : Hardware) (o : AllMedia) (p port slot left clears : ℕ) (e : p ≡ port) (ready : MayFinish (device_of h o) port slot left clears) where
   abbrev state : PortModel
@@ -157,7 +157,7 @@ module _ (h : Hardware) (p port slot : ℕ) (r : TakenCommand) (e : p ≡ port) 
         fetched_command = taken_of r;
         has_moves_left = rest.0;
         has_trim_runs_left = rest.1;
-        is_begun_or_fetchable = inr (record { fetchable = m.0; working = m.1; is_unmixed = beside.1 (o.media p); says = says }, new_begun r new);
+        is_begun_or_fetchable = inr (record { fetchable = m.0; working = m.1; is_alone_or_all_are_queued = beside.1 (o.media p); says = says }, new_begun r new);
       })
 
   -- and so is one that is taken
@@ -199,14 +199,14 @@ module _ (h : Hardware) (p port slot : ℕ) (r : TakenCommand) (e : p ≡ port) 
       DecodesTo (bytes_of h.memory.items) (slice_index_or h.ports p reset_port_without_disk).addresses.clb slot (taken_of r).meaning (taken_of r).places →
       (o : AllMedia) (left clears : ℕ) → MayFinish (device_of h o) port slot left clears →
       (admits (halt_of (slice_index_or h.ports p reset_port_without_disk).halting) r.operation ≡ true)
-      × IsUnmixed (port_of (slice_index_or h.ports p reset_port_without_disk) (o.media p)) r.operation
+      × IsAloneOrAllAreQueued (port_of (slice_index_or h.ports p reset_port_without_disk) (o.media p)) r.operation
   ready_beside may new says o left clears ready =
       let same = ready_is_one may new says o left clears ready in
-      let P : ℕ → Type 0 = λ q. (admits ((device_of h o).port q).halt ready.fetched_command.meaning.operation ≡ true) × IsUnmixed ((device_of h o).port q) ready.fetched_command.meaning.operation in
+      let P : ℕ → Type 0 = λ q. (admits ((device_of h o).port q).halt ready.fetched_command.meaning.operation ≡ true) × IsAloneOrAllAreQueued ((device_of h o).port q) ready.fetched_command.meaning.operation in
       let can = (ready_fetch h o p port slot left clears e ready may).0 in
-      let both = subst P (sym e) (can.working.admitted, can.is_unmixed) in
+      let both = subst P (sym e) (can.working.admitted, can.is_alone_or_all_are_queued) in
       subst (λ (t : FetchedCommand). (admits (halt_of (slice_index_or h.ports p reset_port_without_disk).halting) t.meaning.operation ≡ true)
-      × IsUnmixed (port_of (slice_index_or h.ports p reset_port_without_disk) (o.media p)) t.meaning.operation) same both
+      × IsAloneOrAllAreQueued (port_of (slice_index_or h.ports p reset_port_without_disk) (o.media p)) t.meaning.operation) same both
 
   -- where it is taken, the one that its slot holds
   pub ready_is_held : WorksOnIn (slice_index_or h.ports p reset_port_without_disk) slot r → MayTakeNone (slice_index_or h.ports p reset_port_without_disk) slot →
@@ -279,7 +279,7 @@ module _ (h : Hardware) (port slot size : ℕ) (sized : size ≡ vec_len h.memor
           fetched_command = taken_of r;
           has_moves_left = covers r ends.0 ends.1;
           has_trim_runs_left = clears r kind;
-          is_begun_or_fetchable = inr (record { fetchable = m.0; working = m.1; is_unmixed = beside.1 (o.media port); says = says }, new_begun r new);
+          is_begun_or_fetchable = inr (record { fetchable = m.0; working = m.1; is_alone_or_all_are_queued = beside.1 (o.media port); says = says }, new_begun r new);
         };
         sends_page = kind;
         addresses_are_low = ends.2;
@@ -340,7 +340,7 @@ module _ (h : Hardware) (port slot : ℕ) where
         meaning = (taken_of r).meaning;
         places = (taken_of r).places;
         sends_page = kind;
-        can = record { fetchable = m.0; working = m.1; is_unmixed = beside.1 (o.media port); says = says };
+        can = record { fetchable = m.0; working = m.1; is_alone_or_all_are_queued = beside.1 (o.media port); says = says };
       }
 
   -- and so may one that can be done to its end, where one may be
@@ -354,7 +354,7 @@ module _ (h : Hardware) (port slot : ℕ) where
 
   -- none may be beside others that are taken
   pub page_crowded : (r : TakenCommand) → DecodesTo (bytes_of h.memory.items) first.addresses.clb slot (taken_of r).meaning (taken_of r).places →
-      ((m : Media) → admits (halt_of first.halting) r.operation ≡ true → IsUnmixed (port_of first m) r.operation → ⊥) → (o : AllMedia) →
+      ((m : Media) → admits (halt_of first.halting) r.operation ≡ true → IsAloneOrAllAreQueued (port_of first m) r.operation → ⊥) → (o : AllMedia) →
       MayTakePageCommand (device_of h o) port slot → ⊥
   page_crowded r says crowded o may =
       let memory = bytes_of h.memory.items in
@@ -362,7 +362,7 @@ module _ (h : Hardware) (port slot : ℕ) where
       let meaning = says_meaning memory first.addresses.clb slot may.meaning (taken_of r).meaning may.places (taken_of r).places there says in
       let same : may.meaning.operation ≡ r.operation = ap (λ (x : Meaning). x.operation) meaning in
       crowded (o.media port) (subst (λ (x : Operation). admits (halt_of first.halting) x ≡ true) same may.can.working.admitted)
-      (subst (λ (x : Operation). IsUnmixed (port_of first (o.media port)) x) same may.can.is_unmixed)
+      (subst (λ (x : Operation). IsAloneOrAllAreQueued (port_of first (o.media port)) x) same may.can.is_alone_or_all_are_queued)
 
   -- none is said
   pub page_unmeant : ((m : Meaning) (places : List ℕ) → sends_page m.operation ≡ true → DecodesTo (bytes_of h.memory.items) first.addresses.clb slot m places → ⊥) →

@@ -3,7 +3,7 @@ use Rattle.std.proofs.Common.{ℕ, Bool, true, ◌≡◌, ◌≢◌, ◌∙◌, 
 use Rattle.adapter.specs.AskedSteps.{DoesFetch, EndsAndPosts}
 use Rattle.adapter.specs.Commands.{Meaning, is_queued}
 use Rattle.adapter.specs.Device.{FetchedCommand, DevicePort, Device}
-use Rattle.adapter.specs.Steps.{Can, IsUnmixed, IsFetchable, IsWorking, WorksOn, newly_fetched, port_after_fetch}
+use Rattle.adapter.specs.Steps.{Can, IsAloneOrAllAreQueued, IsFetchable, IsWorking, WorksOn, newly_fetched, port_after_fetch}
 use Rattle.adapter.specs.Steps.DeviceTransition.{Fetch}
 use Rattle.adapter.specs.Decoding.{DecodesTo}
 use Rattle.adapter.specs.declared.command.Operation.{Operation}
@@ -19,8 +19,8 @@ module _ (port slot other : ℕ) (apart : other ≢ slot) (old new : Device) whe
   was = old.port port
 
   -- what is taken is as it was, but for a queued command that is taken now, beside which a queued one may be taken, too
-  beside : (m : Meaning) (places : List ℕ) (o : Operation) → is_queued o && is_queued m.operation ≡ true → IsUnmixed was o →
-      IsUnmixed (port_after_fetch was slot m places) o
+  beside : (m : Meaning) (places : List ℕ) (o : Operation) → is_queued o && is_queued m.operation ≡ true → IsAloneOrAllAreQueued was o →
+      IsAloneOrAllAreQueued (port_after_fetch was slot m places) o
   beside m places o both alone =
       changed_each was.taken slot (Some (newly_fetched m places)) (λ k x. (t : FetchedCommand) → x ≡ Some t → is_queued o && is_queued t.meaning.operation ≡ true)
       (λ t is. subst (λ (x : FetchedCommand). is_queued o && is_queued x.meaning.operation ≡ true) (some_one is) both) alone
@@ -50,7 +50,7 @@ module _ (port slot other : ℕ) (apart : other ≢ slot) (old new : Device) whe
               admitted = there.working.admitted;
               is_not_broken = there.working.is_not_broken;
             });
-        is_unmixed = subst (λ (x : DevicePort). IsUnmixed x n.operation) now (beside f.meaning f.places n.operation both there.is_unmixed);
+        is_alone_or_all_are_queued = subst (λ (x : DevicePort). IsAloneOrAllAreQueued x n.operation) now (beside f.meaning f.places n.operation both there.is_alone_or_all_are_queued);
         says = subst (λ (x : DevicePort). DecodesTo new.memory x.bases.clb other n ys) now
             (subst (λ (bytes : ℕ → ℕ). DecodesTo bytes was.bases.clb other n ys) memory there.says);
       }

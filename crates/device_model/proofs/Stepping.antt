@@ -2,7 +2,7 @@
 use Rattle.std.proofs.Common.{ℕ, Bool, true, false, ◌≡◌, ◌<◌, List, [], ◌∷◌, ◌++◌, Option, Some, length, nat_eq, ◌⊎◌, refl, sym, ◌∙◌, ap, subst, inl, inr}
 use Rattle.std.specs.Prelude.{slice_set, slice_index_or, IfSome, if◌then◌else◌}
 use Rattle.std.specs.Global.{Vec}
-use Rattle.adapter.specs.Commands.{Meaning, direction_of, is_queued, is_ranged, reads_memory}
+use Rattle.adapter.specs.Commands.{Meaning, direction_of, is_queued, moves_disk_sectors, reads_memory}
 use Rattle.adapter.specs.Device.{Disk, DurableState, DevicePort, Device, IsValidSector}
 use Rattle.adapter.specs.Memory.{changed, patched, bytes_at}
 use Rattle.adapter.specs.Decoding.{DecodesTo}
@@ -53,7 +53,7 @@ port_takes h o p port slot new t e small may says is =
     (record {
       meaning = (taken_of t).meaning;
       places = (taken_of t).places;
-      can = record { fetchable = may.fetchable; working = may.working; is_unmixed = may.is_unmixed; says = says };
+      can = record { fetchable = may.fetchable; working = may.working; is_alone_or_all_are_queued = may.is_alone_or_all_are_queued; says = says };
       effect = set_port h o p new _ small is;
     })
 
@@ -61,7 +61,7 @@ port_takes h o p port slot new t e small may says is =
 pub fetch_takes : (h : Hardware) (o : AllMedia) (p port slot : ℕ) (m : Meaning) (places : List ℕ) → p ≡ port →
     MayFetch (device_of h o) port slot m places → MayTakeIfDecoded (port_of (slice_index_or h.ports p reset_port_without_disk) (o.media p)) slot m.operation
 fetch_takes h o p port slot m places e may =
-    rw e (record { fetchable = may.fetchable; working = may.working; is_unmixed = may.is_unmixed })
+    rw e (record { fetchable = may.fetchable; working = may.working; is_alone_or_all_are_queued = may.is_alone_or_all_are_queued })
 
 -- and its bytes say it
 pub fetch_says : (h : Hardware) (o : AllMedia) (p port slot : ℕ) (m : Meaning) (places : List ℕ) → p ≡ port →
@@ -242,8 +242,8 @@ port_moves h o p port slot next new t tape memory bytes operation direction e sm
 
 -- what the disk gave or took may be moved
 pub may_move : (h : Hardware) (o : AllMedia) (port slot : ℕ) (next : NextMove) (t : TakenCommand) (bytes : List ℕ) → IsNextMove h port slot next t →
-    IsValidSector bytes → (is_ranged next.operation ≡ true → next.sector < (o.media port).disk.sector_count) →
-    (is_ranged next.operation ≡ true → reads_memory next.operation ≡ false → IfSome (o.media port).disk.sectors (λ f. bytes ≡ f next.sector)) →
+    IsValidSector bytes → (moves_disk_sectors next.operation ≡ true → next.sector < (o.media port).disk.sector_count) →
+    (moves_disk_sectors next.operation ≡ true → reads_memory next.operation ≡ false → IfSome (o.media port).disk.sectors (λ f. bytes ≡ f next.sector)) →
     (reads_memory next.operation ≡ true → bytes ≡ bytes_at (bytes_of h.memory.items) next.address 512) → MayMove (device_of h o) port slot (taken_of t) bytes
 may_move h o port slot next t bytes is sized small gives takes =
     record {
@@ -254,24 +254,24 @@ may_move h o port slot next t bytes is sized small gives takes =
           (by next.operation refl);
     }
   where
-    given : is_ranged next.operation ≡ true → reads_memory next.operation ≡ false →
+    given : moves_disk_sectors next.operation ≡ true → reads_memory next.operation ≡ false →
         (next_sector (taken_of t) < (o.media port).disk.sector_count) × IfSome (o.media port).disk.sectors (λ f. bytes ≡ f (next_sector (taken_of t)))
-    given ranged reads =
+    given moves_sectors reads =
         let sector : next.sector ≡ next_sector (taken_of t) = is.sector_is in
-        (rw sector at (small ranged), rw sector at (gives ranged reads))
+        (rw sector at (small moves_sectors), rw sector at (gives moves_sectors reads))
 
-    taken : is_ranged next.operation ≡ true → reads_memory next.operation ≡ true →
+    taken : moves_disk_sectors next.operation ≡ true → reads_memory next.operation ≡ true →
         (next_sector (taken_of t) < (o.media port).disk.sector_count) × (bytes ≡ bytes_at (bytes_of h.memory.items) (next_place (taken_of t)) 512)
-    taken ranged reads =
+    taken moves_sectors reads =
         let sector : next.sector ≡ next_sector (taken_of t) = is.sector_is in
         let place : next.address ≡ next_place (taken_of t) = is.address_is in
-        (rw sector at (small ranged), rw place at (takes reads))
+        (rw sector at (small moves_sectors), rw place at (takes reads))
 
     by : (k : Operation) → next.operation ≡ k → MayBring (o.media port).disk (bytes_of h.memory.items) (taken_of t) k bytes
-    by operation.Read e = given (ap is_ranged e) (ap reads_memory e)
-    by operation.Write e = taken (ap is_ranged e) (ap reads_memory e)
-    by operation.ReadQueued e = given (ap is_ranged e) (ap reads_memory e)
-    by operation.WriteQueued e = taken (ap is_ranged e) (ap reads_memory e)
+    by operation.Read e = given (ap moves_disk_sectors e) (ap reads_memory e)
+    by operation.Write e = taken (ap moves_disk_sectors e) (ap reads_memory e)
+    by operation.ReadQueued e = given (ap moves_disk_sectors e) (ap reads_memory e)
+    by operation.WriteQueued e = taken (ap moves_disk_sectors e) (ap reads_memory e)
     by operation.Identify e = tt
     by operation.Flush e = tt
     by operation.ReadLog e = tt

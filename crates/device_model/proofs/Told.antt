@@ -83,7 +83,7 @@ module _ {S : Type 0} (size : S → ℕ) (told : S → Option (ℕ → List ℕ)
       ap (λ (x : Bay S). lasting_in b.cache (told x.disk.store) (told x.lasting.value)) is.1 ∙ none_older b.cache.is_on b.cache.kept.sectors.items (told a.disk.store) is.0.old_sectors_are in
       λ i. record {
         disk = (media_of size told (Some (is.1 i))).disk;
-        plugged = (media_of size told (Some (is.1 i))).plugged;
+        plug_history = (media_of size told (Some (is.1 i))).plug_history;
         lasting = lasts i;
       }
   ended_some operation.Identify a b is = ap (λ (x : Bay S). media_of size told (Some x)) is

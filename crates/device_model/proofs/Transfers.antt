@@ -3,10 +3,10 @@ use Rattle.std.proofs.Common.{ℕ, Bool, true, false, ◌≡◌, ◌<◌, ◌&&�
 use Rattle.std.proofs.lemmas.Grind.{get_or_default_zero}
 use Rattle.std.specs.Prelude.{is_some, length, option_map, slice_index}
 use Rattle.sector_store.specs.Stores.{with_sector}
-use Rattle.adapter.specs.Commands.{is_queued, is_ranged, sends_page}
+use Rattle.adapter.specs.Commands.{is_queued, moves_disk_sectors, sends_page}
 use Rattle.adapter.specs.Device.{Disk, FetchedCommand, DevicePort, IsValidSector}
 use Rattle.adapter.specs.Memory.{changed}
-use Rattle.adapter.specs.Steps.{IsUnmixed, block_after, disk_after}
+use Rattle.adapter.specs.Steps.{IsAloneOrAllAreQueued, block_after, disk_after}
 use Rattle.adapter.specs.declared.command.Operation.{Operation}
 use Rattle.adapter.specs.declared.command.Operation.TheVariants.{Identify, Read, ReadQueued, Write, WriteQueued, Flush, Trim, ReadLog}
 use Rattle.device_model.proofs.Absurd.{true-false}
@@ -29,7 +29,7 @@ no_block operation.Trim bytes old other = absurd (other refl)
 no_block operation.ReadLog bytes old other = refl
 
 -- a command that names no sectors is plain
-pub unranged_plain : (o : Operation) → is_ranged o ≡ false → is_queued o ≡ false
+pub unranged_plain : (o : Operation) → moves_disk_sectors o ≡ false → is_queued o ≡ false
 unranged_plain Read e = refl
 unranged_plain Write e = refl
 unranged_plain ReadQueued e = cc
@@ -40,7 +40,7 @@ unranged_plain Trim e = refl
 unranged_plain ReadLog e = refl
 
 -- where a plain one is alone, no slot is taken
-pub alone_none : (p : DevicePort) (o : Operation) → is_queued o ≡ false → IsUnmixed p o → (slot : ℕ) → p.taken slot ≡ None
+pub alone_none : (p : DevicePort) (o : Operation) → is_queued o ≡ false → IsAloneOrAllAreQueued p o → (slot : ℕ) → p.taken slot ≡ None
 alone_none p o plain alone slot = by (p.taken slot) refl
   where
     by : (held : Option FetchedCommand) → p.taken slot ≡ held → p.taken slot ≡ None
@@ -73,7 +73,7 @@ pub replaced_is : (told : Option (ℕ → List ℕ)) (sector : ℕ) (bytes : Lis
 replaced_is told sector bytes = ap (λ (g : (ℕ → List ℕ) → ℕ → List ℕ). option_map g told) (λ i f. one_replaced f sector bytes i)
 
 -- a command that sends a page names no sectors, and is plain
-pub page_unranged : (o : Operation) → sends_page o ≡ true → is_ranged o ≡ false
+pub page_unranged : (o : Operation) → sends_page o ≡ true → moves_disk_sectors o ≡ false
 page_unranged Identify e = refl
 page_unranged ReadLog e = refl
 page_unranged Flush e = refl

@@ -217,7 +217,7 @@ module _ {S : Type 0} where
     -- nothing else is behind the ports, where it is the same behind this one
     pub seated_behind : (size : S → ℕ) (told : S → Option (ℕ → List ℕ)) → media_of size told (Some b) ≡ media_of size told (Some a) → tells told (Some b) ≡ tells told (Some a) →
         all_media_at size told new ≡ all_media_at size told m
-    seated_behind size told same tells_so = λ i. record { telling = tell i; media = fun_ext behind i }
+    seated_behind size told same tells_so = λ i. record { disks_tell_sectors = tell i; media = fun_ext behind i }
       where
         tell : all_bay_stores_are_known told new.bays.items ≡ all_bay_stores_are_known told m.bays.items
         tell = ap (all_bay_stores_are_known told) items ∙ all_tell_set told m.bays.items port (Some b) (tells_so ∙ ap (tells told) (sym was))
@@ -228,7 +228,7 @@ module _ {S : Type 0} where
     -- what is behind the ports then
     pub seated_outside : (size : S → ℕ) (told : S → Option (ℕ → List ℕ)) (media : Media) → tells told (Some b) ≡ tells told (Some a) → media_of size told (Some b) ≡ media →
         all_media_at size told new ≡ record (all_media_at size told m) { media = changed (all_media_at size told m).media port media }
-    seated_outside size told media same is = λ i. record { telling = tell i; media = fun_ext behind i }
+    seated_outside size told media same is = λ i. record { disks_tell_sectors = tell i; media = fun_ext behind i }
       where
         was_media : ℕ → Media
         was_media = (all_media_at size told m).media
@@ -278,13 +278,13 @@ module _ {S : Type 0} where
 
     module _ (size : S → ℕ) (told : S → Option (ℕ → List ℕ)) where
       abbrev was_put : List Disk
-      was_put = (media_of size told (Some a)).plugged
+      was_put = (media_of size told (Some a)).plug_history
 
       store_media : lasting_of told b ≡ lasting_of told a →
-          media_of size told (Some b) ≡ record { disk = disk_over a.which (size b.disk.store) (told b.disk.store); plugged = was_put; lasting = lasting_of told a }
+          media_of size told (Some b) ≡ record { disk = disk_over a.which (size b.disk.store) (told b.disk.store); plug_history = was_put; lasting = lasting_of told a }
       store_media lasts =
-          let put : (media_of size told (Some b)).plugged ≡ was_put = ap (λ (x : Bay S). (media_of size told (Some x)).plugged) rest in
-          λ i. record { disk = disk_over (store_which i) (size b.disk.store) (told b.disk.store); plugged = put i; lasting = lasts i }
+          let put : (media_of size told (Some b)).plug_history ≡ was_put = ap (λ (x : Bay S). (media_of size told (Some x)).plug_history) rest in
+          λ i. record { disk = disk_over (store_which i) (size b.disk.store) (told b.disk.store); plug_history = put i; lasting = lasts i }
 
       store_tells : is_some (told b.disk.store) ≡ is_some (told a.disk.store) → tells told (Some b) ≡ tells told (Some a)
       store_tells same = ap (λ (x : Bay S). tells told (Some x)) rest ∙ ap (λ x. x && is_some (told a.other.store)) same
@@ -297,7 +297,7 @@ module _ {S : Type 0} where
           seated_outside m new port a b was items size told _
           (store_tells (ap (λ (d : Disk). is_some d.sectors) is ∙ cleared_tells (disk_over a.which (size a.disk.store) (told a.disk.store)) first count))
           (store_media lasts
-          ∙ (ap (λ (d : Disk). record { disk = d; plugged = was_put; lasting = lasting_of told a }) is ∙ ap (λ x. media_after_clear (media_of size told x) first count) (sym was)))
+          ∙ (ap (λ (d : Disk). record { disk = d; plug_history = was_put; lasting = lasting_of told a }) is ∙ ap (λ x. media_after_clear (media_of size told x) first count) (sym was)))
 
       -- a piece was moved
       pub outside_moved : (next : NextMove) (r : TakenCommand) (bytes : List ℕ) → lasting_of told b ≡ lasting_of told a → next.operation ≡ r.operation → next.sector ≡ next_sector (taken_of r) →
@@ -306,7 +306,7 @@ module _ {S : Type 0} where
           all_media_at size told new ≡ all_media_after_move (all_media_at size told m) port (taken_of r) bytes
       outside_moved next r bytes lasts kind sector is =
           seated_outside m new port a b was items size told _ (store_tells (ap (λ (d : Disk). is_some d.sectors) is_after ∙ still_tells r.operation old (next_sector (taken_of r)) bytes))
-          (store_media lasts ∙ (ap (λ (d : Disk). record { disk = d; plugged = was_put; lasting = lasting_of told a }) is_after ∙ ap (λ x. media_after_move (media_of size told x) (taken_of r) bytes) (sym was)))
+          (store_media lasts ∙ (ap (λ (d : Disk). record { disk = d; plug_history = was_put; lasting = lasting_of told a }) is_after ∙ ap (λ x. media_after_move (media_of size told x) (taken_of r) bytes) (sym was)))
         where
           old : Disk
           old = disk_over a.which (size a.disk.store) (told a.disk.store)
@@ -319,7 +319,7 @@ module _ {S : Type 0} where
           all_media_at size told new ≡ all_media_at size told m
       outside_kept sizes tells_so lasts =
           seated_behind m new port a b was items size told
-          (store_media lasts ∙ (λ i. record { disk = disk_over a.which (sizes i) (tells_so i); plugged = was_put; lasting = lasting_of told a })) (store_tells (ap is_some tells_so))
+          (store_media lasts ∙ (λ i. record { disk = disk_over a.which (sizes i) (tells_so i); plug_history = was_put; lasting = lasting_of told a })) (store_tells (ap is_some tells_so))
 
   -- ---- the disks of a port are others, if it has some
 
@@ -353,7 +353,7 @@ module _ {S : Type 0} where
     pub put_outside : (size : S → ℕ) (told : S → Option (ℕ → List ℕ)) (media : Media → Media) → ((b : Bay S) → bay_of m port ≡ Some b → tells told (Some (put b)) ≡ tells told (Some b)) →
         media_of size told (option_map put (bay_of m port)) ≡ media (media_of size told (bay_of m port)) →
         all_media_at size told new ≡ record (all_media_at size told m) { media = changed (all_media_at size told m).media port (media ((all_media_at size told m).media port)) }
-    put_outside size told media same is = λ i. record { telling = tell i; media = fun_ext behind i }
+    put_outside size told media same is = λ i. record { disks_tell_sectors = tell i; media = fun_ext behind i }
       where
         was_media : ℕ → Media
         was_media = (all_media_at size told m).media
@@ -406,7 +406,7 @@ module _ {S : Type 0} where
 
     pub saying_outside : (size : S → ℕ) (told : S → Option (ℕ → List ℕ)) → all_media_at size told new ≡ all_media_at size told m
     saying_outside size told =
-        λ i. record { telling = tell i; media = fun_ext (saying_same (media_of size told) (λ b. refl)) i }
+        λ i. record { disks_tell_sectors = tell i; media = fun_ext (saying_same (media_of size told) (λ b. refl)) i }
       where
         by : (x : Option (Bay S)) → tells told (option_map saying x) ≡ tells told x
         by None = refl
@@ -422,9 +422,9 @@ module _ {S : Type 0} where
 
   module _ (size : S → ℕ) (told : S → Option (ℕ → List ℕ)) where
     pub has_disks : (m : Model S) (port : ℕ) (a : Bay S) → bay_of m port ≡ Some a → HasDisks (device_at size told m) port
-    has_disks m port a was = λ none. by (ap (λ x. (media_of size told x).plugged) (sym was) ∙ none)
+    has_disks m port a was = λ none. by (ap (λ x. (media_of size told x).plug_history) (sym was) ∙ none)
       where
-        by : (media_of size told (Some a)).plugged ≡ [] → ⊥
+        by : (media_of size told (Some a)).plug_history ≡ [] → ⊥
         by e = absurd (cc e)
 
     pub found_disks : (m : Model S) (place port : ℕ) (bays : List (Option (Bay S))) → place ≡ port → bays ≡ m.bays.items →
@@ -432,7 +432,7 @@ module _ {S : Type 0} where
     found_disks m place port bays at same some = let bay = found_bay m place port bays at same some in has_disks m port bay.0 bay.1
 
     pub no_disks : (m : Model S) (port : ℕ) → bay_of m port ≡ None → HasDisks (device_at size told m) port → ⊥
-    no_disks m port none has = has (ap (λ x. (media_of size told x).plugged) none)
+    no_disks m port none has = has (ap (λ x. (media_of size told x).plug_history) none)
 
     pub disks_kept : (old new : Model S) (port : ℕ) → disk_index_of new port ≡ disk_index_of old port → HasDisks (device_at size told old) port → HasDisks (device_at size told new) port
     disks_kept old new port which has = by (bay_of new port) (bay_of old port) refl refl

@@ -2,7 +2,7 @@
 use Rattle.std.specs.Prelude.{ℕ, Bool, true, false, ◌≡◌, ◌+◌, ◌*◌, ◌/◌, ◌^◌, ◌<◌, ◌≤◌, ◌⊎◌, List, Option, None, Some, length, slice_index}
 use Rattle.std.specs.Vec.{vec_len, vec_capacity}
 use Rattle.adapter.specs.AskedSteps.{DoesFetch}
-use Rattle.adapter.specs.Commands.{Meaning, is_ranged, sends_page}
+use Rattle.adapter.specs.Commands.{Meaning, moves_disk_sectors, sends_page}
 use Rattle.adapter.specs.Device.{FetchedCommand, Device}
 use Rattle.adapter.specs.Steps.{Can, WorksOn, newly_fetched, next_place}
 use Rattle.adapter.specs.Steps.DeviceTransition.{Fetch}
@@ -41,8 +41,8 @@ pub record HasMovesLeftInMemory (t : FetchedCommand) (size left : ℕ) : Type 0 
   pub pieces_are_inside : PiecesInside size t.places
 
 -- the port has disks, or the command names sectors, of which a port without disks has none
-abbrev pub HasDisksOrOperationIsRanged : Device → ℕ → Operation → Type 0
-HasDisksOrOperationIsRanged d port operation = HasDisks d port ⊎ (is_ranged operation ≡ true)
+abbrev pub HasDisksOrOperationMovesSectors : Device → ℕ → Operation → Type 0
+HasDisksOrOperationMovesSectors d port operation = HasDisks d port ⊎ (moves_disk_sectors operation ≡ true)
 
 -- the port, which has disks, works on this command, and its next piece has a place in the memory
 pub record HasMove (d : Device) (port slot : ℕ) (t : FetchedCommand) : Type 0 where

@@ -6,7 +6,7 @@ use Rattle.adapter.specs.Steps.{DeviceTransition, Can, MayLinkUp, device_after, 
 use Rattle.adapter.specs.Steps.DeviceTransition.{Fetch, Move, Done, Fall, FrFall, LinkUp, ResetEnds}
 use Rattle.device_model.specs.Finishing.{HasFinishablePageCommand, TapeHasRoom, MayTakePageCommand}
 use Rattle.device_model.specs.HeldPorts.{IsPortHeld, IsPortReleased, all_held, none_held}
-use Rattle.device_model.specs.SentFises.{SendsFisAfterTransition}
+use Rattle.device_model.specs.SentFises.{SendsFisAfterSpontaneousStep}
 use Rattle.device_model.specs.WholeAdapter.{HasDisks}
 use Rattle.device_model.specs.declared.hardware.Hardware.{Hardware}
 
@@ -48,7 +48,7 @@ SendsPages held step = IsSpontaneousStep held step × IsFetchMoveOrDone step
 abbrev pub LeadsByStepsWithFises : List DeviceTransition → Device → Device → Type 0
 LeadsByStepsWithFises [] old new = new ≡ old
 LeadsByStepsWithFises (step ∷ steps) old new = Can step old × (mid : Device)
-    × SendsFisAfterTransition step (device_after step old) mid
+    × SendsFisAfterSpontaneousStep step (device_after step old) mid
     × LeadsByStepsWithFises steps mid new
 
 -- such steps with their FISes, and no others, lead from the one state to the other

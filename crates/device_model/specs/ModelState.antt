@@ -27,7 +27,7 @@ media_of size told None = no_media
 media_of size told (Some b) =
     record {
       disk = disk_over b.which (size b.disk.store) (told b.disk.store);
-      plugged = disk_over Disk0 (size b.first.value) (told b.first.value)
+      plug_history = disk_over Disk0 (size b.first.value) (told b.first.value)
           ∷ plugged_as (λ which store. disk_over which (size store) (told store)) b.plugged_later;
       lasting = lasting_of told b;
     }
@@ -45,7 +45,7 @@ all_bay_stores_are_known {S} told (bay ∷ bays) = tells told bay && all_bay_sto
 abbrev pub all_media_of : {S : Type 0} → (S → ℕ) → (S → Option (ℕ → List ℕ)) → List (Option (Bay S)) → AllMedia
 all_media_of size told bays =
     record {
-      telling = all_bay_stores_are_known told bays;
+      disks_tell_sectors = all_bay_stores_are_known told bays;
       media = λ port. media_of size told
           (slice_index_or bays port None);
     }
@@ -94,7 +94,7 @@ abbrev pub IsNewMedia : {S : Type 0} → (S → ℕ) → (S → Option (ℕ → 
 IsNewMedia size told None m = m ≡ no_media
 IsNewMedia size told (Some disks) m =
     (m.disk ≡ disk_over Disk0 (size disks.first.store) (told disks.first.store))
-    × (m.plugged ≡ disk_over Disk0 (size disks.first.store) (told disks.first.store) ∷ [])
+    × (m.plug_history ≡ disk_over Disk0 (size disks.first.store) (told disks.first.store) ∷ [])
     × (m.lasting ≡ told disks.first.store)
 
 -- A new port has the first one of the disks that are given for it, which was never out, and of which all is lasting;
@@ -171,7 +171,7 @@ pub record IsNewModel {S : Type 0} (size : S → ℕ) (told : S → Option (ℕ 
     (disks : Disks S) (m : Model S) : Type 0 where
   pub adapter_is_new : IsNewAdapter config size told disks (device_at size told m)
   pub holds_and_tells_bytes : HoldsBytesAndTellsDisks (device_at size told m)
-  pub telling_is : (device_at size told m).telling ≡ all_given_disks_tell told disks
+  pub disks_tell_sectors_is : (device_at size told m).disks_tell_sectors ≡ all_given_disks_tell told disks
   pub bays_are_new : (port : ℕ) → IsNewBay config (disks_given_for disks port) (bay_of m port)
   pub none_is_held : m.held ≡ none_held
   pub queue_is_empty : m.queue.items ≡ []

@@ -1,6 +1,6 @@
 -- A disk and the memory exchange the next piece of a command.
 use Rattle.std.specs.Prelude.{ℕ, ◌≡◌, ◌<◌, ◌+◌, Bool, true, false, List, Option, IfSome, length, if◌then◌else◌}
-use Rattle.adapter.specs.Commands.{is_ranged, reads_memory}
+use Rattle.adapter.specs.Commands.{moves_disk_sectors, reads_memory}
 use Rattle.adapter.specs.Device.{IsValidSector}
 use Rattle.adapter.specs.Memory.{bytes_at, patched}
 use Rattle.adapter.specs.Steps.{disk_after}
@@ -33,10 +33,10 @@ pub record IsTransferred (old new : Hardware) (next : NextMove) : Type 0 where
 pub record TransfersPieceOrFails {S : Type 0} (size : S → ℕ) (told : S → Option (ℕ → List ℕ))
     (failures : S → Option Failures)
     (old new : Bay S) (next : NextMove) (before after : List ℕ) (done : Bool) : Type 0 where
-  pub done_sector_is_on_disk : done ≡ true → is_ranged next.operation ≡ true
+  pub done_sector_is_on_disk : done ≡ true → moves_disk_sectors next.operation ≡ true
       → next.sector < size old.disk.store
   pub bytes_are_sector : IsValidSector after
-  pub read_gives_told : done ≡ true → is_ranged next.operation ≡ true →
+  pub read_gives_told : done ≡ true → moves_disk_sectors next.operation ≡ true →
       reads_memory next.operation ≡ false →
       IfSome (told old.disk.store) (λ told. after ≡ told next.sector)
   pub write_keeps_bytes : reads_memory next.operation ≡ true → after ≡ before
@@ -44,15 +44,15 @@ pub record TransfersPieceOrFails {S : Type 0} (size : S → ℕ) (told : S → O
   pub identify_page_is_sent : done ≡ true → next.operation ≡ Identify
       → IsSentIdentify (identity size old.disk) old.page_source after
   pub log_page_is_sent : done ≡ true → next.operation ≡ ReadLog → IsSentLog old.page_source after
-  pub unranged_keeps_bay : is_ranged next.operation ≡ false → new ≡ old
+  pub unranged_keeps_bay : moves_disk_sectors next.operation ≡ false → new ≡ old
   pub disk_is : done ≡ true → disk_over old.which (size new.disk.store) (told new.disk.store)
       ≡ disk_after next.operation (disk_over old.which (size old.disk.store) (told
       old.disk.store))
       next.sector after
-  pub told_is_kept : done ≡ false → told new.disk.store ≡ told old.disk.store
+  pub failure_keeps_told_contents : done ≡ false → told new.disk.store ≡ told old.disk.store
   pub size_is_kept : size new.disk.store ≡ size old.disk.store
   pub no_call_failed : done ≡ true → failures new.disk.store ≡ failures old.disk.store
-  pub only_ranged_fails : done ≡ false → is_ranged next.operation ≡ true
+  pub only_ranged_fails : done ≡ false → moves_disk_sectors next.operation ≡ true
   pub failure_is_noted : done ≡ false → next.sector < size old.disk.store →
       OneMoreCallFails old.cache.is_on (reads_memory next.operation) next.sector (failures
       old.disk.store)

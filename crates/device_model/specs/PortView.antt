@@ -3,7 +3,7 @@ use Rattle.std.specs.Prelude.{ℕ, Bool, false, ◌%◌, List, [], Option, None,
 use Rattle.adapter.specs.AskedSteps.{bsy_mask}
 use Rattle.adapter.specs.Commands.{is_queued, sends_page}
 use Rattle.adapter.specs.Device.{Disk, FetchedCommand, Bases, Halt, Notes, DevicePort}
-use Rattle.adapter.specs.Device.Halt.{NotHalted, HaltedPlain, HaltedQueued, LogOnly}
+use Rattle.adapter.specs.Device.Halt.{NotHalted, HaltedByPlain, HaltedByQueued, LogOnly}
 use Rattle.adapter.specs.Decoding.{pieces}
 use Rattle.adapter.specs.Access.{port_after_hba_is_write}
 use Rattle.adapter.specs.Steps.{next_sector, disk_after, disk_cleared}
@@ -61,8 +61,8 @@ bsy_if_disk_left_busy left_busy = if left_busy then bsy_mask else 0
 -- what a fault has made of a port
 abbrev pub halt_of : Halting → Halt
 halt_of halting.NotHalted = NotHalted
-halt_of halting.HaltedPlain = HaltedPlain
-halt_of halting.HaltedQueued = HaltedQueued
+halt_of halting.HaltedByPlain = HaltedByPlain
+halt_of halting.HaltedByQueued = HaltedByQueued
 halt_of halting.LogOnly = LogOnly
 
 abbrev pub taken_of : TakenCommand → FetchedCommand
@@ -87,7 +87,7 @@ taken_commands_by_slot taken = λ slot. option_map taken_of (taken slot)
 -- or else when it was first in
 pub record Media : Type 0 where
   pub disk : Disk
-  pub plugged : List Disk
+  pub plug_history : List Disk
   pub lasting : Option (ℕ → List ℕ)
 
 -- the same after the next piece of this command, these bytes, was moved
@@ -127,7 +127,7 @@ port_of p m =
       ci = word_bits p.ci;
       sact = word_bits p.sact;
       disk = m.disk;
-      plug_history = m.plugged;
+      plug_history = m.plug_history;
       lasting = record { sectors = m.lasting; tape_length = p.lasting_tape_length };
       present = p.present;
       fresh = p.fresh;

@@ -130,7 +130,9 @@ SendsFisOfAskedEndOrFault (asked.FaultBusy p s error) = SendsFaultOfOperation
 SendsFisOfAskedEndOrFault step = PostsNone
 
 -- after a step that the model does by itself: as a command ends, and as the link comes up
-abbrev pub SendsFisAfterTransition : DeviceTransition → Device → Device → Type 0
-SendsFisAfterTransition (Done port slot cause_bit t) old new = SendsEnd slot port cause_bit t.meaning.operation old new
-SendsFisAfterTransition (LinkUp port sig n) old new = SendsDeviceToHost port (signature_fis (old.port port)) old new
-SendsFisAfterTransition step old new = new ≡ old
+abbrev pub SendsFisAfterSpontaneousStep : DeviceTransition → Device → Device → Type 0
+SendsFisAfterSpontaneousStep (Done port slot cause_bit t) old new =
+    SendsEnd slot port cause_bit t.meaning.operation old new
+SendsFisAfterSpontaneousStep (LinkUp port sig n) old new =
+    SendsDeviceToHost port (signature_fis (old.port port)) old new
+SendsFisAfterSpontaneousStep step old new = new ≡ old

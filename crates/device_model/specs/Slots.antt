@@ -1,9 +1,9 @@
 -- What a port may do with its slots.
 use Rattle.std.specs.Prelude.{ℕ, true, ◌≡◌, ◌+◌, ◌*◌, ◌^◌, ◌<◌, ◌≤◌, Some, length, slice_index, slice_index_or}
-use Rattle.adapter.specs.Commands.{is_ranged}
+use Rattle.adapter.specs.Commands.{moves_disk_sectors}
 use Rattle.adapter.specs.Device.{DevicePort}
 use Rattle.adapter.specs.Decoding.{pieces}
-use Rattle.adapter.specs.Steps.{IsFetchable, IsWorking, IsUnmixed, WorksOn, admits, next_sector}
+use Rattle.adapter.specs.Steps.{IsFetchable, IsWorking, IsAloneOrAllAreQueued, WorksOn, admits, next_sector}
 use Rattle.adapter.specs.declared.command.Operation.{Operation}
 use Rattle.device_model.specs.PortView.{Media, halt_of, taken_in, port_of, taken_of, reset_port_without_disk}
 use Rattle.device_model.specs.declared.port.TakenCommand.{TakenCommand}
@@ -18,7 +18,7 @@ use Rattle.device_model.specs.Trims.{next_uncleared, next_run_length, uncleared}
 pub record MayTakeIfDecoded (p : DevicePort) (slot : ℕ) (operation : Operation) : Type 0 where
   pub fetchable : IsFetchable p slot
   pub working : IsWorking p operation
-  pub is_unmixed : IsUnmixed p operation
+  pub is_alone_or_all_are_queued : IsAloneOrAllAreQueued p operation
 
 -- for each operation that the port's halt admits: the slot has a command that is issued and not taken, and the port
 -- works on that operation (of a port that a fault has halted it says nothing)
@@ -30,7 +30,7 @@ IsFetchableIfHaltAdmits p slot =
 -- such a command may be now: no fault keeps it waiting, and it goes beside those that are taken
 abbrev pub AdmitsByHaltAndTaken : PortModel → Operation → Type 0
 AdmitsByHaltAndTaken p operation = (admits (halt_of p.halting) operation ≡ true) × ((m : Media)
-    → IsUnmixed (port_of p m) operation)
+    → IsAloneOrAllAreQueued (port_of p m) operation)
 
 -- the port works on this command, which it has taken in this slot
 pub record WorksOnIn (p : PortModel) (slot : ℕ) (t : TakenCommand) : Type 0 where
@@ -61,7 +61,7 @@ pub record PiecesFollow (size : ℕ) (next : NextMove) (t : TakenCommand) : Type
   pub inside : next.address + 512 * next.pieces_following + 512 ≤ size
   pub addresses_fit : next.address + 512 * next.pieces_following < 2 ^ 32
   pub sectors_fit : next.sector + next.pieces_following < 2 ^ 64
-  pub is_ranged_if_any : 1 ≤ next.pieces_following → is_ranged t.operation ≡ true
+  pub is_ranged_if_any : 1 ≤ next.pieces_following → moves_disk_sectors t.operation ≡ true
 
 -- the next piece of this command goes to or from this address, and is this sector, if it is one
 pub record IsNextMove (h : Hardware) (port slot : ℕ) (next : NextMove) (t : TakenCommand) : Type 0 where

@@ -2,7 +2,7 @@
 -- stays where it is left (this project's own).
 use Rattle.std.specs.Prelude.{ℕ, Bool, true, false, ◌≡◌, ◌≢◌, ◌+◌, ◌-◌, min, ◌^◌, ◌<◌, ◌≤◌, ◌⊎◌, List, [], ◌∷◌, ◌++◌, Option, None, Some, if◌then◌else◌, nat_eq, option_map, IfSome}
 use Rattle.adapter.specs.AskedSteps.{DoesClear, DoesAskedStep, DoesAtLeastOneSlotStep, bsy_mask, fatal_bit}
-use Rattle.adapter.specs.Commands.{Meaning, is_queued, is_ranged, reads_memory}
+use Rattle.adapter.specs.Commands.{Meaning, is_queued, moves_disk_sectors, reads_memory}
 use Rattle.adapter.specs.Device.{Device, FetchedCommand}
 use Rattle.adapter.specs.Steps.{Can, device_after, done_entry, next_sector}
 use Rattle.adapter.specs.Steps.DeviceTransition.{Fetch, FetchFault, Done, Fault, Fatal, Unplug}
@@ -99,14 +99,14 @@ LacksMemory step d h bays = ⊥
 
 -- so many moves of sectors, or clears, are left of an operation
 abbrev pub HasSectorMovesOrClearsLeft : Operation → (left clears : ℕ) → Type 0
-HasSectorMovesOrClearsLeft operation left clears = ((is_ranged operation ≡ true) × (1 ≤ left)) ⊎ (1 ≤ clears)
+HasSectorMovesOrClearsLeft operation left clears = ((moves_disk_sectors operation ≡ true) × (1 ≤ left)) ⊎ (1 ≤ clears)
 
 -- The step is possible and moves or clears a sector, so that it may ask the store of the disk that is in for one: a
 -- Move, or a Finish that has a move left, of a command that names sectors; a Clear, or a Finish that has one left. Or
 -- it is a LosePlug, which may write sectors back of the disk that was last in. No other step asks a store for anything.
 abbrev pub MayAskStore : DeviceStep → Device → Type 0
 MayAskStore (asked.Move p s) d = (s.0 < 32) × (t : FetchedCommand) × HasMove d p.0 s.0 t
-    × (is_ranged t.meaning.operation ≡ true)
+    × (moves_disk_sectors t.meaning.operation ≡ true)
 MayAskStore (asked.Clear p s most) d = (s.0 < 32) × (t : FetchedCommand) × HasClear d p.0 s.0 most t
 MayAskStore (asked.Finish p s) d =
     HasDisks d p.0 × (s.0 < 32) × (left clears : ℕ) × (may : MayFinish d p.0 s.0 left clears)
@@ -212,7 +212,7 @@ pub record FailsToMove (cached : Bool) (port slot : ℕ) (was now : Option Failu
     (old new : Device) : Type 0 where
   pub fetched_command : FetchedCommand
   pub has_move : HasMove old port slot fetched_command
-  pub ranged : is_ranged fetched_command.meaning.operation ≡ true
+  pub moves_sectors : moves_disk_sectors fetched_command.meaning.operation ≡ true
   pub error : ℕ
   pub cause : SectorIsPastDiskOrStoreFails cached (reads_memory fetched_command.meaning.operation)
       (next_sector fetched_command)
@@ -277,11 +277,11 @@ is_cache_loss (asked.LosePlug p) = true
 is_cache_loss step = false
 
 -- The port has a bay before and after, and what was in its disk's cache, if it has one, is lost.
-abbrev pub HasBayAndLosesCache : {S : Type 0} → (S → ℕ) → (S → Option (ℕ → List ℕ)) → (S → Option Failures)
+abbrev pub HasBayAndRollsBackIfCached : {S : Type 0} → (S → ℕ) → (S → Option (ℕ → List ℕ)) → (S → Option Failures)
     → Option (Bay S)
     → Option (Bay S) → Type 0
-HasBayAndLosesCache size told failures (Some old) (Some new) = LosesCache size told failures old new
-HasBayAndLosesCache size told failures _ _ = ⊥
+HasBayAndRollsBackIfCached size told failures (Some old) (Some new) = LosesCache size told failures old new
+HasBayAndRollsBackIfCached size told failures _ _ = ⊥
 
 -- The slot's command has ended since this state, just now, as the tape tells last: it is taken no more, and its bit is
 -- clear, of PxSACT if it was queued, and else of PxCI. A queued one has its bit of PxCI clear, too, if it was taken
@@ -329,7 +329,7 @@ pub record Completes {S : Type 0} (size : S → ℕ) (told : S → Option (ℕ �
       → EndsIfFinishAndClearsRunIfClear s (device_at size told old) (device_at size told
       new)
   pub lose_plug_loses_cache : is_cache_loss s ≡ true
-      → HasBayAndLosesCache size told failures (bay_of old (asked_port s)) (bay_of new (asked_port s))
+      → HasBayAndRollsBackIfCached size told failures (bay_of old (asked_port s)) (bay_of new (asked_port s))
 
 -- its command fails
 abbrev pub CommandOfStepFails : {S : Type 0} → (S → ℕ) → (S → Option (ℕ → List ℕ)) → (S → Option Failures) → DeviceStep

@@ -6,25 +6,25 @@ use Rattle.device_model.specs.ModelState.{all_bay_stores_are_known, media_of, al
 use Rattle.device_model.specs.declared.bay.Bay.{Bay}
 
 is_told : (told other : Option (ℕ → List ℕ)) → is_some told && is_some other ≡ true → (f : ℕ → List ℕ) × (told ≡ Some f)
-is_told None other telling = absurd (let e : false ≡ true = telling in cc)
-is_told (Some f) other telling = (f, refl)
+is_told None other known = absurd (let e : false ≡ true = known in cc)
+is_told (Some f) other known = (f, refl)
 
 module _ {S : Type 0} (size : S → ℕ) (told : S → Option (ℕ → List ℕ)) where
   pub bay_disk_has_known_sectors : (b : Option (Bay S)) → tells told b ≡ true
       → HasKnownSectors (media_of size told b).disk
-  bay_disk_has_known_sectors None telling = ((λ k. []), refl)
-  bay_disk_has_known_sectors (Some b) telling = is_told (told b.disk.store) (told b.other.store) telling
+  bay_disk_has_known_sectors None known = ((λ k. []), refl)
+  bay_disk_has_known_sectors (Some b) known = is_told (told b.disk.store) (told b.other.store) known
 
   pub each_bay_store_is_known : (bays : List (Option (Bay S))) → all_bay_stores_are_known told bays ≡ true → (port : ℕ)
       → tells told (slice_index_or bays port None) ≡ true
-  each_bay_store_is_known [] telling port = refl
-  each_bay_store_is_known (b ∷ rest) telling zero = by (tells told b) refl
+  each_bay_store_is_known [] known port = refl
+  each_bay_store_is_known (b ∷ rest) known zero = by (tells told b) refl
     where
       by : (x : Bool) → tells told b ≡ x → tells told b ≡ true
       by true e = e
       by false e = absurd (let no : false ≡ true = subst
-          (λ y. y && all_bay_stores_are_known told rest ≡ true) e telling in cc)
-  each_bay_store_is_known (b ∷ rest) telling (suc port) = each_bay_store_is_known rest (by (tells told b) telling) port
+          (λ y. y && all_bay_stores_are_known told rest ≡ true) e known in cc)
+  each_bay_store_is_known (b ∷ rest) known (suc port) = each_bay_store_is_known rest (by (tells told b) known) port
     where
       by : (x : Bool) → x && all_bay_stores_are_known told rest ≡ true → all_bay_stores_are_known told rest ≡ true
       by true e = e
@@ -33,5 +33,5 @@ module _ {S : Type 0} (size : S → ℕ) (told : S → Option (ℕ → List ℕ)
   pub all_disks_have_known_sectors : (bays : List (Option (Bay S))) → all_bay_stores_are_known told bays ≡ true
       → (port : ℕ)
       → HasKnownSectors ((all_media_of size told bays).media port).disk
-  all_disks_have_known_sectors bays telling port = bay_disk_has_known_sectors (slice_index_or bays port None)
-      (each_bay_store_is_known bays telling port)
+  all_disks_have_known_sectors bays known port = bay_disk_has_known_sectors (slice_index_or bays port None)
+      (each_bay_store_is_known bays known port)

@@ -10,7 +10,7 @@ use Rattle.device_model.specs.declared.hardware.Hardware.{Hardware}
 
 -- what is outside the hardware: what is behind each port, and whether all disks tell their sectors
 pub record AllMedia : Type 0 where
-  pub telling : Bool
+  pub disks_tell_sectors : Bool
   pub media : ℕ → Media
 
 -- the same after the next piece of a command of this port, these bytes, was moved
@@ -31,7 +31,7 @@ all_media_after_end o port operation =
 abbrev pub device_of : Hardware → AllMedia → Device
 device_of h o =
     record {
-      telling = o.telling;
+      disks_tell_sectors = o.disks_tell_sectors;
       memory_size = length h.memory.items;
       memory = λ at. slice_index h.memory.items at;
       cap = h.cap;
@@ -53,7 +53,7 @@ abbrev pub no_media : Media
 no_media =
     record {
       disk = record { name = 0; sector_count = 0; sectors = Some (λ k. []) };
-      plugged = [];
+      plug_history = [];
       lasting = Some (λ k. []);
     }
 
@@ -62,7 +62,7 @@ abbrev pub media_after_plug : Media → Disk → Media
 media_after_plug m disk =
     record {
       disk = disk;
-      plugged = m.plugged ++ disk ∷ [];
+      plug_history = m.plug_history ++ disk ∷ [];
       lasting = if nat_eq disk.name m.disk.name then m.lasting else disk.sectors;
     }
 

@@ -1,7 +1,7 @@
 -- A volatile write cache: what is lasting of a disk that has one, and what is lost (FLUSH CACHE EXT, ACS-3).
 use Rattle.std.specs.Prelude.{ℕ, Bool, true, false, ◌≡◌, ◌+◌, ◌<◌, ◌≤◌, ◌⊎◌, List, [], ◌∷◌, Option, Contains, if◌then◌else◌, length, option_map}
 use Rattle.std.specs.Vec.{vec_len, vec_capacity}
-use Rattle.sector_store.specs.Stores.{RecordsOneMoreFailure}
+use Rattle.sector_store.specs.Stores.{HasRecordAndNotesOneMoreFailure}
 use Rattle.sector_store.specs.declared.store.Failures.{Failures}
 use Rattle.device_model.specs.OldSectors.{with_old_bytes}
 use Rattle.device_model.specs.declared.cache.Cache.{Cache}
@@ -21,16 +21,17 @@ pub record KeepsNoOldSectors (was now : Cache) : Type 0 where
   pub old_sectors_are : now.kept.sectors.items ≡ []
 
 -- What is lasting of a disk that tells these sectors: with a cache each is as it was before it was changed; without one
--- it is what was noted.
-abbrev pub lasting_in : Cache → (told noted : Option (ℕ → List ℕ)) → Option (ℕ → List ℕ)
-lasting_in c told noted = if c.is_on then option_map (with_old_bytes c.kept.sectors.items) told else noted
+-- it is what is given.
+abbrev pub lasting_in : Cache → (told lasting_without_cache : Option (ℕ → List ℕ)) → Option (ℕ → List ℕ)
+lasting_in c told lasting_without_cache =
+    if c.is_on then option_map (with_old_bytes c.kept.sectors.items) told else lasting_without_cache
 
 -- One more call for this sector has failed: the one that was asked; or, where a sector is changed in a cache, the read
 -- of what it held before.
 abbrev pub OneMoreCallFails : (cached changes : Bool) → ℕ → (was now : Option Failures) → Type 0
 OneMoreCallFails cached changes sector was now =
-    RecordsOneMoreFailure changes sector was now
-    ⊎ ((cached ≡ true) × (changes ≡ true) × RecordsOneMoreFailure false sector was now)
+    HasRecordAndNotesOneMoreFailure changes sector was now
+    ⊎ ((cached ≡ true) × (changes ≡ true) × HasRecordAndNotesOneMoreFailure false sector was now)
 
 -- ---- what is lost
 
@@ -41,7 +42,7 @@ sector_told told sector = option_map (λ f. f sector) told
 -- one write more has failed of each of these sectors, in this order
 abbrev pub WritesFail : List ℕ → (was now : Option Failures) → Type 0
 WritesFail [] was now = now ≡ was
-WritesFail (sector ∷ rest) was now = (mid : Option Failures) × RecordsOneMoreFailure true sector was mid
+WritesFail (sector ∷ rest) was now = (mid : Option Failures) × HasRecordAndNotesOneMoreFailure true sector was mid
     × WritesFail rest mid now
 
 -- The sectors of a store were to become these again. They did, but for some of which a write has failed: these, no more

@@ -1,6 +1,6 @@
 // The disks of a port, as a model has them.
 ghost use Rattle.std.specs.Prelude.{◌≡◌, ◌<◌, ◌≤◌, ◌+◌, ◌++◌, ◌∷◌, [], ℕ, List, Option, None, true, false, length, if◌then◌else◌, IfSome};
-ghost use Rattle.adapter.specs.{Commands.{is_ranged, reads_memory}, Device.{Disk, IsValidSector}, Steps.{disk_after, disk_cleared}};
+ghost use Rattle.adapter.specs.{Commands.{moves_disk_sectors, reads_memory}, Device.{Disk, IsValidSector}, Steps.{disk_after, disk_cleared}};
 ghost use Rattle.device_model.specs.{WriteCaches.{OneMoreCallFails, HasRoomForOldSectors, KeepsSameOldSectors, lasting_in}, Disks.{OnlyEndsCommand, BayEndsCommand, LosesCache, OnlyChangesPageSource, SelectsDisk, disk_over, identity, lasting_of, plugged_as}, PieceTransfers.{TransfersPieceOrFails, IsTransferred, piece_in_memory}, Finishing.{CacheHasRoomForRestOfCommand, IsCommandBegun, NoneMayFinishOrLacksRoom}, ModelState.{AreNewDisks}};
 ghost use Rattle.device_model.specs.{DiskPages.{IsSentLog, IsSentIdentify, HasBitsFlipped, with_lie, with_logged_error, without_lies}, Trims.{sectors_left_to_write}, WholeAdapter.{AllMedia, device_of}, ZeroedSectors.{MakesZero}};
 

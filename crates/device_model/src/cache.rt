@@ -1,7 +1,7 @@
 // The volatile write cache of a disk: what it holds is lost with it, but for what a flush has made lasting (ACS-3,
 // FLUSH CACHE EXT). What is written goes to the store at once; what the store held before is kept until the next flush.
 ghost use Rattle.std.specs.{Prelude.{◌≡◌, ◌<◌, ◌≤◌, ◌+◌, ◌⊎◌, ℕ, List, Option, true, false, option_map, length, is_some, []}, Vec.{vec_len, vec_capacity}};
-ghost use Rattle.sector_store.specs.Stores.{RecordsOneMoreFailure, WritesSector};
+ghost use Rattle.sector_store.specs.Stores.{HasRecordAndNotesOneMoreFailure, WritesSector};
 ghost use Rattle.device_model.specs.{WriteCaches.{OneMoreCallFails, HasRoomForOldSectors, KeepsNoOldSectors, KeepsSameOldSectors, RollsBack, lasting_in}, OldSectors.{with_old_bytes}};
 
 use crate::old_sectors::OldSectors;

@@ -5,16 +5,16 @@ ghost use Rattle.device_model.specs.PortView.{halt_of};
 
 use adapter::Operation;
 
-/// What a fault has made of a port. A fault needs no disk in, and may come to a port that is halted already: the halt
-/// is then of the kind of the last.
+/// What a fault has made of a port. A fault needs no disk in, and may come to a port that is halted already: once one
+/// was of a queued command, the halt stays one by a queued command.
 #[derive(Clone, Copy, Debug)]
 pub enum Halting {
     /// No command failed: all go on.
     NotHalted,
     /// A plain command failed: none goes on.
-    HaltedPlain,
+    HaltedByPlain,
     /// A queued one failed: none goes on.
-    HaltedQueued,
+    HaltedByQueued,
     /// A queued one failed, and ST was set again: READ LOG EXT alone goes on.
     LogOnly,
 }
@@ -27,7 +27,7 @@ impl Halting {
         match self {
             Halting::NotHalted => true,
             Halting::LogOnly => matches!(operation, Operation::ReadLog),
-            Halting::HaltedPlain | Halting::HaltedQueued => false,
+            Halting::HaltedByPlain | Halting::HaltedByQueued => false,
         }
     }
 
@@ -36,9 +36,9 @@ impl Halting {
         ensures { halt_of result ≡ halt_after_fault (halt_of self) queued }
     {
         match self {
-            Halting::HaltedQueued | Halting::LogOnly => Halting::HaltedQueued,
-            Halting::NotHalted | Halting::HaltedPlain if queued => Halting::HaltedQueued,
-            Halting::NotHalted | Halting::HaltedPlain => Halting::HaltedPlain,
+            Halting::HaltedByQueued | Halting::LogOnly => Halting::HaltedByQueued,
+            Halting::NotHalted | Halting::HaltedByPlain if queued => Halting::HaltedByQueued,
+            Halting::NotHalted | Halting::HaltedByPlain => Halting::HaltedByPlain,
         }
     }
 
@@ -47,8 +47,8 @@ impl Halting {
         ensures { halt_of result ≡ halt_after_start (halt_of self) }
     {
         match self {
-            Halting::HaltedQueued | Halting::LogOnly => Halting::LogOnly,
-            Halting::NotHalted | Halting::HaltedPlain => Halting::NotHalted,
+            Halting::HaltedByQueued | Halting::LogOnly => Halting::LogOnly,
+            Halting::NotHalted | Halting::HaltedByPlain => Halting::NotHalted,
         }
     }
 }

@@ -1,6 +1,6 @@
 // The model without its disks.
 ghost use Rattle.std.specs.Prelude.{Bool, List, ◌≡◌, ◌≢◌, ◌+◌, ◌<◌, ◌≤◌, ◌++◌, ℕ, true, false, if◌then◌else◌, All, length, take, drop, slice_index_or};
-ghost use Rattle.adapter.specs.{Access.{Shows, is_ips_set, device_after_reading, device_after_write, port_after_hba_is_write}, Memory.{patched, bytes_at}, Device.{Device}, Steps.{device_after, port_after_reset}, Steps.DeviceTransition.{ResetEnds}};
+ghost use Rattle.adapter.specs.{Access.{Shows, is_ips_set, device_after_reading, device_after_write, port_after_hba_is_write}, Memory.{patched, bytes_at}, Device.{Device}, Steps.{device_after, port_after_hba_reset}, Steps.DeviceTransition.{ResetEnds}};
 ghost use Rattle.hba_regs.specs.Bits.{bit};
 ghost use Rattle.device_model.specs.{HeldPorts.{IsPortReleased, all_held}, ModelOwnSteps.{EndsPendingResetUnlessAllHeld, IsSettled, IsSettledPort, LeadsBySteps, Settles, KeepsPortCountHrTapeAndStarved}, PortView.{Media, port_of, reset_port_without_disk}, WholeAdapter.{AllMedia, device_of, HasRegister}};
 
@@ -75,7 +75,7 @@ fn clear_is_bit(ports: &mut [PortModel; 4], value: u32)
 fn reset_all(ports: &mut [PortModel; 4])
     ensures size { length ports.new ≡ length ports.old }
     ensures each { (m : Media) (port : ℕ) → port_of (slice_index_or ports.new port reset_port_without_disk) m
-        ≡ port_after_reset (port_of (slice_index_or ports.old port reset_port_without_disk) m) }
+        ≡ port_after_hba_reset (port_of (slice_index_or ports.old port reset_port_without_disk) m) }
 {
     for port in 0..4 {
         ports[port].apply_hba_reset();

@@ -1,8 +1,8 @@
 // Laws of the definitions, for callers: the clause is the theorem. These functions do nothing.
 ghost use Rattle.std.specs.Prelude.{◌≡◌, ◌≢◌, ◌+◌, ◌<◌, ◌≤◌, ◌⊎◌, true, false, is_some, ℕ, Bool, List, Some, All};
 ghost use Rattle.ata_types.specs.{declared.Port.{Port}, declared.Slot.{Slot}};
-ghost use Rattle.adapter.specs.{Commands.{Meaning, is_queued}, Device.{Device, FetchedCommand}, Idle.{DisksAreKnownIfTelling}, Steps.{Can, IsFinished, WorksOn, next_place}, Steps.DeviceTransition.{Clear, Fetch, Move}, declared.access.DeviceStep.{DeviceStep}};
-ghost use Rattle.device_model.specs.{WriteCaches.{sector_told}, Disks.{bay_of, numbered_disk, lasting_of, disk_index_of}, StepEffects.{DidStep, IsPossible, PutsDiskIntoPort}, Finishing.{HasDisksOrOperationIsRanged}, HeldPorts.{IsPortHeld}, ModelState.{device_at}, Queue.{AnswersEachStep}, ModelOwnSteps.{DoesSpontaneousSteps}, declared.bay.Bay.{Bay}, declared.disks.DiskIndex.{DiskIndex}};
+ghost use Rattle.adapter.specs.{Commands.{Meaning, is_queued}, Device.{Device, FetchedCommand}, Idle.{DisksAreKnownIfTheyTell}, Steps.{Can, IsFinished, WorksOn, next_place}, Steps.DeviceTransition.{Clear, Fetch, Move}, declared.access.DeviceStep.{DeviceStep}};
+ghost use Rattle.device_model.specs.{WriteCaches.{sector_told}, Disks.{bay_of, numbered_disk, lasting_of, disk_index_of}, StepEffects.{DidStep, IsPossible, PutsDiskIntoPort}, Finishing.{HasDisksOrOperationMovesSectors}, HeldPorts.{IsPortHeld}, ModelState.{device_at}, Queue.{AnswersEachStep}, ModelOwnSteps.{DoesSpontaneousSteps}, declared.bay.Bay.{Bay}, declared.disks.DiskIndex.{DiskIndex}};
 ghost use Rattle.adapter.specs.declared.access.DeviceStep.TheVariants as asked;
 
 use crate::Model;
@@ -10,17 +10,17 @@ use sector_store::SectorStore;
 
 /// The sectors of a model's disks are known if it is one that tells, whatever it did since it was made. Over stores
 /// that tell theirs at all times, as those in memory do, each model is one that tells.
-pub fn law_disk_sectors_are_known_if_telling<S: SectorStore>()
-    ensures tells { (m : Model S) → DisksAreKnownIfTelling (device_at S.size S.told m) }
-    ensures telling { ((store : S) → is_some (S.told store) ≡ true) → (m : Model S)
-        → (device_at S.size S.told m).telling ≡ true }
+pub fn law_disk_sectors_are_known_if_they_tell<S: SectorStore>()
+    ensures tells { (m : Model S) → DisksAreKnownIfTheyTell (device_at S.size S.told m) }
+    ensures disks_tell_sectors { ((store : S) → is_some (S.told store) ≡ true) → (m : Model S)
+        → (device_at S.size S.told m).disks_tell_sectors ≡ true }
 {}
 
 /// A move that the device may make, on a port that has a disk, is possible for a model where its piece is in the
 /// memory.
 pub fn law_moves_within_memory_are_model_possible<S: SectorStore>()
     ensures { (m : Model S) (p : Port) (slot : Slot) (t : FetchedCommand) (bytes : List ℕ) → slot.0 < 32
-        → HasDisksOrOperationIsRanged (device_at S.size S.told m) p.0 t.meaning.operation →
+        → HasDisksOrOperationMovesSectors (device_at S.size S.told m) p.0 t.meaning.operation →
         next_place t + 512 ≤ (device_at S.size S.told m).memory_size
         → Can (Move p.0 slot.0 t bytes) (device_at S.size S.told m)
         → IsPossible (asked.Move p slot) (device_at S.size S.told m) }

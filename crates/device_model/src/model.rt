@@ -1,7 +1,7 @@
 // The model as an adapter.
 ghost use Rattle.std.specs.{Prelude.{◌≡◌, ◌≢◌, ◌↔◌, ◌<◌, ◌≤◌, ◌+◌, ◌-◌, ◌*◌, ◌^◌, ◌⊎◌, ◌++◌, ◌∷◌, [], ℕ, Bool, List, true, false, is_some, None, Some, ◌&&◌, min, max, map, length, slice_index, slice_index_or, slice_set, IsTrue, IfSome, IfOk, OnOk, OnErr}, Vec.{vec_len, vec_capacity}};
-ghost use Rattle.adapter.specs.{Commands.{is_ranged, reads_memory, sends_page}, Device.{Disk, IsValidSector, FetchedCommand}, Access.{Reads, Writes, Loads, Stores, Shows, device_after_write}, Memory.{bytes_at, patched}, Rules.{MayRead, MayWrite, IsInMemoryNotOwnedByDevice, IsStable}, Steps.{Steps, disk_after, disk_cleared, next_place}, AskedSteps.{DoesOrFailsStep}, OneCommand.{SlotHasNoCommand}};
-ghost use Rattle.sector_store.specs.Stores.{RecordsOneMoreFailure};
+ghost use Rattle.adapter.specs.{Commands.{moves_disk_sectors, reads_memory, sends_page}, Device.{Disk, IsValidSector, FetchedCommand}, Access.{Reads, Writes, Loads, Stores, Shows, device_after_write}, Memory.{bytes_at, patched}, Rules.{MayRead, MayWrite, IsInMemoryNotOwnedByDevice, IsStable}, Steps.{Steps, disk_after, disk_cleared, next_place}, AskedSteps.{DoesOrFailsStep}, OneCommand.{SlotHasNoCommand}};
+ghost use Rattle.sector_store.specs.Stores.{HasRecordAndNotesOneMoreFailure};
 ghost use Rattle.device_model.specs.{FetchedBytes.{bytes_of}, Disks.{OnlyEndsCommand, ModelHasRoomForOldSectors, OnlyChangesPageSource, numbered_disk, disks_given_for, port_0_alone}, Finishing.{FindsPageCommandAndWhetherItCanEnd, HasFinishablePageCommand, HasMove, TapeHasRoom, HasTakenCommand, MayTakePageCommand}, HeldPorts.{IsPortReleased}, DiskPages.{with_lie, with_logged_error, without_lies}, PageTaking.{TakesPageCommandUnlessOneIsTaken}};
 ghost use Rattle.device_model.specs.{StepEffects.{AnswersStep, Completes, OwnStepsKeep, HasCleared, IsPossible, CommandOfStepFails, KeepsRoomForNext, is_step_not_skipped, asked_fault}, ToldDisks.{all_disks_have_known_sectors}, Queue.{BeginsAccess, DoesRead, AppliesEffect}, ModelState.{IsNewBay, IsNewMedia, IsNewModel, all_given_disks_tell, all_bay_stores_are_known, cap_of, device_at, given_disks_tell, media_of, tells}, Slots.{IsNextMove}};
 ghost use Rattle.device_model.specs.{declared.port.TakenCommand.{TakenCommand}, ModelOwnSteps.{SendsPages, IsSettled, LeadsBySteps, LeavesPageWithoutTapeRoom, PageCommandWaitsOnlyIfHeldOrStarved}, Trims.{next_run_length, sectors_left_to_write}, WholeAdapter.{HasDisks, HasRegister}};
@@ -400,7 +400,7 @@ impl<S: SectorStore> Model<S> {
             self.hardware.starved = true;
             return StepOutcome::Skipped;
         }
-        if !next.is_within_disk_if_ranged(bay.sectors()) {
+        if !next.is_within_disk_if_it_moves_sectors(bay.sectors()) {
             let _failed = self.fail(port, slot, PAST_THE_DISK, false);
             return StepOutcome::Failed;
         }
@@ -470,7 +470,7 @@ impl<S: SectorStore> Model<S> {
         let count = bay.clear(on_disk);
         let first = run.first;
         self.hardware
-            .clear(port.0, slot.0, SectorExtent { first, count });
+            .note_clear(port.0, slot.0, SectorExtent { first, count });
         if count == run.count {
             return StepOutcome::Done;
         }

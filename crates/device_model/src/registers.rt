@@ -1,6 +1,6 @@
 // What the registers of a port show, and what a write does.
 ghost use Rattle.std.specs.Prelude.{◌≡◌, ℕ, true, false};
-ghost use Rattle.adapter.specs.{AskedSteps.{fatal_bit}, Memory.{changed}, Access.{PortShows, notes_after_reading, port_after_write, port_after_hba_is_write, count_after_reading as count_after, link_wait_count_full_once_linked as expected_link_wait_count}};
+ghost use Rattle.adapter.specs.{AskedSteps.{fatal_bit}, Memory.{changed}, Access.{PortShows, notes_after_reading, port_after_write, port_after_hba_is_write, capped_count_after_reading as count_after, link_wait_count_full_once_linked as expected_link_wait_count}};
 ghost use Rattle.device_model.specs.PortView.{Media, port_of};
 
 use crate::bits::{bit_if, with_bit_as, without_ones};
@@ -11,7 +11,7 @@ use ata_types::MOST_READINGS;
 use hba_regs::{PortReg, is_set};
 
 /// One more reading in a row.
-fn count_after_reading(again: bool, count: u32) -> u32
+fn capped_count_after_reading(again: bool, count: u32) -> u32
     ensures { result ≡ count_after again count }
 {
     if again {
@@ -81,7 +81,7 @@ impl PortModel {
             PortReg::Cmd => {
                 let awaited = !self.st && is_set(value, 15) || !self.fre && is_set(value, 14);
                 self.readings.last_cmd = value;
-                self.readings.engine_wait_count = count_after_reading(
+                self.readings.engine_wait_count = capped_count_after_reading(
                     awaited,
                     self.readings.engine_wait_count,
                 );
@@ -99,13 +99,16 @@ impl PortModel {
                 self.readings.last_tfd = value;
                 if no_comreset {
                     let busy = is_set(value, 7) || is_set(value, 3);
-                    self.readings.busy_count = count_after_reading(busy, self.readings.busy_count);
+                    self.readings.busy_count = capped_count_after_reading(
+                        busy,
+                        self.readings.busy_count,
+                    );
                 }
             }
             PortReg::Ci => {
                 self.readings.last_ci = value;
                 if no_comreset {
-                    self.readings.slot0_issued_count = count_after_reading(
+                    self.readings.slot0_issued_count = capped_count_after_reading(
                         is_set(value, 0),
                         self.readings.slot0_issued_count,
                     );

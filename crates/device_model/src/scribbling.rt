@@ -6,7 +6,7 @@ ghost use Rattle.adapter.specs.{AskedSteps.{DoesScribble, memory_filled_if_all_i
 ghost use Rattle.device_model.specs.{FetchedBytes.{bytes_of}, PortView.{reset_port_without_disk, taken_in}, WholeAdapter.{AllMedia, device_of}};
 
 use crate::hardware::{Hardware, put};
-use adapter::laws::law_scribble_slot_by_slot;
+use adapter::laws::law_scribbled_memory_is_filled_slot_by_slot;
 use ata_types::{HEADER_BYTES, RECEIVED_FIS_BYTES};
 
 /// Where PRDBC stands in a command header, and how many bytes it has (AHCI 1.3.1, 4.2.2).
@@ -60,7 +60,7 @@ impl Hardware {
         if !self.ports[place].fre {
             return false;
         }
-        law_scribble_slot_by_slot();
+        law_scribbled_memory_is_filled_slot_by_slot();
         let area = self.ports[place].addresses.fb as usize;
         put_within(&mut self.memory, area, &[byte; RECEIVED_FIS_BYTES as usize]);
         for slot in 0..32u8 {

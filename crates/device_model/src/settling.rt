@@ -1,6 +1,6 @@
 // What a port does by itself before a register is read, and what the end of a reset makes of it.
 ghost use Rattle.std.specs.Prelude.{◌≡◌, ◌%◌, ◌↔◌, IsTrue, true, false};
-ghost use Rattle.adapter.specs.Steps.{MayLinkUp, port_after_link_up, port_after_reset};
+ghost use Rattle.adapter.specs.Steps.{MayLinkUp, port_after_link_up, port_after_hba_reset};
 ghost use Rattle.device_model.specs.{ModelOwnSteps.{PortChangesBySettlingSteps}, PortView.{Media, port_of}};
 
 use crate::halt::Halting;
@@ -91,7 +91,7 @@ impl PortModel {
 
     /// The adapter's reset has ended (AHCI 1.3.1, 10.4.3).
     pub fn apply_hba_reset(&mut self)
-        ensures { (m : Media) → port_of self.new m ≡ port_after_reset (port_of self.old m) }
+        ensures { (m : Media) → port_of self.new m ≡ port_after_hba_reset (port_of self.old m) }
     {
         self.link_due = self.link_due || self.sctl_det % 16 == 1;
         set!(self, 0: sctl_det, ie);

@@ -1,6 +1,6 @@
 // The slots of a port: which command is taken, and how it goes on.
 ghost use Rattle.std.specs.Prelude.{◌≡◌, ◌↔◌, ◌<◌, ◌≤◌, ◌^◌, ◌+◌, ◌||◌, ℕ, IsTrue, None, Some, true, false, is_some, slice_index_or, IfSome, List};
-ghost use Rattle.adapter.specs.{Steps.{IsUnmixed, IsFetchable, IsWorking, admits, port_after_clear, port_after_done_except_lasting, port_after_fault, port_after_fetch, port_with_lasting_after_operation, port_after_move}, declared.command.Operation.{Operation}};
+ghost use Rattle.adapter.specs.{Steps.{IsAloneOrAllAreQueued, IsFetchable, IsWorking, admits, port_after_clear, port_after_done_except_lasting, port_after_fault, port_after_fetch, port_with_lasting_after_operation, port_after_move}, declared.command.Operation.{Operation}};
 ghost use Rattle.device_model.specs.{WordBits.{word_bits}, FetchedBytes.{IsNewlyTaken}, Slots.{AdmitsByHaltAndTaken, MayTakeIfDecoded, IsFetchableIfHaltAdmits, WorksOnIn}, PortView.{Media, cause_of, halt_of, taken_in, bsy_if_disk_left_busy, media_after_move, media_after_clear, media_after_end, port_of, taken_of, reset_port_without_disk}, declared.port.TakenCommand.{TakenCommand}};
 
 use crate::bits::{is_clear_from, with_bit_as};
@@ -36,7 +36,7 @@ impl PortModel {
     pub fn take(&mut self, slot: u8, command: &TakenCommand)
         requires slot { slot < 32 }
         requires new { IsNewlyTaken command.now }
-        requires alone { (m : Media) → IsUnmixed (port_of self.old m) command.now.operation }
+        requires alone { (m : Media) → IsAloneOrAllAreQueued (port_of self.old m) command.now.operation }
         ensures { (m : Media) → port_of self.new m ≡ port_after_fetch (port_of self.old m) slot
             (taken_of command.now).meaning
             (taken_of command.now).places }
@@ -154,16 +154,16 @@ impl PortModel {
         ensures open { result ≡ true → AdmitsByHaltAndTaken self.now operation }
         ensures complete { result ≡ false → (m : Media)
             → admits (halt_of self.now.halting) operation ≡ true
-            → IsUnmixed (port_of self.now m) operation → ⊥ }
+            → IsAloneOrAllAreQueued (port_of self.now m) operation → ⊥ }
     {
-        self.halting.admits(operation) && self.is_unmixed(operation)
+        self.halting.admits(operation) && self.is_alone_or_all_are_queued(operation)
     }
 
     /// Whether such a command may be taken beside those that are: a queued one beside queued ones, and a plain one
     /// alone.
-    fn is_unmixed(&self, operation: Operation) -> bool
-        ensures alone { result ≡ true → (m : Media) → IsUnmixed (port_of self.now m) operation }
-        ensures only { result ≡ false → (m : Media) → IsUnmixed (port_of self.now m) operation →
+    fn is_alone_or_all_are_queued(&self, operation: Operation) -> bool
+        ensures alone { result ≡ true → (m : Media) → IsAloneOrAllAreQueued (port_of self.now m) operation }
+        ensures only { result ≡ false → (m : Media) → IsAloneOrAllAreQueued (port_of self.now m) operation →
             ⊥ }
     {
         if operation.is_queued() {

@@ -1,6 +1,6 @@
 // Steps that the hardware does when it is told.
 ghost use Rattle.std.specs.{Prelude.{◌≡◌, ◌↔◌, IsTrue, ◌<◌, ◌≤◌, ◌+◌, ◌-◌, ◌*◌, ◌^◌, ◌++◌, ◌∷◌, [], true, false, ℕ, List, None, Some, IfSome, IsSomeAnd, if◌then◌else◌, length, nat_eq, slice_index, slice_index_or}, Vec.{vec_len, vec_capacity}};
-ghost use Rattle.adapter.specs.{Commands.{Meaning, is_queued, is_ranged, reads_memory}, Device.{Disk, FetchedCommand}, Memory.{bytes_at}, Decoding.{pieces}, Steps.{Can, IsFinished, device_after, next_sector}, Steps.DeviceTransition.{Fetch as FetchStep, FetchFault as FetchFaultStep, Move as MoveStep, Done as DoneStep, Fault as FaultStep, Fatal as FatalStep, Unplug as UnplugStep, Plug as PlugStep}};
+ghost use Rattle.adapter.specs.{Commands.{Meaning, is_queued, moves_disk_sectors, reads_memory}, Device.{Disk, FetchedCommand}, Memory.{bytes_at}, Decoding.{pieces}, Steps.{Can, IsFinished, device_after, next_sector}, Steps.DeviceTransition.{Fetch as FetchStep, FetchFault as FetchFaultStep, Move as MoveStep, Done as DoneStep, Fault as FaultStep, Fatal as FatalStep, Unplug as UnplugStep, Plug as PlugStep}};
 ghost use Rattle.adapter.specs.AskedSteps.{DoesFatal, DoesFault, DoesFetch, EndsAndPosts, fatal_bit};
 ghost use Rattle.device_model.specs.{TakenBlocks.{brought}, WriteCaches.{HasRoomForOldSectors, KeepsSameOldSectors}, PieceTransfers.{IsTransferred, piece_in_memory}, FetchedBytes.{bytes_of}, Finishing.{TapeHasRoom, CacheHasRoomForRestOfCommand, FindsPageCommandAndWhetherItCanEnd, IsInside, PiecesInside, IsCommandBegun, HasMovesLeftInMemory, IsImpossibleOrLacksTape, HasMovesAndTrimRunsLeft, NoneMayFinishOrLacksRoom}, SentFises.{SendsEnd}, Slots.{WorksOnIn, IsNextMove, IsFetchableIfHaltAdmits}, Trims.{sectors_left_to_change}};
 ghost use Rattle.device_model.specs.{PortView.{taken_in, bsy_if_disk_left_busy, taken_of, reset_port_without_disk}, WholeAdapter.{AllMedia, device_of, all_media_after_move, all_media_after_end, all_media_after_plug}, declared.port.TakenCommand.{TakenCommand}};
@@ -62,11 +62,11 @@ pub struct PendingPageCommand {
 
 impl NextMove {
     /// Whether it names no sector, or one of so many.
-    pub fn is_within_disk_if_ranged(self, sectors: u64) -> bool
-        ensures { IsTrue result ↔ (is_ranged self.operation ≡ true → self.sector < sectors) }
+    pub fn is_within_disk_if_it_moves_sectors(self, sectors: u64) -> bool
+        ensures { IsTrue result ↔ (moves_disk_sectors self.operation ≡ true → self.sector < sectors) }
     {
         // A sector that is named is on the disk, but for faults, and 0 is where none is named: so one look is enough.
-        self.sector < sectors || !self.operation.is_ranged()
+        self.sector < sectors || !self.operation.moves_disk_sectors()
     }
 
     /// The move of the piece behind it, if that needs no look.
@@ -99,11 +99,11 @@ fn pieces_following(operation: Operation, place: PiecePlace, size: usize) -> u16
     ensures few { result ≤ place.pieces_following }
     ensures inside { place.address + 512 ≤ size → place.address + 512 * result + 512 ≤ size }
     ensures low { place.address + 512 * result < 2 ^ 32 }
-    ensures ranged { 1 ≤ result → is_ranged operation ≡ true }
+    ensures moves_sectors { 1 ≤ result → moves_disk_sectors operation ≡ true }
 {
     let pieces = u64::from(place.pieces_following).min(u64::from(u16::MAX));
     let end = place.address + 512 * pieces + 512;
-    if operation.is_ranged() && end <= (size as u64).min(1 << 32) {
+    if operation.moves_disk_sectors() && end <= (size as u64).min(1 << 32) {
         pieces as u16
     } else {
         0
@@ -243,7 +243,7 @@ fn sector_of(command: &TakenCommand) -> u64
     requires { command.now.first < 2 ^ 48 }
     ensures { result ≡ next_sector (taken_of command.now) }
 {
-    if command.operation.is_ranged() {
+    if command.operation.moves_disk_sectors() {
         command.first + u64::from(command.moved)
     } else {
         0

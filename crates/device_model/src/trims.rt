@@ -161,7 +161,7 @@ impl Hardware {
     }
 
     /// Sectors of a slot's trim were cleared: that is noted on the tape. Where there are none, nothing is.
-    pub fn clear(&mut self, port: u8, slot: u8, run: SectorExtent)
+    pub fn note_clear(&mut self, port: u8, slot: u8, run: SectorExtent)
         requires there { (port < 4) × (slot < 32) }
         requires slot_has_command { (t : TakenCommand)
             × WorksOnIn (slice_index_or self.old.ports port reset_port_without_disk) slot t

@@ -10,9 +10,9 @@ use Rattle.hba_regs.specs.Bits.{bit}
 use Rattle.hba_regs.specs.declared.reg.Reg.{Reg}
 use Rattle.hba_regs.specs.declared.reg.Reg.TheVariants.{Ghc, Px}
 use Rattle.hba_regs.specs.declared.reg.PortReg.TheVariants.{Ci, Sact}
-use Rattle.adapter.specs.Access.{Access, Does, Reads, Writes, Loads, count_after_reading}
+use Rattle.adapter.specs.Access.{Access, Does, Reads, Writes, Loads, capped_count_after_reading}
 use Rattle.adapter.specs.Access.Access.{Reading, Writing, Loading, Storing}
-use Rattle.adapter.specs.Commands.{Meaning, command_of, is_ranged, transfer_sector_count}
+use Rattle.adapter.specs.Commands.{Meaning, command_of, moves_disk_sectors, transfer_sector_count}
 use Rattle.adapter.specs.Device.{Bases, Notes, DevicePort, Device}
 use Rattle.adapter.specs.Device.Halt.{NotHalted}
 use Rattle.adapter.specs.KeptBySteps.{KeepsOverSteps, KeepsControlsFlagsRise, PortBitsOnlyFallFreeSlotsStay}
@@ -90,7 +90,7 @@ own : (page : Page) → client_operation_of (page_operation page) ≡ None
 own Identity = refl
 own ErrorLog = refl
 
-pub unranged : (page : Page) → is_ranged (page_operation page) ≡ false
+pub unranged : (page : Page) → moves_disk_sectors (page_operation page) ≡ false
 unranged Identity = refl
 unranged ErrorLog = refl
 
@@ -113,7 +113,7 @@ may_after port old new l may =
 pub table_for : (page : Page) (command : Command) (prds : List Prd) (port n : ℕ) → n ≡ port → command ≡ command_of (page_operation page) 0 0 0 → All IsWholePieces prds →
     pieces prds ≡ places_of (record { 0 = DRIVER_FRAMES_PER_PORT * n + SCRATCH_FRAME } ∷ []) 1 → IsTableFor 0 command prds (meaning_of page) (scratch_frame_address port ∷ [])
 table_for page command prds port n same is whole places = record {
-  meaning = record { ranged = λ ranged. absurd (true≢false (sym ranged ∙ (unranged page))); not_ranged = λ _. (refl, refl) };
+  meaning = record { sectors_fit_if_it_moves_some = λ moves_sectors. absurd (true≢false (sym moves_sectors ∙ (unranged page))); sectors_are_zero_if_it_moves_none = λ _. (refl, refl) };
   fields = is;
   prds_are_whole_pieces = whole;
   places_are = (let at : 4096 * (DRIVER_FRAMES_PER_PORT * n + SCRATCH_FRAME) + 512 * (0 % 8) ≡ scratch_frame_address port = omega (arith, same) in ap (λ (a : ℕ). a ∷ []) (sym at)) ∙ sym places;
@@ -363,10 +363,10 @@ module _ (laws : Laws) where
     reads_det : (d.port port.0).sctl_det ≡ 0 → (e.port port.0).sctl_det ≡ 0
     reads_det det = (reading_leaves port v d e on call).controls.sctl_det_is_kept ∙ det
 
-    count_read : (d.port port.0).sctl_det ≡ 0 → (e.port port.0).notes.slot0_issued_count ≡ count_after_reading (bit v 0) (d.port port.0).notes.slot0_issued_count
+    count_read : (d.port port.0).sctl_det ≡ 0 → (e.port port.0).notes.slot0_issued_count ≡ capped_count_after_reading (bit v 0) (d.port port.0).notes.slot0_issued_count
     count_read det =
         let s : PortRegisterRead port.0 Ci v d e = laws.read_changes_port_register port Ci v d e call on.no_reset in
-        let P : ℕ → Type 0 = λ x. (e.port port.0).notes.slot0_issued_count ≡ (if nat_eq x 0 then count_after_reading (bit v 0) (d.port port.0).notes.slot0_issued_count else (d.port port.0).notes.slot0_issued_count) in
+        let P : ℕ → Type 0 = λ x. (e.port port.0).notes.slot0_issued_count ≡ (if nat_eq x 0 then capped_count_after_reading (bit v 0) (d.port port.0).notes.slot0_issued_count else (d.port port.0).notes.slot0_issued_count) in
         subst P (reads_det det) (ap (λ (n : Notes). n.slot0_issued_count) s.notes)
 
   pub pending_first : (port : Port) (d : Device) → IsOn d → HasPort d port.0 → (d.port port.0).sctl_det ≡ 0 → IsPending port d 0 d
@@ -384,8 +384,8 @@ module _ (laws : Laws) where
   -- one more reading with the bit
   pub pending_again : (port : Port) (start : Device) (n : ℕ) (v : ℕ) (d e : Device) → n < MOST_READINGS → IsPending port start n d → Reads (Px port Ci) v d e → bit v 0 ≡ true → IsPending port start (n + 1) e
   pending_again port start n v d e small p call set =
-      let count : (e.port port.0).notes.slot0_issued_count ≡ count_after_reading true (d.port port.0).notes.slot0_issued_count =
-      count_read port v d e p.on call p.det ∙ ap (λ (b : Bool). count_after_reading b (d.port port.0).notes.slot0_issued_count) set in
+      let count : (e.port port.0).notes.slot0_issued_count ≡ capped_count_after_reading true (d.port port.0).notes.slot0_issued_count =
+      count_read port v d e p.on call p.det ∙ ap (λ (b : Bool). capped_count_after_reading b (d.port port.0).notes.slot0_issued_count) set in
       let low = p.low in
       record {
         on = reads_on port v d e p.on call;

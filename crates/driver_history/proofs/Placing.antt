@@ -12,7 +12,7 @@ use Rattle.adapter.specs.declared.tape.Move as tape_move
 use Rattle.adapter.specs.declared.tape.Clear as tape_clear
 use Rattle.refinement.specs.Slots.{client_operation_of}
 use Rattle.refinement.specs.MemoryLayout.{scratch_frame_address}
-use Rattle.refinement.specs.Tape.{MovesSector, ClearsSectors, TellsDeviceSteps, TellsEntry, TellsMove}
+use Rattle.refinement.specs.Tape.{MovesSector, ClearsSectors, TellsDeviceSteps, TellsEntry, TellsTouchOrIsScratchMove}
 use Rattle.block_machine.specs.Events.{IsRun, steps_of, AllEnabled}
 use Rattle.block_machine.specs.Histories.{JointState, JointEvent, events_of, joint_state_after}
 use Rattle.block_machine.specs.Expected.{after}
@@ -49,7 +49,7 @@ among_first m op move own first rest t = record {
   touch = subst (MovesSector (after m own) op move) t.step_is t;
 }
 
-goes_first : (o : Option Op) (m : Machine) (move : tape_move.Move) (own first rest : List Step) → TellsMove o (after m own) move first → Goes o m (rest ++ (first ++ own)) move
+goes_first : (o : Option Op) (m : Machine) (move : tape_move.Move) (own first rest : List Step) → TellsTouchOrIsScratchMove o (after m own) move first → Goes o m (rest ++ (first ++ own)) move
 goes_first None m move own first rest t = t.0
 goes_first (Some Read) m move own first rest t = among_first m Read move own first rest t
 goes_first (Some Write) m move own first rest t = among_first m Write move own first rest t

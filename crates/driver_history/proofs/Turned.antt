@@ -24,7 +24,7 @@ use Rattle.error_recovery.specs.Evidence.{GainsSinceStart, ShowsFatal}
 use Rattle.driver_history.specs.Evidence.{TapeGainsEntry, ShowsLinkChange, ShowsFailure}
 use Rattle.driver_history.specs.Histories.{BootsAnewWhereRequired, IsForeignOrUnfit, HasOnlyTaskFileError, HasFirstFisOrNoDevice, LosesNoPortError, RunsWellAnew, IsServedAndNotDead, ProbesDisk}
 use Rattle.driver_history.specs.Laws.{AccessLaws}
-use Rattle.driver_history.specs.PortTurn.{UnusableWithXEndsNotDueAbsentOrDeadIfNoneComes, HasTurnIn, KeepsToAnotherPort, EvidenceAgreesOn, call_accesses}
+use Rattle.driver_history.specs.PortTurn.{NoLinkDueAfterXUnlessAbsentDeadOrDiskComes, HasTurnIn, KeepsToAnotherPort, EvidenceAgreesOn, call_accesses}
 use Rattle.driver_history.specs.AccessTrace.{LastSctlWritesResetLink}
 use Rattle.driver_history.proofs.Parting.{IsLeft, gains_within, grows_over, loss_then, others_leave, plugged_or_not}
 use Rattle.driver_history.proofs.Since.{calm_since, running_in_part}
@@ -144,7 +144,7 @@ module _ (laws : AccessLaws) (port : Port) where
       x_then : (old.device.port port.0).serr_x ≡ true → (t.start.port port.0).serr_x ≡ true
       x_then x = (first.trouble_shown links).still x
 
-      pub linked_is_the_calls : SamePort old.abstract.ports begun.ports port → UnusableWithXEndsNotDueAbsentOrDeadIfNoneComes port began ended t.end → UnusableWithXEndsNotDueAbsentOrDeadIfNoneComes port old ports new
+      pub linked_is_the_calls : SamePort old.abstract.ports begun.ports port → NoLinkDueAfterXUnlessAbsentDeadOrDiskComes port began ended t.end → NoLinkDueAfterXUnlessAbsentDeadOrDiskComes port old ports new
       linked_is_the_calls was linked bad x none =
           let parts = comes none in
           ⊎_elim
@@ -156,7 +156,7 @@ module _ (laws : AccessLaws) (port : Port) where
       fresh_still : NoDiskComes port.0 t.end new → HasFirstFisOrNoDevice (t.end.port port.0) → HasFirstFisOrNoDevice (new.port port.0)
       fresh_still none fresh = fresh_or_gone (new.port port.0) (stays_over HasFirstFisIfDet3 (laws.first_fis_if_det_3_stays_if_no_disk_comes port) t.later t.end new t.leads_to_new none (fresh_if_shown (t.end.port port.0) fresh))
 
-      pub tries_are_the_calls : SamePort old.abstract.ports begun.ports port → (IsForeignOrUnfit old.abstract.ports port → HasDet3IfDiskPresent (old.device.port port.0)) → UnusableWithXEndsNotDueAbsentOrDeadIfNoneComes port began ended t.end
+      pub tries_are_the_calls : SamePort old.abstract.ports begun.ports port → (IsForeignOrUnfit old.abstract.ports port → HasDet3IfDiskPresent (old.device.port port.0)) → NoLinkDueAfterXUnlessAbsentDeadOrDiskComes port began ended t.end
           → (NoDiskComes port.0 t.start t.end → ProbesDisk t.turn began ended t.end port) → NoDiskComes port.0 old.device new → ProbesDisk (call_accesses t) old ports new port
       tries_are_the_calls was there linked tried none = record {
         absent_with_device_is_booted_dead_or_has_plug_event = λ absent shows. ⊎_elim

@@ -19,7 +19,7 @@ use Rattle.port_control.specs.Engines.{Stops}
 use Rattle.error_recovery.specs.Evidence.{ShowsFatal}
 use Rattle.driver_history.specs.EvidenceHandling.{ToldOkOr, tells_fault}
 use Rattle.driver_history.specs.Evidence.{IsEndedReset, IsFaultTold, HasEvidenceOfLoss, StaysHealthy}
-use Rattle.driver_history.specs.Histories.{ExplainsAccesses, FindsDoneInServiceOrTick, IssuesAllDue, TellsLonePlainFaultsUnlessDead}
+use Rattle.driver_history.specs.Histories.{ExplainsAccesses, FindsDoneInServiceOrAtTimeout, IssuesAllDue, TellsLonePlainFaultsUnlessDead}
 use Rattle.driver_history.specs.AccessTrace.{WritesNeitherCmdNorSctl}
 
 -- what a call may tell where nothing goes wrong: Ok; or Revoked, where it revokes a grant
@@ -73,7 +73,7 @@ pub record GoesWellFor (old : JointState Device) (h : JointEvent Device DeviceSt
   pub accesses_are_explained : ExplainsAccesses old.abstract h.event.call h.event.result accesses old.device h.device
   pub is_spared : IsSpared old h accesses port
   pub port_runs_well : RunsWell (h.device.port port.0)
-  pub finds_done : FindsDoneInServiceOrTick h.event.call accesses old h.event.steps port
+  pub finds_done : FindsDoneInServiceOrAtTimeout h.event.call accesses old h.event.steps port
   pub issues_all_due : IssuesAllDue h.event.call h.event.steps (abstract_after old.abstract h.event).machine
       h.event.ports port
 

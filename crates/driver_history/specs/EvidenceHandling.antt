@@ -62,7 +62,8 @@ pub record IsLeftAlone (old : Ports) (evidence : Evidence) (steps : List Step) (
 -- Where that is so, or it failed, the port is stopped, or gets stuck. Where it failed or was stopped, what is
 -- issued then was issued in the call. One fault is told at most, and none where an error was fatal, which is a failure,
 -- too. It shows a disk after the call only where one was in. And where nothing disturbs it, the port is left alone.
--- (That it is what it was unless it was stopped or got stuck, `ChangesOnlyIfStoppedOrStuck` has of each port.)
+-- (That it is what it was unless it was stopped or got stuck, `MayBecomeInService` has of each
+-- port.)
 pub record ServicesReadyPort (old : AbstractState) (evidence : Evidence) (steps : List Step) (new : AbstractState)
     (port : Port) : Type 0 where
   pub answers_ok_what_had_ended : AnswersOkWhatHadEnded old.machine steps port

@@ -143,14 +143,14 @@ pub record FindsDone (port : Port) (accesses : List Access) (old : JointState De
       → IsAnsweredOk e steps ↔ ((bit ci slot ≡ false) × (bit sact slot ≡ false))
 
 -- A service finds what is done on each port that was ready and has something issued; a tick does on each that is hung.
-abbrev pub FindsDoneInServiceOrTick : AbstractCall DeviceStep → List Access → JointState Device → List Step → Port
+abbrev pub FindsDoneInServiceOrAtTimeout : AbstractCall DeviceStep → List Access → JointState Device → List Step → Port
     → Type 0
-FindsDoneInServiceOrTick Service accesses old steps port =
+FindsDoneInServiceOrAtTimeout Service accesses old steps port =
     old.abstract.ports.state port ≡ Ready → (e : Pending) → IsIssuedOn port old.abstract.machine e
     → FindsDone port accesses old steps
-FindsDoneInServiceOrTick Tick accesses old steps port = TimesOutAtTick old.abstract port
+FindsDoneInServiceOrAtTimeout Tick accesses old steps port = TimesOutAtTick old.abstract port
     → FindsDone port accesses old steps
-FindsDoneInServiceOrTick ask accesses old steps port = Unit {0}
+FindsDoneInServiceOrAtTimeout ask accesses old steps port = Unit {0}
 
 -- ---- a plain request's fault
 
@@ -276,7 +276,7 @@ RunsWellAnew evidence accesses old ports new port =
 -- trouble; and it heeds what the evidence names of the port.
 pub record PortCorresponds (old : JointState Device) (h : JointEvent Device DeviceStep) (accesses : List Access)
     (port : Port) : Type 0 where
-  pub finds_done : FindsDoneInServiceOrTick h.event.call accesses old h.event.steps port
+  pub finds_done : FindsDoneInServiceOrAtTimeout h.event.call accesses old h.event.steps port
   pub lone_plain_faults_are_told_unless_dead : TellsLonePlainFaultsUnlessDead h.event.call old h.event.ports h.device
       h.event.steps port
   pub probes_disk : ProbesServedPortInServiceIfNoneComes h.event.call accesses old h.event.ports h.device port

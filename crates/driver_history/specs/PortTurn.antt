@@ -43,7 +43,7 @@ pub record EvidenceAgreesOn (port : Port) (one other : Evidence) : Type 0 where
 
 -- Where a port with a disk that isn't served showed X, and no disk of it came since, no link of it is due any more,
 -- unless it is absent or dead. (While one is due, X rises when it comes up, and the tape tells of no disk.)
-abbrev pub UnusableWithXEndsNotDueAbsentOrDeadIfNoneComes : Port → JointState Device → Ports → Device → Type 0
-UnusableWithXEndsNotDueAbsentOrDeadIfNoneComes port old ports new = IsForeignOrUnfit old.abstract.ports port
+abbrev pub NoLinkDueAfterXUnlessAbsentDeadOrDiskComes : Port → JointState Device → Ports → Device → Type 0
+NoLinkDueAfterXUnlessAbsentDeadOrDiskComes port old ports new = IsForeignOrUnfit old.abstract.ports port
     → (old.device.port port.0).serr_x ≡ true → NoDiskComes port.0 old.device new → (ports.state port ≡ Absent)
     ⊎ ((ports.state port ≡ Dead) ⊎ ((new.port port.0).link_due ≡ false))

@@ -39,9 +39,9 @@ pub fn law_histories_reach_their_machines()
 
 /// Where the adapter's disks tell their sectors, each read of a history that was answered Ok has, at the end of the
 /// call that answered it, what was left.
-pub fn law_ok_reads_hold_expected_if_disks_tell()
+pub fn law_ok_reads_hold_expected_if_sectors_told()
     ensures { (wanted : List Wanted) (first : JointState Device) (past : List (JointEvent Device DeviceStep))
-        → IsDriverHistory wanted first past → first.device.telling ≡ true
+        → IsDriverHistory wanted first past → first.device.disks_tell_sectors ≡ true
         → EveryReadHoldsExpected first.abstract (events_of past) }
 {
     law_run_prerequisites();
@@ -49,9 +49,9 @@ pub fn law_ok_reads_hold_expected_if_disks_tell()
 
 /// Where the adapter's disks tell their sectors, each disk that comes back in a history has the writes that were
 /// flushed, or later ones.
-pub fn law_replugs_keep_flushed_if_disks_tell()
+pub fn law_replugs_keep_flushed_if_sectors_told()
     ensures { (wanted : List Wanted) (first : JointState Device) (past : List (JointEvent Device DeviceStep))
-        → IsDriverHistory wanted first past → first.device.telling ≡ true
+        → IsDriverHistory wanted first past → first.device.disks_tell_sectors ≡ true
         → EveryReplugFindsFlushedOrLater first.abstract.machine (steps_of (events_of past)) }
 {
     law_run_prerequisites();
@@ -180,7 +180,7 @@ pub fn law_services_answer_where_bits_are_clear()
 {}
 
 /// A tick that brings a request of a port to its age of three leaves no unanswered request of the port its issue.
-pub fn law_timeouts_undo_issues()
+pub fn law_timeouts_leave_only_new_issues()
     ensures { OfPortsInCalls (λ old h new port. h.event.call ≡ Tick → TimesOutAtTick old.abstract port
         → IssuedOnPortAreIssuedInSteps h.event.steps new.abstract.machine port) }
 {}

@@ -7,7 +7,7 @@ ghost use Rattle.adapter.specs.{Access.{Access, DoesAll}, Device.{Device}, Rules
 ghost use Rattle.refinement.specs.{Fragments.{TapeGrows}, Errors.{IsFatalEntryOf, NoDiskComes}, PortFacts.{IsFaultOf, Undisturbed}, PreservedParts.{HasDet3IfDiskPresent, NoPlugEvents, DoesNotWrite}};
 ghost use Rattle.block_machine.specs.{Events.{AbstractState, AbstractCallResult, Service}, Histories.{JointEvent, JointState, joint_state_after}, Ports.{Evidence, IsStoppedOrStuck, Ports, SamePort}};
 ghost use Rattle.error_recovery.specs.Evidence.{GainsSinceStart};
-ghost use Rattle.driver_history.specs.{Claims.{HandlesShownFailure, HandlesShownLoss}, Evidence.{ShowsLinkChange, ShowsFailure, ShowedLinkChangeOrNoDeviceAndNoneCame}, Histories.{BootsAnewWhereRequired, IsForeignOrUnfit, HasOnlyTaskFileError, LosesNoPortError, OfPortsInCalls, RunsWellAnew, ProbesDisk}, PortTurn.{UnusableWithXEndsNotDueAbsentOrDeadIfNoneComes, HasTurnIn, EvidenceAgreesOn, call_accesses}, AccessTrace.{WritesOneToNoTroubleBit, LastSctlWritesResetLink}};
+ghost use Rattle.driver_history.specs.{Claims.{HandlesShownFailure, HandlesShownLoss}, Evidence.{ShowsLinkChange, ShowsFailure, ShowedLinkChangeOrNoDeviceAndNoneCame}, Histories.{BootsAnewWhereRequired, IsForeignOrUnfit, HasOnlyTaskFileError, LosesNoPortError, OfPortsInCalls, RunsWellAnew, ProbesDisk}, PortTurn.{NoLinkDueAfterXUnlessAbsentDeadOrDiskComes, HasTurnIn, EvidenceAgreesOn, call_accesses}, AccessTrace.{WritesOneToNoTroubleBit, LastSctlWritesResetLink}};
 ghost use Rattle.identify.specs.declared.wanted.Wanted.{Wanted};
 ghost use Rattle.port_control.specs.Engines.{Stops};
 
@@ -103,7 +103,7 @@ pub fn law_turn_disk_probe_holds_for_call()
         → IsOn old.device → (t : HasTurnIn port old.device new) → IsOn t.end → SamePort ended ports port
         → SamePort old.abstract.ports begun.ports port
         → (IsForeignOrUnfit old.abstract.ports port → HasDet3IfDiskPresent (old.device.port port.0))
-        → UnusableWithXEndsNotDueAbsentOrDeadIfNoneComes port (record { device = t.start; abstract = begun }) ended
+        → NoLinkDueAfterXUnlessAbsentDeadOrDiskComes port (record { device = t.start; abstract = begun }) ended
         t.end
         → (NoDiskComes port.0 t.start t.end
         → ProbesDisk t.turn (record { device = t.start; abstract = begun }) ended t.end
@@ -113,8 +113,8 @@ pub fn law_turn_disk_probe_holds_for_call()
         (new : Device)
         → IsOn old.device → (t : HasTurnIn port old.device new) → IsOn t.end → SamePort ended ports port
         → SamePort old.abstract.ports begun.ports port
-        → UnusableWithXEndsNotDueAbsentOrDeadIfNoneComes port (record { device = t.start; abstract = begun })
-        ended t.end → UnusableWithXEndsNotDueAbsentOrDeadIfNoneComes port old ports new }
+        → NoLinkDueAfterXUnlessAbsentDeadOrDiskComes port (record { device = t.start; abstract = begun })
+        ended t.end → NoLinkDueAfterXUnlessAbsentDeadOrDiskComes port old ports new }
 {
     law_prerequisites();
 }

@@ -11,7 +11,7 @@ use Rattle.adapter.specs.Steps.{halt_after_start}
 use Rattle.adapter.specs.declared.tape.Entry.{Entry}
 use Rattle.refinement.specs.Fragments.{TapeGrows, NoCommandIsIssuedOrTaken}
 use Rattle.refinement.specs.Errors.{IsFatalEntryOf, NoFatalErrors}
-use Rattle.refinement.specs.PortFacts.{RecordsFaults, IsFaultOf, IsHaltedPlainOrQueued}
+use Rattle.refinement.specs.PortFacts.{RecordsFaults, IsFaultOf, IsHaltedByPlainOrQueued}
 use Rattle.refinement.specs.PreservedParts.{IsPlugEvent}
 use Rattle.adapter.specs.OneCommand.{SlotHasNoCommand}
 use Rattle.disk_page.specs.PageRequests.{LeavesPortWhileAsking}
@@ -157,10 +157,10 @@ module _ (laws : Laws) (port : Port) (outstanding : ℕ) (queued : Bool) (before
     unflagged : (new.port port.0).is 30 ≡ false
     unflagged = by ((new.port port.0).is 30) refl
       where
-        unhalted : IsHaltedPlainOrQueued (new.port port.0).halt → ⊥
-        unhalted f = not_faulted (subst IsHaltedPlainOrQueued running f)
+        unhalted : IsHaltedByPlainOrQueued (new.port port.0).halt → ⊥
+        unhalted f = not_faulted (subst IsHaltedByPlainOrQueued running f)
           where
-            not_faulted : IsHaltedPlainOrQueued NotHalted → ⊥
+            not_faulted : IsHaltedByPlainOrQueued NotHalted → ⊥
             not_faulted (inl e) = absurd cc
             not_faulted (inr e) = absurd cc
 

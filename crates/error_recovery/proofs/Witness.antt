@@ -6,12 +6,12 @@ use Rattle.hba_regs.specs.Bits.{bit}
 use Rattle.hba_regs.specs.declared.reg.PortReg.TheVariants.{Ssts}
 use Rattle.hba_regs.specs.declared.reg.Reg.TheVariants.{Px}
 use Rattle.adapter.specs.Device.{Device, Halt, Notes}
-use Rattle.adapter.specs.Device.Halt.{HaltedPlain, HaltedQueued}
+use Rattle.adapter.specs.Device.Halt.{HaltedByPlain, HaltedByQueued}
 use Rattle.adapter.specs.FirstRead.{first_read_device}
 use Rattle.adapter.specs.Memory.{changed}
 use Rattle.refinement.specs.Relation.{port_at}
 use Rattle.refinement.specs.Fragments.{SomeMachineAgrees}
-use Rattle.refinement.specs.PortFacts.{RecordsFaults, IsHaltedPlainOrQueued}
+use Rattle.refinement.specs.PortFacts.{RecordsFaults, IsHaltedByPlainOrQueued}
 use Rattle.refinement.specs.RecoveryWitness.{CommandMayHaveFailedBySstsRead}
 use Rattle.refinement.specs.TwoReadsWitness.{TwoReadsWitness, armed_slot_states, second_id, two_issued, two_reads_driver_state}
 use Rattle.refinement.specs.Slots.{Free, Serves, SlotState, SlotStates, set_slot_state}
@@ -49,7 +49,7 @@ module _ (laws : Laws) (old : Device) (slot : ℕ) (halt : Halt) (runs : RunsPla
       laws.fragments.some_machine_agrees (Recovering AnyUses (port_at 0)) (λ uses. uses) uses old f.seen tt
       (laws.fragments.reads (Recovering AnyUses (port_at 0)) (Px (port_at 0) Ssts) 3 old f.seen (inl refl) f.sees).is_simulated agreed
 
-  seen_may : IsHaltedPlainOrQueued halt → PortMayRecover 0 f.seen
+  seen_may : IsHaltedByPlainOrQueued halt → PortMayRecover 0 f.seen
   seen_may faulted =
       let s = laws.read_changes_port_register (port_at 0) Ssts 3 old f.seen f.sees runs.room.adapter_is_on.no_reset in
       let c = s.keeps.keeps_outside_reset.controls_are_kept 0 in
@@ -61,7 +61,7 @@ module _ (laws : Laws) (old : Device) (slot : ℕ) (halt : Halt) (runs : RunsPla
         no_comreset = c.sctl_det_is_kept ∙ runs.det;
         link_was_seen = ap (λ (n : Notes). n.last_ssts % 16) s.notes;
         faults_are_on_record = laws.read_keeps_fault_record 0 (Px (port_at 0) Ssts) 3 old f.seen f.sees (λ _. runs.recorded) (c.st_is_kept ∙ runs.st);
-        halted = subst IsHaltedPlainOrQueued (sym f.halted) faulted;
+        halted = subst IsHaltedByPlainOrQueued (sym f.halted) faulted;
       }
 
 -- ---- the two ports
@@ -100,18 +100,18 @@ first_alone plain slot low set = ⊎_elim
 module _ (laws : Laws)
     (here : (uses : SlotStates) (port slot : ℕ) (u : SlotState) → set_slot_state uses port slot u port slot ≡ u)
     (others : (uses : SlotStates) (port slot : ℕ) (u : SlotState) (other_port other_slot : ℕ) → (other_port ≡ port → other_slot ≡ slot → ⊥) → set_slot_state uses port slot u other_port other_slot ≡ uses other_port other_slot) where
-  pub plain_may_be_asked : CommandMayHaveFailedBySstsRead first_read_device 0 HaltedPlain → FirstReadWitness → MayRecoverWitness false
+  pub plain_may_be_asked : CommandMayHaveFailedBySstsRead first_read_device 0 HaltedByPlain → FirstReadWitness → MayRecoverWitness false
   plain_may_be_asked f k = record {
     device = f.seen;
-    adapter_is_on = (seen_room laws first_read_device 0 HaltedPlain first_runs f).adapter_is_on;
-    has_port = (seen_room laws first_read_device 0 HaltedPlain first_runs f).has_port;
-    driver_memory_fits = (seen_room laws first_read_device 0 HaltedPlain first_runs f).driver_memory_fits;
+    adapter_is_on = (seen_room laws first_read_device 0 HaltedByPlain first_runs f).adapter_is_on;
+    has_port = (seen_room laws first_read_device 0 HaltedByPlain first_runs f).has_port;
+    driver_memory_fits = (seen_room laws first_read_device 0 HaltedByPlain first_runs f).driver_memory_fits;
     machine_is_related = (
       first_slot_states,
       λ plain slot other. others (λ port at. Free) 0 0 (Serves first_id) 0 slot (λ same z. other z),
-      seen_agreed laws first_read_device 0 HaltedPlain first_runs f first_slot_states (record { machine = k.machine; parked = λ port. []; reached = k.reached; driver_relation = k.driver_relation }),
+      seen_agreed laws first_read_device 0 HaltedByPlain first_runs f first_slot_states (record { machine = k.machine; parked = λ port. []; reached = k.reached; driver_relation = k.driver_relation }),
     );
-    may_recover = seen_may laws first_read_device 0 HaltedPlain first_runs f (inl refl);
+    may_recover = seen_may laws first_read_device 0 HaltedByPlain first_runs f (inl refl);
     outstanding = 1;
     plain_is_slot_0 = first_alone;
     fault = f.fault;
@@ -122,18 +122,18 @@ module _ (laws : Laws)
     is_outstanding = ap (λ (slot : ℕ). bit 1 slot) f.fault_is_of_slot.1;
   }
 
-  pub queued_may_be_asked : CommandMayHaveFailedBySstsRead two_issued 1 HaltedQueued → TwoReadsWitness → MayRecoverWitness true
+  pub queued_may_be_asked : CommandMayHaveFailedBySstsRead two_issued 1 HaltedByQueued → TwoReadsWitness → MayRecoverWitness true
   queued_may_be_asked f k = record {
     device = f.seen;
-    adapter_is_on = (seen_room laws two_issued 1 HaltedQueued two_run f).adapter_is_on;
-    has_port = (seen_room laws two_issued 1 HaltedQueued two_run f).has_port;
-    driver_memory_fits = (seen_room laws two_issued 1 HaltedQueued two_run f).driver_memory_fits;
+    adapter_is_on = (seen_room laws two_issued 1 HaltedByQueued two_run f).adapter_is_on;
+    has_port = (seen_room laws two_issued 1 HaltedByQueued two_run f).has_port;
+    driver_memory_fits = (seen_room laws two_issued 1 HaltedByQueued two_run f).driver_memory_fits;
     machine_is_related = (
       uses,
       λ plain. absurd (true≢false plain),
-      seen_agreed laws two_issued 1 HaltedQueued two_run f uses (record { machine = k.machine; parked = λ port. []; reached = k.reached; driver_relation = k.issued }),
+      seen_agreed laws two_issued 1 HaltedByQueued two_run f uses (record { machine = k.machine; parked = λ port. []; reached = k.reached; driver_relation = k.issued }),
     );
-    may_recover = seen_may laws two_issued 1 HaltedQueued two_run f (inr refl);
+    may_recover = seen_may laws two_issued 1 HaltedByQueued two_run f (inr refl);
     outstanding = 3;
     plain_is_slot_0 = λ plain. absurd (true≢false plain);
     fault = f.fault;

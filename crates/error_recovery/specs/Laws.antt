@@ -20,7 +20,7 @@ use Rattle.refinement.specs.Relation.{StateRelation}
 use Rattle.refinement.specs.Fragments.{AnyAccess, AnySlotStates, NoCommandIsIssuedOrTaken, ReadsPortOrWrites, IsDrivenBy, AccessesNoOtherPort, GainsNoMove}
 use Rattle.refinement.specs.Driver.{AllFree, DriverState, DriverRelation}
 use Rattle.refinement.specs.Errors.{ErrorBitsRiseByErrors, NoFaults, NoFatalErrors}
-use Rattle.refinement.specs.PortFacts.{IsHaltedPlainOrQueued, IsEngineStopped, RecordsFaultsIfSt, RunsWell, ShowsFault, ShowsNoTrouble}
+use Rattle.refinement.specs.PortFacts.{IsHaltedByPlainOrQueued, IsEngineStopped, RecordsFaultsIfSt, RunsWell, ShowsFault, ShowsNoTrouble}
 use Rattle.refinement.specs.GivingUp.{with_all_parked}
 use Rattle.refinement.specs.PreservedParts.{ControlsChangeOnlyByTheirWrites, NoPlugEvents, SameAdapter, DoesNotWrite}
 use Rattle.refinement.specs.PortNotes.{NotesChangeOnlyByReadOrSctlWrite}
@@ -116,7 +116,7 @@ pub record Laws : Type 0 where
       → p.serr_x ≡ false → ((place : ℕ) → 27 ≤ place → place ≤ 29 → p.is place ≡ false) → RunsWell p
   -- the fault
   pub fault_shown : (port : Port) (v : ℕ) (old new : Device) → old.hr ≡ false → (old.port port.0).st ≡ true
-      → RecordsFaultsIfSt old.tape (old.port port.0) port.0 → IsHaltedPlainOrQueued (old.port port.0).halt
+      → RecordsFaultsIfSt old.tape (old.port port.0) port.0 → IsHaltedByPlainOrQueued (old.port port.0).halt
       → Reads (Px port Tfd) v old new
       → (s : ShowsFault (drop (new.port port.0).notes.st_set_at new.tape) (new.port port.0) port.0)
       × (v % 256 ≡ s.fault.status) × (v / 256 % 256 ≡ s.fault.error)

@@ -17,7 +17,7 @@ use Rattle.adapter.specs.declared.tape.Fault as tape_fault
 use Rattle.refinement.specs.Acts.{AnySlots, ActsByDeviceAlone, DriverSlots, AccessesAreSimulatedByActs}
 use Rattle.refinement.specs.Fragments.{SomeMachineAgreesWith, ReadsPortOrWrites, GainsNoMove}
 use Rattle.refinement.specs.Errors.{IsFatalEntryOf}
-use Rattle.refinement.specs.PortFacts.{RecordsFaults, IsHaltedPlainOrQueued, RunsWell}
+use Rattle.refinement.specs.PortFacts.{RecordsFaults, IsHaltedByPlainOrQueued, RunsWell}
 use Rattle.refinement.specs.GivingUp.{slots_with_all_parked}
 use Rattle.refinement.specs.PreservedParts.{NoPlugEvents, DoesNotWrite}
 use Rattle.refinement.specs.HaltRecovery.{IsLinked, WorksOnUnqueuedCommandsOnly}
@@ -64,7 +64,7 @@ pub record PortMayRecover (port : ℕ) (d : Device) : Type 0 where
   pub no_comreset : (d.port port).sctl_det ≡ 0
   pub link_was_seen : (d.port port).notes.last_ssts % 16 ≡ 3
   pub faults_are_on_record : RecordsFaults d.tape (d.port port) port
-  pub halted : IsHaltedPlainOrQueued (d.port port).halt
+  pub halted : IsHaltedByPlainOrQueued (d.port port).halt
 
 -- ---- what is done
 

@@ -14,7 +14,7 @@ use refinement::fragments::{
     law_tapes_satisfy_tape_laws,
 };
 use refinement::giving_up::{
-    law_giving_up_stopped_port_slots_agrees, law_slot_in_use_or_faulted_is_outstanding,
+    law_giving_up_stopped_port_slots_agrees, law_issued_taken_or_faulted_is_outstanding,
 };
 use refinement::laws::law_setting_changes_one_slot;
 use refinement::port_facts::{
@@ -44,7 +44,7 @@ pub fn law_prerequisites()
     law_noted_reads_change_only_by_read_or_sctl();
     law_serr_n_clear_means_no_plug_event();
     law_started_port_without_trouble_runs_well();
-    law_slot_in_use_or_faulted_is_outstanding();
+    law_issued_taken_or_faulted_is_outstanding();
     law_giving_up_stopped_port_slots_agrees();
     law_access_kinds_satisfy_fragment_laws::<Brand>();
     law_port_register_accesses_are_of_port::<Brand>();

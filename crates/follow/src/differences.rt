@@ -1,6 +1,6 @@
 // Which bits of a register are compared, and which differences are known.
 ghost use Rattle.std.specs.Prelude.{◌≡◌, ◌↔◌, ◌<◌, IsTrue, false, slice_index_or, slice_set, true};
-ghost use Rattle.follow.specs.ComparedBits.{MatchesUpToKnownDifferences, difference_bits, compared_bits, difference_of, modelled_bits, modelled_port_bits, difference_index, shown_difference};
+ghost use Rattle.follow.specs.ComparedBits.{AgreesInComparedBits, difference_bits, compared_bits, difference_of, modelled_bits, modelled_port_bits, difference_index, shown_difference};
 
 use hba_regs::{PortReg, Reg};
 use std::fmt;
@@ -28,7 +28,7 @@ pub enum KnownDifference {
     InterruptCauses,
     /// PxTFD but for BSY and DRQ, while no plain command has failed on the port: the server uses status and error of a
     /// failed plain command alone (AHCI 1.3.1, 6.2.2); of a queued one it asks the log.
-    StatusWithoutFault,
+    TaskFileWhileNoPlainFailed,
     /// PxCI of a slot whose command has failed: it stays set until ST is zero (AHCI 1.3.1, 3.3.14), but an adapter may
     /// clear that of a plain one, and may set that of a queued one that it has refused. A server that were told so
     /// would take a failed plain command for done.
@@ -46,7 +46,7 @@ impl KnownDifference {
         KnownDifference::FurtherPorts,
         KnownDifference::AlwaysAhci,
         KnownDifference::InterruptCauses,
-        KnownDifference::StatusWithoutFault,
+        KnownDifference::TaskFileWhileNoPlainFailed,
         KnownDifference::FailedSlots,
         KnownDifference::SactOfUntakenSlots,
     ];
@@ -61,24 +61,24 @@ impl KnownDifference {
             KnownDifference::FurtherPorts => 1,
             KnownDifference::AlwaysAhci => 2,
             KnownDifference::InterruptCauses => 3,
-            KnownDifference::StatusWithoutFault => 4,
+            KnownDifference::TaskFileWhileNoPlainFailed => 4,
             KnownDifference::FailedSlots => 5,
             KnownDifference::SactOfUntakenSlots => 6,
         }
     }
 
-    /// Its bits, where these slots of the register's port are known to differ.
-    pub fn bits(self, slots: u32) -> u32
-        ensures { result ≡ difference_bits self slots }
+    /// Its bits, where the slots in this mask, of the register's port, are known to differ.
+    pub fn bits(self, slot_mask: u32) -> u32
+        ensures { result ≡ difference_bits self slot_mask }
     {
         match self {
             KnownDifference::OtherCapabilities => 0xbfff_e0ff,
             KnownDifference::FurtherPorts => 0xffff_fff0,
             KnownDifference::AlwaysAhci => 0x8000_0000,
             KnownDifference::InterruptCauses => 0x0000_000b,
-            KnownDifference::StatusWithoutFault if slots == 0 => 0x0000_ff77,
-            KnownDifference::StatusWithoutFault => 0,
-            KnownDifference::FailedSlots | KnownDifference::SactOfUntakenSlots => slots,
+            KnownDifference::TaskFileWhileNoPlainFailed if slot_mask == 0 => 0x0000_ff77,
+            KnownDifference::TaskFileWhileNoPlainFailed => 0,
+            KnownDifference::FailedSlots | KnownDifference::SactOfUntakenSlots => slot_mask,
         }
     }
 
@@ -91,7 +91,7 @@ impl KnownDifference {
             Reg::Pi => Some(KnownDifference::FurtherPorts),
             Reg::Ghc => Some(KnownDifference::AlwaysAhci),
             Reg::Px(_, PortReg::Is) => Some(KnownDifference::InterruptCauses),
-            Reg::Px(_, PortReg::Tfd) => Some(KnownDifference::StatusWithoutFault),
+            Reg::Px(_, PortReg::Tfd) => Some(KnownDifference::TaskFileWhileNoPlainFailed),
             Reg::Px(_, PortReg::Ci) => Some(KnownDifference::FailedSlots),
             Reg::Px(_, PortReg::Sact) => Some(KnownDifference::SactOfUntakenSlots),
             _ => None,
@@ -129,31 +129,36 @@ fn modelled_bits(r: Reg) -> u32
 }
 
 /// The bits of a register that are compared: those that the definitions name, but for the known difference.
-fn compared(r: Reg, slots: u32) -> u32
-    ensures { result ≡ compared_bits r slots }
+fn compared(r: Reg, slot_mask: u32) -> u32
+    ensures { result ≡ compared_bits r slot_mask }
 {
     match KnownDifference::of(r) {
-        Some(known) => modelled_bits(r) & !known.bits(slots),
+        Some(known) => modelled_bits(r) & !known.bits(slot_mask),
         None => modelled_bits(r),
     }
 }
 
 /// Whether two values of a register agree, where these slots of its port are known to differ: those whose commands
 /// failed, of PxTFD the plain ones of these, and of PxSACT those that were not taken before a queued one failed.
-pub fn matches_up_to_known_differences(r: Reg, slots: u32, shown: u32, said: u32) -> bool
-    ensures { IsTrue result ↔ MatchesUpToKnownDifferences r slots shown said }
+pub fn agrees_in_compared_bits(r: Reg, slot_mask: u32, model_value: u32, peer_value: u32) -> bool
+    ensures { IsTrue result ↔ AgreesInComparedBits r slot_mask model_value peer_value }
 {
-    let bits = compared(r, slots);
-    shown & bits == said & bits
+    let bits = compared(r, slot_mask);
+    model_value & bits == peer_value & bits
 }
 
 /// The known difference that two values of a register show, if they show one.
-pub fn shown_difference_of(r: Reg, slots: u32, shown: u32, said: u32) -> Option<KnownDifference>
-    ensures { result ≡ shown_difference r slots shown said }
+pub fn shown_difference_of(
+    r: Reg,
+    slot_mask: u32,
+    model_value: u32,
+    peer_value: u32,
+) -> Option<KnownDifference>
+    ensures { result ≡ shown_difference r slot_mask model_value peer_value }
 {
     let known = KnownDifference::of(r)?;
-    let bits = modelled_bits(r) & known.bits(slots);
-    if shown & bits == said & bits {
+    let bits = modelled_bits(r) & known.bits(slot_mask);
+    if model_value & bits == peer_value & bits {
         return None;
     }
     Some(known)

@@ -1,9 +1,9 @@
 // The model, followed beside its peer.
 ghost use Rattle.std.specs.Prelude.{◌≡◌, ◌+◌, ◌<◌, ◌||◌, IfSome, None, is_some, slice_index, true};
 ghost use Rattle.adapter.specs.{Access.{Reads}, Rules.{MayRead}};
-ghost use Rattle.follow.specs.{ComparedBits.{MatchesUpToKnownDifferences, shown_difference}, DifferingSlots.{AddsSlotIf, GoesOnBySteps, NotesFailed, with_difference_met, slots_behind_difference}};
+ghost use Rattle.follow.specs.{ComparedBits.{AgreesInComparedBits, shown_difference}, DifferingSlots.{AddsSlotIf, GoesOnBySteps, NotesFailed, with_difference_met, slots_behind_difference}};
 
-use crate::differences::{MetDifferences, matches_up_to_known_differences, shown_difference_of};
+use crate::differences::{MetDifferences, agrees_in_compared_bits, shown_difference_of};
 use crate::divergence::Divergence;
 use crate::peer::{Peer, PeerFault};
 use adapter::laws::{law_step_lists_keep_what_steps_keep, law_steps_compose};
@@ -94,7 +94,7 @@ pub struct Followed<A, P> {
     /// Which slots may differ.
     differing: DifferingSlotMasks,
     /// By port, PxCMD as the peer showed it last.
-    commands: [u32; PORTS],
+    last_peer_cmd: [u32; PORTS],
     /// What the peer showed last of the register that was read last.
     said: u32,
     /// The known differences that were met.
@@ -114,7 +114,7 @@ impl<A: Inspectable, P: Peer> Followed<A, P> {
             model,
             peer,
             differing: DifferingSlotMasks::NONE,
-            commands: [0; PORTS],
+            last_peer_cmd: [0; PORTS],
             said: 0,
             met_differences: MetDifferences::NONE,
             divergence: None,
@@ -468,8 +468,8 @@ impl<A: Inspectable, P: Peer> Followed<A, P> {
             PortReg::Ssts => self.follow_link(port, SataStatus(shown), SataStatus(said)),
             PortReg::Tfd => self.follow_task_file(port, TaskFile(shown), TaskFile(said)),
             PortReg::Cmd => {
-                self.commands[usize::from(port.0)] = said;
-                if !matches_up_to_known_differences(Reg::Px(port, r), 0, shown, said) {
+                self.last_peer_cmd[usize::from(port.0)] = said;
+                if !agrees_in_compared_bits(Reg::Px(port, r), 0, shown, said) {
                     // An engine fell: the model's falls before its reading.
                     let _released = self.go(DeviceStep::Release(port));
                 }
@@ -554,7 +554,7 @@ impl<A: Inspectable, P: Peer> Followed<A, P> {
     fn value_for_peer(&self, r: Reg, v: u32) -> u32 {
         match r {
             Reg::Px(port, PortReg::Cmd) if port.0 < 4 => {
-                self.commands[usize::from(port.0)] & !SWITCHES | v & SWITCHES
+                self.last_peer_cmd[usize::from(port.0)] & !SWITCHES | v & SWITCHES
             }
             _ => v,
         }
@@ -588,7 +588,7 @@ impl<A: Inspectable, P: Peer> Followed<A, P> {
         requires told { said ≡ None → is_some self.old.divergence ≡ true }
         ensures model { self.new.model ≡ self.old.model }
         ensures alike { self.new.divergence ≡ None
-            → MatchesUpToKnownDifferences r (slots_behind_difference r self.new.differing) shown self.new.said }
+            → AgreesInComparedBits r (slots_behind_difference r self.new.differing) shown self.new.said }
         ensures passed { self.new.divergence ≡ None → self.new.met_differences.met
             ≡ with_difference_met (shown_difference r
             (slots_behind_difference r self.new.differing) shown self.new.said) self.old.met_differences.met }
@@ -601,7 +601,7 @@ impl<A: Inspectable, P: Peer> Followed<A, P> {
             return;
         }
         let slots = self.differing.of(r);
-        if !matches_up_to_known_differences(r, slots, shown, said) {
+        if !agrees_in_compared_bits(r, slots, shown, said) {
             self.divergence = Some(Divergence::Register {
                 register: r,
                 shown,
@@ -701,7 +701,7 @@ impl<A: Inspectable, P: Peer> Adapter for Followed<A, P> {
         ensures reads { Reads r result (A.device self.old.model) (A.device self.new.model) }
         ensures counted { A.access_count self.new.model ≡ A.access_count self.old.model + 1 }
         ensures alike { self.new.divergence ≡ None
-            → MatchesUpToKnownDifferences r (slots_behind_difference r self.new.differing) result self.new.said }
+            → AgreesInComparedBits r (slots_behind_difference r self.new.differing) result self.new.said }
     {
         law_steps_compose();
         law_step_lists_keep_what_steps_keep();

@@ -19,8 +19,8 @@ use Rattle.port_control.specs.declared.PortFault.TheVariants.{NoDevice}
 use Rattle.port_boot.specs.States.{IsSimulatedBootTo, IsOnWithPortMemoryAndFreeSlots, IsBootAccess}
 use Rattle.host_boot.specs.Reboots.{RebootsPort, RebootsWithDet3OrFindsAbsent, EndsReadyOrUnready, IsCapPiOrBootAccess}
 use Rattle.host_boot.specs.Laws.{Laws}
-use Rattle.host_boot.specs.Laws.AccessPurpose.{Clearing, Rebooting, ReadingCapAndPi}
-use Rattle.host_boot.specs.TakeOver.{IsSimulatedBootOrNothing, StopsAndBootsOrDoesNothing, ReadyQueuedHaltIsOfTaken, ReadsCapOrPi, BacksProbeResult, WroteSctlUnlessUnservedOrDead}
+use Rattle.host_boot.specs.Laws.AccessPurpose.{ClearingSerrOrIs, Rebooting, ReadingCapAndPi}
+use Rattle.host_boot.specs.TakeOver.{IsSimulatedBootOrNothing, StopsAndBootsOrDoesNothing, ReadyPortHaltFitsTakenCommands, ReadsCapOrPi, BacksProbeResult, WroteSctlUnlessUnservedOrDead}
 use Rattle.host_boot.specs.declared.Booted.{Booted}
 use Rattle.host_boot.specs.declared.ProbeResult.{ProbeResult}
 use Rattle.host_boot.specs.declared.ProbeResult.TheVariants.{Unserved, Ready, Unready}
@@ -42,8 +42,8 @@ stopped_on old new l is = record {
 }
 
 -- what halts a port that is ready then
-pub found_halts : (wanted : Wanted) (port : Port) (old new : Device) (found : ProbeResult) → EndsReadyOrUnready wanted port found old new → ReadyQueuedHaltIsOfTaken found port.0 new
-found_halts wanted port old new found b info is = (subst (λ (f : ProbeResult). EndsReadyOrUnready wanted port f old new) is b).halt_is_of_taken
+pub found_halts : (wanted : Wanted) (port : Port) (old new : Device) (found : ProbeResult) → EndsReadyOrUnready wanted port found old new → ReadyPortHaltFitsTakenCommands found port.0 new
+found_halts wanted port old new found b info is = (subst (λ (f : ProbeResult). EndsReadyOrUnready wanted port f old new) is b).halt_fits_taken_commands
 
 -- looking at a port is of its boot
 clearing_of_start : (port : Port) (access : Access) → ReadsPortOrWrites IsSerrOrIs port access → IsCapPiOrBootAccess port access
@@ -130,10 +130,10 @@ module _ (laws : Laws) where
       -- and then the port is looked at
       module _ (seen : Device) (looks : IsSimulated (ReadsPortOrWrites IsSerrOrIs port) AnySlotStates asked seen) where
         pub seen_starts : IsSimulated (IsCapPiOrBootAccess port) (λ uses. AllFree uses port.0) old seen
-        seen_starts = (laws.fragments.fragments_join (Rebooting port) (Clearing port) (λ uses. uses) (λ uses. uses) (clearing_of_start port) (λ uses free. tt) old asked seen asked_starts looks).is_simulated
+        seen_starts = (laws.fragments.fragments_join (Rebooting port) (ClearingSerrOrIs port) (λ uses. uses) (λ uses. uses) (clearing_of_start port) (λ uses free. tt) old asked seen asked_starts looks).is_simulated
 
         pub seen_bootable : IsOn seen → IsOnWithPortMemoryAndFreeSlots port asked → IsOnWithPortMemoryAndFreeSlots port seen
-        seen_bootable on b = bootable_over laws (Clearing port) port asked seen (λ uses free. tt) looks b.has_port b.driver_memory_fits b.machine_is_related on
+        seen_bootable on b = bootable_over laws (ClearingSerrOrIs port) port asked seen (λ uses free. tt) looks b.has_port b.driver_memory_fits b.machine_is_related on
 
         -- it shows a device, and is booted
         pub seen_boots : (booted : Booted) (wanted : Wanted) (new : Device) → (seen.port port.0).ssts_det ≡ 3 → EndsReadyOrUnready wanted port booted.found seen new →

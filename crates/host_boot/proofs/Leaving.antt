@@ -81,7 +81,7 @@ module _ (laws : Laws) where
   -- ---- what the device does by itself, and accesses of the adapter's own registers
 
   pub steps_same : (old new : Device) → Steps old new → SameAdapter old new
-  steps_same old new s = let k : KeepsOverSteps old new = laws.steps_keep_adapter_and_notes _ _ s in record { telling = k.telling_is_kept; memory_size = k.memory_size_is_kept; cap = k.cap_is_kept; pi = k.pi_is_kept }
+  steps_same old new s = let k : KeepsOverSteps old new = laws.steps_keep_adapter_and_notes _ _ s in record { disks_tell_sectors = k.disks_tell_sectors_is_kept; memory_size = k.memory_size_is_kept; cap = k.cap_is_kept; pi = k.pi_is_kept }
 
   module _ (old : Device) (off : old.hr ≡ false) (port : ℕ) where
     pub steps_leave : (mid : Device) → Steps old mid → OnlyDeviceChangesPort (old.port port) (mid.port port)

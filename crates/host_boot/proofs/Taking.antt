@@ -29,7 +29,7 @@ use Rattle.identify.specs.declared.wanted.Wanted.{Wanted}
 use Rattle.identify.specs.declared.wanted.Wanted.TheVariants.{Nothing}
 use Rattle.port_control.specs.Engines.{StopsEachEngine}
 use Rattle.port_boot.specs.States.{IsSimulatedBoot, IsSimulatedBootTo, IsBootAccess}
-use Rattle.host_boot.specs.TakeOver.{IsSimulatedBootOrNothing, SwitchesOnBootsAndEnablesInterrupts, ReadyQueuedHaltIsOfTaken, IsUnusedOrIdentifyOfDeadPort, ReadsCapOrPiOrSetsAe, IsTakeOverAccess, OnlyDeviceChangesPorts, BacksProbeResult, TakesOver, ShowsEnginesStoppedOrStuck, WroteSctlUnlessUnservedOrDead, probe_result_of, unused_slots, wanted_of}
+use Rattle.host_boot.specs.TakeOver.{IsSimulatedBootOrNothing, SwitchesOnBootsAndEnablesInterrupts, ReadyPortHaltFitsTakenCommands, IsUnusedOrIdentifyOfDeadPort, ReadsCapOrPiOrSetsAe, IsTakeOverAccess, OnlyDeviceChangesPorts, BacksProbeResult, TakesOver, ShowsEnginesStoppedOrStuck, WroteSctlUnlessUnservedOrDead, probe_result_of, unused_slots, wanted_of}
 use Rattle.host_boot.specs.declared.Host.{Host}
 use Rattle.host_boot.specs.declared.ProbeResult.{ProbeResult}
 use Rattle.host_boot.specs.declared.ProbeResult.TheVariants.{Unserved, Ready, Unready}
@@ -62,7 +62,7 @@ pub record IsUnderway (wanted : List Wanted) (ports : List ProbeResult) (n : ℕ
   pub agreed : SomeMachineAgrees uses d
   pub stands : (port : ℕ) → port < n → BacksProbeResult (wanted_of wanted port) (probe_result_of ports port) port d
   pub reset : (port : ℕ) → port < n → WroteSctlUnlessUnservedOrDead (probe_result_of ports port) port (length start.tape) d
-  pub halts : (port : ℕ) → port < n → ReadyQueuedHaltIsOfTaken (probe_result_of ports port) port d
+  pub halts : (port : ℕ) → port < n → ReadyPortHaltFitsTakenCommands (probe_result_of ports port) port d
   pub idle : (port : ℕ) → n ≤ port → IsIdlePort (d.port port)
 
 host_spares : (q : Port) (r : PortReg) → NoneWrites ReadsCapOrPiOrSetsAe (Px q r)
@@ -81,7 +81,7 @@ host_spares q r (Writing (Px p x) v) is = absurd is
 module _ (laws : Laws) where
   -- what halts a port is of a taken command still, over what was followed without a write of its PxCMD, where it was found ready
   still_halts : (May : Access → Type 0) (Fits : SlotStates → Type 0) (next : SlotStates → SlotStates) (uses : SlotStates) (q : ℕ) (old new : Device) → NoneWrites May (Px (port_at q) Cmd) → Fits uses
-      → IsSimulatedChangingUses May Fits next old new → SomeMachineAgrees uses old → (wanted : Wanted) (found : ProbeResult) → BacksProbeResult wanted found q new → ReadyQueuedHaltIsOfTaken found q old → ReadyQueuedHaltIsOfTaken found q new
+      → IsSimulatedChangingUses May Fits next old new → SomeMachineAgrees uses old → (wanted : Wanted) (found : ProbeResult) → BacksProbeResult wanted found q new → ReadyPortHaltFitsTakenCommands found q old → ReadyPortHaltFitsTakenCommands found q new
   still_halts May Fits next uses q old new spares fits f a wanted found stands halts info is =
       let slots : DriverSlots = record { slot_states = uses; awaiting_disposition = a.parked } in
       let c = f.acts_reach slots a.machine a.reached a.driver_relation fits in
@@ -108,7 +108,7 @@ module _ (laws : Laws) where
 
   module _ (wanted : List Wanted) (ports : List ProbeResult) (port : Port) (below : port.0 < 4) (start old new : Device) (found : ProbeResult)
       (u : IsUnderway wanted ports port.0 start old) (on : IsOn new) (stands : BacksProbeResult (wanted_of wanted port.0) found port.0 new)
-      (reset : WroteSctlUnlessUnservedOrDead found port.0 (length old.tape) new) (halts : ReadyQueuedHaltIsOfTaken found port.0 new) where
+      (reset : WroteSctlUnlessUnservedOrDead found port.0 (length old.tape) new) (halts : ReadyPortHaltFitsTakenCommands found port.0 new) where
     abbrev Later : Type 0
     Later = IsUnderway wanted (slice_set ports port.0 found) (port.0 + 1) start new
 
@@ -226,14 +226,14 @@ module _ (laws : Laws) where
     -- what halts the ports
     later_halts : (next : SlotStates → SlotStates) → IsSimulatedChangingUses (IsBootAccess port) (λ uses. AllFree uses port.0) next old new
         → ((q : ℕ) → q < port.0 + 1 → BacksProbeResult (wanted_of wanted q) (probe_result_of (slice_set ports port.0 found) q) q new)
-        → (q : ℕ) → q < port.0 + 1 → ReadyQueuedHaltIsOfTaken (probe_result_of (slice_set ports port.0 found) q) q new
+        → (q : ℕ) → q < port.0 + 1 → ReadyPortHaltFitsTakenCommands (probe_result_of (slice_set ports port.0 found) q) q new
     later_halts next f stand q less = elim (cases_eq q port.0) [
       | inl e ↦
-          let P : ℕ → Type 0 = λ k. ReadyQueuedHaltIsOfTaken (probe_result_of (slice_set ports port.0 found) k) k new in
-          let Q : ProbeResult → Type 0 = λ f. ReadyQueuedHaltIsOfTaken f port.0 new in
+          let P : ℕ → Type 0 = λ k. ReadyPortHaltFitsTakenCommands (probe_result_of (slice_set ports port.0 found) k) k new in
+          let Q : ProbeResult → Type 0 = λ f. ReadyPortHaltFitsTakenCommands f port.0 new in
           subst P (sym e) (subst Q (sym here_is) halts)
       | inr other ↦
-          let Q : ProbeResult → Type 0 = λ f. ReadyQueuedHaltIsOfTaken f q old in
+          let Q : ProbeResult → Type 0 = λ f. ReadyPortHaltFitsTakenCommands f q old in
           still_halts (IsBootAccess port) (λ uses. AllFree uses port.0) next u.uses q old new (λ access may. laws.one_port_spares_registers port (port_at q) Cmd other access (laws.boot_access_is_of_port port access may)) unused_here f u.agreed
           (wanted_of wanted q) (probe_result_of (slice_set ports port.0 found) q) (stand q less) (subst Q (sym (other_is q other)) (u.halts q (omega (arith, less, other))))
     ]
@@ -349,11 +349,11 @@ module _ (laws : Laws) where
           ];
           halts = λ q less. elim (cases_eq q port.0) [
             | inl e ↦
-                let R : ℕ → Type 0 = λ k. ReadyQueuedHaltIsOfTaken (probe_result_of (slice_set ports port.0 found) k) k old in
-                let Q : ProbeResult → Type 0 = λ f. ReadyQueuedHaltIsOfTaken f port.0 old in
+                let R : ℕ → Type 0 = λ k. ReadyPortHaltFitsTakenCommands (probe_result_of (slice_set ports port.0 found) k) k old in
+                let Q : ProbeResult → Type 0 = λ f. ReadyPortHaltFitsTakenCommands f port.0 old in
                 subst R (sym e) (subst Q (sym (here_is ∙ is)) (λ info ready. let z : Unserved ≡ Ready info = ready in absurd cc))
             | inr other ↦
-                let Q : ProbeResult → Type 0 = λ f. ReadyQueuedHaltIsOfTaken f q old in
+                let Q : ProbeResult → Type 0 = λ f. ReadyPortHaltFitsTakenCommands f q old in
                 subst Q (sym (other_is q other)) (u.halts q (omega (arith, less, other)))
           ];
           idle = λ q more. u.idle q (omega (arith, more));
@@ -436,8 +436,8 @@ module _ (laws : Laws) where
         sctl_was_written_unless_unserved_or_dead = λ port less.
             let P : List ProbeResult → Type 0 = λ ps. WroteSctlUnlessUnservedOrDead (probe_result_of ps port) port (length start.tape) new in
             subst P (sym is) (reset_on port d new (leaves port) (probe_result_of ports port) (length start.tape) (u.reset port less));
-        halt_is_of_taken = λ port less.
-            let P : List ProbeResult → Type 0 = λ ps. ReadyQueuedHaltIsOfTaken (probe_result_of ps port) port new in
+        halt_fits_taken_commands = λ port less.
+            let P : List ProbeResult → Type 0 = λ ps. ReadyPortHaltFitsTakenCommands (probe_result_of ps port) port new in
             subst P (sym is) (still_halts ReadsCapOrPiOrSetsAe AnySlotStates (λ uses. uses) u.uses port d new (host_spares (port_at port) Cmd) tt f u.agreed (wanted_of wanted port) (probe_result_of ports port)
             (stands_on laws.probe_results port d new (leaves port) (same_over laws ReadsCapOrPiOrSetsAe d new f.is_driven) (wanted_of wanted port) (probe_result_of ports port) (silent port) (u.stands port less)) (u.halts port less));
         switches_on_and_boots = let P : List ProbeResult → Type 0 = λ ps. SwitchesOnBootsAndEnablesInterrupts ps start new in subst P (sym is) way;

@@ -21,7 +21,7 @@ use Rattle.refinement.specs.PreservedParts.{HasDet3IfDiskPresent, SameAdapter, D
 use Rattle.block_machine.specs.Histories.{IsReachable}
 use Rattle.block_machine.specs.State.{Machine}
 use Rattle.adapter.specs.declared.command.Operation.TheVariants.{Identify}
-use Rattle.adapter.specs.Idle.{IsIdle, DisksAreKnownIfTelling}
+use Rattle.adapter.specs.Idle.{IsIdle, DisksAreKnownIfTheyTell}
 use Rattle.host_boot.specs.Reboots.{IsCapPiOrBootAccess}
 use Rattle.host_boot.specs.Resets.{IsResetAccess}
 use Rattle.host_boot.specs.TakeOver.{ReadsCapOrPiOrSetsAe, IsTakeOverAccess, ReadsCapOrPi}
@@ -49,14 +49,14 @@ slot_uses_meeting (PortUnused port) = λ uses. AllFree uses port.0
 slot_uses_meeting (ExactUses uses) = SameSlotStates uses
 
 -- a port is stopped, or booted, with none of its slots used; registers of the adapter's own are read and written, or
--- CAP and PI alone are read; a port is looked at, or all of this is done for its boot; or all ports are taken over; or
--- the adapter is reset
+-- CAP and PI alone are read; a port is looked at, and its PxSERR or PxIS cleared, or all of this is done for its boot;
+-- or all ports are taken over; or the adapter is reset
 pub data AccessPurpose : Type 0 where
   Commanding : Port → AccessPurpose
   Booting : Port → AccessPurpose
   AccessingHostRegisters : AccessPurpose
   ReadingCapAndPi : AccessPurpose
-  Clearing : Port → AccessPurpose
+  ClearingSerrOrIs : Port → AccessPurpose
   Rebooting : Port → AccessPurpose
   TakingOver : List Wanted → SlotCondition → AccessPurpose
   Resetting : AccessPurpose
@@ -66,7 +66,7 @@ accesses_for (Commanding port) = ReadsPortOrWrites IsCommandRegister port
 accesses_for (Booting port) = IsBootAccess port
 accesses_for AccessingHostRegisters = ReadsCapOrPiOrSetsAe
 accesses_for ReadingCapAndPi = ReadsCapOrPi
-accesses_for (Clearing port) = ReadsPortOrWrites IsSerrOrIs port
+accesses_for (ClearingSerrOrIs port) = ReadsPortOrWrites IsSerrOrIs port
 accesses_for (Rebooting port) = IsCapPiOrBootAccess port
 accesses_for (TakingOver wanted fitting) = IsTakeOverAccess wanted
 accesses_for Resetting = IsResetAccess
@@ -76,7 +76,7 @@ slot_uses_for (Commanding port) = AnySlotStates
 slot_uses_for (Booting port) = λ uses. AllFree uses port.0
 slot_uses_for AccessingHostRegisters = AnySlotStates
 slot_uses_for ReadingCapAndPi = AnySlotStates
-slot_uses_for (Clearing port) = AnySlotStates
+slot_uses_for (ClearingSerrOrIs port) = AnySlotStates
 slot_uses_for (Rebooting port) = λ uses. AllFree uses port.0
 slot_uses_for (TakingOver wanted fitting) = slot_uses_meeting fitting
 slot_uses_for Resetting = AnySlotStates
@@ -146,7 +146,7 @@ pub record Laws : Type 0 where
   pub accesses_keep_adapter : (old new : Device) → IsDrivenBy AnyAccess old new → SameAdapter old new
   pub accesses_extend_tape : (old new : Device) → IsDrivenBy AnyAccess old new → (gained : List Entry)
       × (new.tape ≡ old.tape ++ gained)
-  pub idle_device_is_related : (d : Device) → IsIdle d → DisksAreKnownIfTelling d
+  pub idle_device_is_related : (d : Device) → IsIdle d → DisksAreKnownIfTheyTell d
       → SomeMachineAgrees (λ port slot. Free) d
   pub set_slot_has_state : (uses : SlotStates) (port slot : ℕ) (u : SlotState)
       → set_slot_state uses port slot u port slot ≡ u

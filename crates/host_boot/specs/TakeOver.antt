@@ -79,9 +79,9 @@ WroteSctlUnlessUnservedOrDead Unserved port since d = Unit {0}
 WroteSctlUnlessUnservedOrDead (Unready Dead) port since d = Unit {0}
 WroteSctlUnlessUnservedOrDead _ port since d = since ≤ (d.port port).notes.sctl_written_at
 
--- what halts a port that was found ready is of a command that is taken
-abbrev pub ReadyQueuedHaltIsOfTaken : ProbeResult → ℕ → Device → Type 0
-ReadyQueuedHaltIsOfTaken found port d = (info : DiskInfo) → found ≡ Ready info
+-- what halts a port that was found ready fits the commands that are taken
+abbrev pub ReadyPortHaltFitsTakenCommands : ProbeResult → ℕ → Device → Type 0
+ReadyPortHaltFitsTakenCommands found port d = (info : DiskInfo) → found ≡ Ready info
     → HaltFitsTakenCommands (d.port port)
 
 -- What accesses tell of the engines of a port that was found to be this: both fell, as was read after each was cleared.
@@ -157,12 +157,12 @@ pub record MayBootIdlePort (port : Port) (implemented : ℕ) (d : Device) : Type
   pub machine_is_related : SomeMachineAgreesWith (λ uses. AllFree uses port.0) d
   pub idle : IsIdlePort (d.port port.0)
 
--- It was found to be this: what stands behind that; PxSCTL was written in it; what halts a ready one is of a command
--- that is taken; what it is to a machine that agrees; and its way.
+-- It was found to be this: what stands behind that; PxSCTL was written in it; what halts a ready one fits the
+-- commands that are taken; what it is to a machine that agrees; and its way.
 pub record BootsAndFindsPort (wanted : Wanted) (port : Port) (found : ProbeResult) (old new : Device) : Type 0 where
   pub result_is_backed : BacksProbeResult wanted found port.0 new
   pub sctl_was_written_unless_unserved_or_dead : WroteSctlUnlessUnservedOrDead found port.0 (length old.tape) new
-  pub halt_is_of_taken : ReadyQueuedHaltIsOfTaken found port.0 new
+  pub halt_fits_taken_commands : ReadyPortHaltFitsTakenCommands found port.0 new
   pub boots : IsSimulatedBootOrNothing port found old new
   pub stops_and_boots : StopsAndBootsOrDoesNothing port found old new
 
@@ -210,7 +210,8 @@ pub record TakesOver (wanted : List Wanted) (host : Host) (old new : Device) : T
       new
   pub sctl_was_written_unless_unserved_or_dead : (port : ℕ) → port < 4
       → WroteSctlUnlessUnservedOrDead (probe_result_of host.ports port) port (length old.tape) new
-  pub halt_is_of_taken : (port : ℕ) → port < 4 → ReadyQueuedHaltIsOfTaken (probe_result_of host.ports port) port new
+  pub halt_fits_taken_commands : (port : ℕ) → port < 4
+      → ReadyPortHaltFitsTakenCommands (probe_result_of host.ports port) port new
   pub switches_on_and_boots : SwitchesOnBootsAndEnablesInterrupts host.ports old new
   pub uses : SlotStates
   pub slots_are_unused_or_dead : (port slot : ℕ) → IsUnusedOrIdentifyOfDeadPort host.ports uses port slot

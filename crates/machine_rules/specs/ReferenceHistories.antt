@@ -36,7 +36,7 @@ step_of (Plugged port fill) = PlugDisk port 0 0 (λ k b. sector_fill_byte fill k
 
 -- happenings as steps
 abbrev pub history_of : List DiskEvent → List Step
-history_of happened = map step_of happened
+history_of newest_first = map step_of newest_first
 
 -- a machine each of whose disks has in all places of sector k the byte fill + k
 abbrev pub machine_with_sectors_filled_from : ℕ → Machine

@@ -16,7 +16,7 @@ use Rattle.block_machine.specs.Confinement.{KeepsLimitsAndHoldsOwnFrames}
 use Rattle.block_machine.specs.Events.{AbstractState, CallRecord, AnswersLawfulAndWaitsOnStoppedPorts, EveryReadHoldsExpected, IsLawfulAnswer, IsRun, issues_id, abstract_after_all, steps_of, AllEnabled}
 use Rattle.block_machine.proofs.Members.{contains_none, contains_here, contains_there, contains_cases, map_in, into_map, at_cases, without_in, append_in}
 use Rattle.block_machine.proofs.Keeps.{older_keeps, older_issued}
-use Rattle.block_machine.proofs.Limits.{law_request_limits_hold_and_frames_are_lent, older_issues}
+use Rattle.block_machine.proofs.Limits.{law_book_limits_hold_and_frames_are_lent, older_issues}
 use Rattle.block_machine.proofs.Sound.{Sound}
 use Rattle.block_machine.proofs.Runs.{traced, nobody}
 use Rattle.block_machine.proofs.Counting.{count_cons, count_append, issued_not_due}
@@ -153,7 +153,7 @@ counted_step m (Load k f o b) id n may s limits c = counted_on m (after_step m (
 counted : (start : Machine) (h : List Step) (id : RequestId) → IsInitial start → AllEnabled start h → IsCounted (after start h) id (count_by (issues_id id) h)
 counted start [] id s enabled = record { most = omega arith; none = λ le. refl; here = λ e h same. absurd (nobody start s e (inl h)) }
 counted start (step ∷ past) id s enabled = subst (IsCounted (after start (step ∷ past)) id) (sym (count_cons (issues_id id) step past))
-    (counted_step (after start past) step id (count_by (issues_id id) past) enabled.1 (traced start past s enabled.0).sound (law_request_limits_hold_and_frames_are_lent start (step ∷ past) s enabled) (counted start past id s enabled.0))
+    (counted_step (after start past) step id (count_by (issues_id id) past) enabled.1 (traced start past s enabled.0).sound (law_book_limits_hold_and_frames_are_lent start (step ∷ past) s enabled) (counted start past id s enabled.0))
 
 pub law_issued_four_times_at_most : {D : Type 0} (first : AbstractState) (run : List (CallRecord D)) (id : RequestId) → IsRun first run → count_by (issues_id id) (steps_of run) ≤ 4
 law_issued_four_times_at_most first run id r = (counted first.machine (steps_of run) id (run_starts first run r) (run_steps_are_enabled first run r)).most

@@ -9,7 +9,7 @@ use Rattle.ata_types.specs.declared.request.RequestId.{RequestId}
 use Rattle.block_machine.specs.declared.due.QueueMode.{QueueMode}
 use Rattle.block_machine.specs.declared.due.Unanswered.{Unanswered}
 use Rattle.block_machine.specs.DueRequests.{NoneDue, unblocked_ahead_count, waits_for, is_waiting_and_unblocked, is_earlier_on_port, is_plain, issued_count}
-use Rattle.block_machine.specs.Ports.{Ports, Evidence, PortsWellFormed, SamePorts, IsAfterStuckReset}
+use Rattle.block_machine.specs.Ports.{Ports, Evidence, PortsWellFormed, SamePorts, IsDeadAfterStuckResetIfServed}
 use Rattle.block_machine.specs.State.{Pending, Machine, unanswered}
 use Rattle.block_machine.specs.Steps.{Step, Accept, Issue, Touch, End, Age, WaitAgain, Answer, Store, Load, after_step, update_pending, touch, mark_ended}
 use Rattle.block_machine.specs.Expected.{after}
@@ -80,7 +80,7 @@ issued_still old new book same all port ready =
     (subst (λ (us : List Unanswered). NoneDue (old.ports.mode port) us port) (sym book) (all port (sym (same port).1 ∙ ready)))
 
 -- and where each served port is dead, none is ready
-issued_stuck : (old new : AbstractState) (evidence : Evidence) → PortsWellFormed new.ports → ((port : Port) → IsAfterStuckReset old.ports evidence new.ports port) → NoneDueWhereReady new
+issued_stuck : (old new : AbstractState) (evidence : Evidence) → PortsWellFormed new.ports → ((port : Port) → IsDeadAfterStuckResetIfServed old.ports evidence new.ports port) → NoneDueWhereReady new
 issued_stuck old new evidence fit stuck port ready = absurd (⊎_elim
     (λ served. false≢true (ap is_ready (sym ((stuck port).1 served).0) ∙ ap is_ready ready))
     (λ other. false≢true (ap is_ready (sym (fit.unserved_are_absent port ((stuck port).0 ∙ other))) ∙ ap is_ready ready))

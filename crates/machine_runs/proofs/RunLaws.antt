@@ -13,7 +13,7 @@ use Rattle.ata_types.specs.declared.refusal.Refusal.TheVariants as refused
 use Rattle.ata_types.specs.declared.grant.GrantRow.{GrantRow}
 use Rattle.block_machine.specs.Rules.{IsNamed}
 use Rattle.block_machine.specs.Refusals.{IsAcceptable}
-use Rattle.block_machine.specs.Ports.{Ports, Evidence, MayBecome, SamePorts, PortsWellFormed, ChangesOnlyIfStoppedOrStuck, IsAfterStuckReset}
+use Rattle.block_machine.specs.Ports.{Ports, Evidence, MayBecome, SamePorts, PortsWellFormed, MayBecomeInService, IsDeadAfterStuckResetIfServed}
 use Rattle.block_machine.specs.State.{Accepted, Pending, Machine}
 use Rattle.block_machine.specs.Steps.{Step, Issue, Age, Touch, End, WaitAgain, Answer, Release, MayAccept, touch, mark_ended}
 use Rattle.block_machine.specs.Expected.{after}
@@ -55,11 +55,11 @@ law_issued_at_most_once_a_call old event id h = (issued_once id event.steps h.is
 -- What a call that was answered may have done to ports and book. `was`: a reset was stuck before it, and is so still.
 data Kind {D : Type 0} (ask : AbstractCall D) (said : AbstractCallResult) (old : AbstractState) (evidence : Evidence) (steps : List Step) (new : AbstractState) (was : Type 0) : Type 0 where
   Leaves : is_tick ask ≡ false → is_reset ask ≡ false → SamePorts old.ports new.ports → (was → LastServiceOrResetIsStuckResetAfter ask said was) → Kind ask said old evidence steps new was
-  Serves : is_tick ask ≡ false → is_reset ask ≡ false → ((port : Port) → EmptyUnlessReady new port × ChangesOnlyIfStoppedOrStuck old.ports evidence new.ports port) → Kind ask said old evidence steps new was
+  Serves : is_tick ask ≡ false → is_reset ask ≡ false → ((port : Port) → EmptyUnlessReady new port × MayBecomeInService old.ports evidence new.ports port) → Kind ask said old evidence steps new was
   Ticks : is_reset ask ≡ false → AgesReadyPortsFirstAndOnce old.ports steps → RestartsTimedOut old evidence steps new → ((port : Port) → old.ports.state port ≡ Ready → EmptyUnlessReady new port)
       → (was → LastServiceOrResetIsStuckResetAfter ask said was) → Kind ask said old evidence steps new was
   Resets : is_tick ask ≡ false → ReleasesOnceBeforeServerSteps steps → ((port : Port) → EmptyUnlessReady new port × MayBecome old.ports evidence new.ports port) → Kind ask said old evidence steps new was
-  Sticks : is_tick ask ≡ false → ((port : Port) → IsAfterStuckReset old.ports evidence new.ports port) → LastServiceOrResetIsStuckResetAfter ask said was → Kind ask said old evidence steps new was
+  Sticks : is_tick ask ≡ false → ((port : Port) → IsDeadAfterStuckResetIfServed old.ports evidence new.ports port) → LastServiceOrResetIsStuckResetAfter ask said was → Kind ask said old evidence steps new was
 
 kind : {D : Type 0} (ask : AbstractCall D) (said : AbstractCallResult) (old : AbstractState) (evidence : Evidence) (steps : List Step) (new : AbstractState) (was : Type 0) → ResultMatchesSteps ask said old evidence steps new → Kind ask said old evidence steps new was
 kind (Submit r) (Submitted (Ok id)) old evidence steps new was a = Leaves refl refl a.2 (λ w. w)
@@ -170,13 +170,13 @@ placed_event ask said old evidence steps new was e fit here placed (Ticks r ages
 placed_event ask said old evidence steps new was e fit here placed (Resets t releases ports) = inl (emptied_ready new e here (ports e.request.port).0)
 placed_event ask said old evidence steps new was e fit here placed (Sticks t ports keep) = inr (((ports e.request.port).1 (placed_served old.ports e.request.port was fit placed)).0, keep)
 
-pub law_unanswered_has_ready_port_or_stuck_reset : {D : Type 0} (first : AbstractState) (run : List (CallRecord D)) (e : Pending) → IsRun first run → Contains (abstract_after_all first run).machine.book e
+pub law_port_of_unanswered_is_ready_or_reset_stuck : {D : Type 0} (first : AbstractState) (run : List (CallRecord D)) (e : Pending) → IsRun first run → Contains (abstract_after_all first run).machine.book e
     → ((abstract_after_all first run).ports.state e.request.port ≡ Ready) ⊎ (((abstract_after_all first run).ports.state e.request.port ≡ Dead) × LastServiceOrResetIsStuckReset run)
-law_unanswered_has_ready_port_or_stuck_reset first [] e r h = absurd (nobody first.machine r.0 e (inl h))
-law_unanswered_has_ready_port_or_stuck_reset first (event ∷ past) e r h = ⊎_elim
+law_port_of_unanswered_is_ready_or_reset_stuck first [] e r h = absurd (nobody first.machine r.0 e (inl h))
+law_port_of_unanswered_is_ready_or_reset_stuck first (event ∷ past) e r h = ⊎_elim
     (λ (s : Since (abstract_after_all first past).machine event.steps e). placed_event event.call event.result (abstract_after_all first past) event.evidence event.steps (abstract_after_all first (event ∷ past)) (LastServiceOrResetIsStuckReset past) e
     (run_fit first past r.0) h
-    (subst (λ (x : Accepted). IsPlaced (abstract_after_all first past).ports x.port (LastServiceOrResetIsStuckReset past)) s.same (law_unanswered_has_ready_port_or_stuck_reset first past s.old r.0 s.here))
+    (subst (λ (x : Accepted). IsPlaced (abstract_after_all first past).ports x.port (LastServiceOrResetIsStuckReset past)) s.same (law_port_of_unanswered_is_ready_or_reset_stuck first past s.old r.0 s.here))
     (kind event.call event.result (abstract_after_all first past) event.evidence event.steps (abstract_after_all first (event ∷ past)) (LastServiceOrResetIsStuckReset past) r.1.result_matches_steps))
     (λ (a : IsAccepted event.steps e). let w = welcomes (abstract_after_all first past) event r.1 e.request a.0 in inl ((w.same e.request.port).1 ∙ w.ready))
     (since (abstract_after_all first past).machine event.steps e h)

@@ -27,7 +27,7 @@ use Rattle.block_machine.specs.Refusals.{MayAccessFrame}
 use Rattle.block_machine.specs.DueRequests.{NoneDue, is_flush}
 use Rattle.block_machine.specs.State.{Accepted, Pending, Machine, block_of, unanswered}
 use Rattle.block_machine.specs.Steps.{Step, Touch, End, Answer, newly_accepted, newly_issued, touch, mark_ended, MayAccept}
-use Rattle.block_machine.specs.Ports.{Ports, Evidence, PortsWellFormed, SamePort, IsStoppedOrStuck, MayBecome, ChangesOnlyIfStoppedOrStuck}
+use Rattle.block_machine.specs.Ports.{Ports, Evidence, PortsWellFormed, SamePort, IsStoppedOrStuck, MayBecome, MayBecomeInService}
 use Rattle.block_machine.specs.Events.{AbstractState, AbstractCall, AbstractCallResult, CallRecord, ShowsDisk, TimesOutAtTick, AnswersOkWhatHadEnded, UnpluggedOutcomeEmptiesPort, UnpluggedExcludesDeadAndSameDisk, AnswersService, RepliesMatch, admission_context_of, answers_of, reply_of}
 use Rattle.block_machine.proofs.Members.{contains_none, contains_here, contains_cases, append_in, none_of}
 use Rattle.block_machine.proofs.Counting.{issued_not_due}
@@ -263,7 +263,7 @@ none_dead {A} p e = go (p.0 == 0) e
     go false e = absurd (false≢true (ap is_dead e))
 
 -- and in them no port changes
-pub serviced : (p : Port) → ChangesOnlyIfStoppedOrStuck ports none ports p
+pub serviced : (p : Port) → MayBecomeInService ports none ports p
 serviced p = (
   λ dead. none_dead p dead,
   λ _. (

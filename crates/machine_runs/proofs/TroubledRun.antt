@@ -12,7 +12,7 @@ use Rattle.ata_types.specs.declared.request.RequestId.{RequestId}
 use Rattle.ata_types.specs.declared.request.Op.TheVariants.{Read, Write}
 use Rattle.ata_types.specs.declared.request.Outcome.{Outcome}
 use Rattle.ata_types.specs.declared.request.Outcome.TheVariants as outcome
-use Rattle.block_machine.specs.Ports.{Ports, Evidence, PortsWellFormed, SamePort, IsStoppedOrStuck, ChangesOnlyIfStoppedOrStuck}
+use Rattle.block_machine.specs.Ports.{Ports, Evidence, PortsWellFormed, SamePort, IsStoppedOrStuck, MayBecomeInService}
 use Rattle.block_machine.specs.State.{Accepted, Pending, Machine, unanswered, is_reader}
 use Rattle.block_machine.specs.Steps.{Step, Accept, Issue, Touch, End, WaitAgain, Answer, Unplug, newly_accepted, newly_issued, touch, requeued}
 use Rattle.block_machine.specs.Events.{AbstractState, Submit, Service, StepDevice, Submitted, Replied, Stepped, CallRecord, Happens, UnpluggedOutcomeEmptiesPort, RepliesMatch, IsLowerByPortThenId, IsIssuedIn, abstract_after, abstract_after_all, admission_context_of, steps_of, reply_of, ShowsDisk}
@@ -178,7 +178,7 @@ changed_there evidence here p = go (p.0 == 0) refl (p.0 == 1) refl
     )
 
 -- a service that changes no port
-stays : (p : Port) → ChangesOnlyIfStoppedOrStuck (ports_in Ready Absent) failure (ports_in Ready Absent) p
+stays : (p : Port) → MayBecomeInService (ports_in Ready Absent) failure (ports_in Ready Absent) p
 stays p = (
   λ dead. not_dead Ready Absent refl refl p dead,
   λ _. (

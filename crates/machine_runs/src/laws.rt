@@ -192,7 +192,7 @@ pub fn law_issued_ages_are_at_most_two<D>()
 
 /// At each moment of a run an unanswered request is on a port that is ready, or on one that is dead, where a reset was
 /// stuck and no service, and no reset that ended, came since.
-pub fn law_unanswered_has_ready_port_or_stuck_reset<D>()
+pub fn law_port_of_unanswered_is_ready_or_reset_stuck<D>()
     ensures { (first : AbstractState) (run : List (CallRecord D)) (e : Pending) → IsRun first run
         → Contains (abstract_after_all first run).machine.book e
         → ((abstract_after_all first run).ports.state e.request.port ≡ Ready)

@@ -51,7 +51,7 @@ played_of size told config script image blank trace old new values read server l
         initial_state = begun.0;
         history_begins = begun.1;
         told_disks_are_told = λ image_tells blank_tells.
-            ap (λ (d : Device). d.telling) begun.1.state_is_at_history_end.device_is ∙ started.is_initial_server.takes_over.adapter_is_kept.telling ∙ started.is_model.is_new_model.telling_is ∙ ap (λ (b : Bool). b && true) (both_tell _ _ image_tells blank_tells);
+            ap (λ (d : Device). d.disks_tell_sectors) begun.1.state_is_at_history_end.device_is ∙ started.is_initial_server.takes_over.adapter_is_kept.disks_tell_sectors ∙ started.is_model.is_new_model.disks_tell_sectors_is ∙ ap (λ (b : Bool). b && true) (both_tell _ _ image_tells blank_tells);
         keeps_promise = all_keep (device_at size told) is_starved trace laws server last ran.shown_entry_count ran.played ran.call_results ran.text ran.last_text ran.prints begun.0 [] begun.1;
       };
       model_is_adapter_at_end = left;

@@ -82,7 +82,7 @@ pub record AnswersKeepPromise {S : Type 0} (size : S → ℕ) (told : S → Opti
   pub is_server_of_model : IsNewServerOfNewModel size told config image blank server
   pub initial_state : JointState Device
   pub history_begins : LeadsToServer initial_state [] (server_of (device_at size told) server)
-  pub told_disks_are_told : IsSome (told image) → IsSome (told blank) → initial_state.device.telling ≡ true
+  pub told_disks_are_told : IsSome (told image) → IsSome (told blank) → initial_state.device.disks_tell_sectors ≡ true
   pub keeps_promise : KeepsPromise (device_at size told) initial_state [] server last calls said
 
 -- These calls lead from the old server to the new one, say this in turn, and keep the server's promise each; none is

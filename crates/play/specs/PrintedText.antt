@@ -21,9 +21,9 @@ abbrev pub as_reference : {X : Type 0} → X → Bor X
 as_reference x = record { ref_ptr = (0, 0); now = x }
 
 -- a line for each reply, or one that there is none
-abbrev pub replies_text : List Reply → List ℕ
-replies_text [] = answer_line answer.Quiet
-replies_text (reply ∷ replies) = flat_map (λ r. answer_line (answer.Replied r)) (reply ∷ replies)
+abbrev pub quiet_or_replies_text : List Reply → List ℕ
+quiet_or_replies_text [] = answer_line answer.Quiet
+quiet_or_replies_text (reply ∷ replies) = flat_map (λ r. answer_line (answer.Replied r)) (reply ∷ replies)
 
 -- that the call is done, and a line for each reply
 abbrev pub done_and_replies_text : List Reply → List ℕ
@@ -37,7 +37,7 @@ call_result_text (said.Stored (Ok done)) = answer_line answer.Stored
 call_result_text (said.Stored (Err fault)) = answer_line (answer.AccessRefused fault)
 call_result_text (said.Loaded (Ok bytes)) = answer_line (answer.Bytes (as_reference bytes.items))
 call_result_text (said.Loaded (Err fault)) = answer_line (answer.AccessRefused fault)
-call_result_text (said.Replied replies) = replies_text replies.items
+call_result_text (said.Replied replies) = quiet_or_replies_text replies.items
 call_result_text (said.WasReset (Ok replies)) = done_and_replies_text replies.items
 call_result_text (said.WasReset (Err stuck)) = answer_line answer.AdapterStuck
 call_result_text (said.WasRevoked (Ok replies)) = done_and_replies_text replies.items

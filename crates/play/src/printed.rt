@@ -1,7 +1,7 @@
 // What is printed of a call.
 ghost use Rattle.std.specs.{Prelude.{◌≡◌, ◌≢◌, ◌≤◌, ℕ, IfErr, OnOk, length, take}, Io.KnownBytes.{Appends}, declared.io.ErrorKind.TheVariants.{Interrupted}, List.{flat_map}};
 ghost use Rattle.block_server.specs.CallResults.{with_replies};
-ghost use Rattle.play.specs.PrintedText.{call_text, line_of_ended_flush_else_empty, entries_text, replies_text, done_and_replies_text, call_result_text, trace_text};
+ghost use Rattle.play.specs.PrintedText.{call_text, line_of_ended_flush_else_empty, entries_text, quiet_or_replies_text, done_and_replies_text, call_result_text, trace_text};
 ghost use Rattle.script.specs.Answer.{answer_line};
 
 use adapter::{Done, Entry, Operation};
@@ -39,7 +39,7 @@ fn print_each<W: io::Write>(out: &mut W, replies: &[Reply]) -> io::Result<()>
 
 /// Prints a line for each reply, or one that there is none.
 fn print_replies<W: io::Write>(out: &mut W, replies: &[Reply]) -> io::Result<()>
-    ensures { OnOk result (Appends (W.contents out.old) (W.contents out.new) (replies_text replies.now)) }
+    ensures { OnOk result (Appends (W.contents out.old) (W.contents out.new) (quiet_or_replies_text replies.now)) }
 {
     if replies.is_empty() {
         return Answer::Quiet.print(out);

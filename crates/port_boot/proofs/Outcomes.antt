@@ -216,7 +216,7 @@ module _ (laws : Laws) where
           boots = whole_ready laws port start old new rises.boots (Ok info) i.boots;
           brings_ready = gets_ready port start old new rises.is_brought_up risen late i.asks_disk i.runs_on;
           shows_only_new_errors = shows_news port start old new rises.is_brought_up risen late i.runs_on;
-          halt_is_of_taken = i.halt_is_of_taken;
+          halt_fits_taken_commands = i.halt_fits_taken_commands;
         }
     whole_identified (Err state) i = i
 

@@ -20,7 +20,7 @@ pub record EndsReady (wanted : Option (List ℕ)) (port : Port) (info : DiskInfo
   pub boots : IsSimulatedBoot (StopsReceiving port) port old new
   pub brings_ready : BringsReady port old new
   pub shows_only_new_errors : ShowsOnlyGainedErrors port.0 old new
-  pub halt_is_of_taken : HaltFitsTakenCommands (new.port port.0)
+  pub halt_fits_taken_commands : HaltFitsTakenCommands (new.port port.0)
 
 -- one that leaves it in another state
 pub record EndsUnready (wanted : Option (List ℕ)) (port : Port) (state : PortState) (old new : Device) : Type 0 where
@@ -53,7 +53,7 @@ pub record Identifies (wanted : Option (List ℕ)) (port : Port) (info : DiskInf
   pub ready : IsReadyAfterBoot wanted port.0 new info
   pub boots : IsSimulated (IsBootAccess port) (λ uses. AllFree uses port.0) old new
   pub asks_disk : AsksDiskThenEnables port old new
-  pub halt_is_of_taken : HaltFitsTakenCommands (new.port port.0)
+  pub halt_fits_taken_commands : HaltFitsTakenCommands (new.port port.0)
   pub runs_on : StaysRunningIfUndisturbed port.0 old new
 
 -- Or the port was stopped again.

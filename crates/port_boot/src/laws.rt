@@ -2,7 +2,7 @@
 ghost use Rattle.std.specs.Prelude.{ℕ, ◌≡◌, ◌≢◌, ◌++◌, true, false, All, Contains, List, Option, Some};
 ghost use Rattle.ata_types.specs.{declared.Port.{Port}, declared.PortState.{PortState}, declared.PortState.TheVariants.{Dead}};
 ghost use Rattle.hba_regs.specs.{declared.reg.PortReg.TheVariants.{Cmd, Sctl}, declared.reg.Reg.TheVariants.{Ghc, Px}};
-ghost use Rattle.adapter.specs.{Access.{Access, Does, DoesAll, is_named_cause, is_ips_set, shown_interrupt}, Device.{Device}, PendingInterrupts.{LeavesIe, KeepsIsBit, SetsCause, interrupting_port}, Rules.{IsOn}, Steps.{Can, DeviceTransition, Steps, device_after}, declared.tape.Entry.{Entry}, declared.command.Operation.TheVariants.{Identify}};
+ghost use Rattle.adapter.specs.{Access.{Access, Does, DoesAll, is_named_cause, is_ips_set, shown_interrupt}, Device.{Device}, PendingInterrupts.{LeavesPxIeUnwritten, KeepsIsBit, SetsCause, interrupting_port}, Rules.{IsOn}, Steps.{Can, DeviceTransition, Steps, device_after}, declared.tape.Entry.{Entry}, declared.command.Operation.TheVariants.{Identify}};
 ghost use Rattle.refinement.specs.{Fragments.{ReadsPortOrWrites, IsDrivenBy, AccessesNoOtherPort, OnlyDeviceChangesPort, GainsNoMove}, PortFacts.{RunsWell, Undisturbed}, PreservedParts.{DoesNotWrite}};
 ghost use Rattle.identify.specs.declared.DiskInfo.{DiskInfo};
 ghost use Rattle.port_boot.specs.States.{BacksState, BringsReady, HasFitDiskAndInterrupts, HasLastIdentifyPage, IsSimulatedBootTo, IsBootAccess, IsReadyAfterBoot, StaysRunningIfUndisturbed, ShownDiskIsIn, StopsReceivingAndStartedEngine};
@@ -10,7 +10,7 @@ ghost use Rattle.port_control.specs.{Engines.{StopsEachEngine}, Ports.{IsCommand
 
 use super::prerequisites::law_prerequisites;
 use adapter::laws::{
-    law_interrupting_entries_set_ips_until_written, law_set_cause_enabled_in_pxie_sets_ips,
+    law_interrupting_entries_set_ips_until_written, law_ips_is_set_while_enabled_cause_is_shown,
 };
 
 /// What a boot found of a port goes on as long as the port isn't booted anew. The last page is the last one still where
@@ -53,10 +53,10 @@ pub fn law_ready_port_causes_set_ips()
     ensures tape_event_is_pending { (wanted : Option (List ℕ)) (port : ℕ) (entry : Entry) (accesses : List Access)
         (gained : List Entry) (old new : Device) (info : DiskInfo) → HasFitDiskAndInterrupts wanted port old info
         → interrupting_port entry ≡ Some port → DoesAll accesses old new → All (KeepsIsBit port) accesses
-        → All (LeavesIe port) accesses → old.hr ≡ false → new.tape ≡ old.tape ++ gained
+        → All (LeavesPxIeUnwritten port) accesses → old.hr ≡ false → new.tape ≡ old.tape ++ gained
         → Contains gained entry → is_ips_set (new.port port) ≡ true }
 {
-    law_set_cause_enabled_in_pxie_sets_ips();
+    law_ips_is_set_while_enabled_cause_is_shown();
     law_interrupting_entries_set_ips_until_written();
 }
 

@@ -6,7 +6,7 @@ use Rattle.ata_types.specs.declared.limits.TheConstants.{MOST_READINGS}
 use Rattle.hba_regs.specs.Bits.{bit}
 use Rattle.hba_regs.specs.declared.reg.PortReg.TheVariants.{Cmd, Sact}
 use Rattle.hba_regs.specs.declared.reg.Reg.TheVariants.{Px}
-use Rattle.adapter.specs.Access.{Access, Reads, Writes, count_after_reading}
+use Rattle.adapter.specs.Access.{Access, Reads, Writes, capped_count_after_reading}
 use Rattle.adapter.specs.Access.Access.{Reading, Writing}
 use Rattle.adapter.specs.Device.{Bases, Notes, DevicePort, Device}
 use Rattle.adapter.specs.Rules.{MayWrite, IsStable}
@@ -52,7 +52,7 @@ pub record IsEmptying (port : Port) (start : Device) (n : ℕ) (d : Device) : Ty
   pub high : 0 < n → (d.port port.0).notes.engine_wait_count ≤ MOST_READINGS
 
 -- one more reading that the wait goes on for
-pub counted_again : (again : Bool) (n count : ℕ) → again ≡ true → n ≤ count → n < MOST_READINGS → (n + 1 ≤ count_after_reading again count) × (count_after_reading again count ≤ MOST_READINGS)
+pub counted_again : (again : Bool) (n count : ℕ) → again ≡ true → n ≤ count → n < MOST_READINGS → (n + 1 ≤ capped_count_after_reading again count) × (capped_count_after_reading again count ≤ MOST_READINGS)
 counted_again again n count on low small = rw on (omega arith, omega arith)
 
 or_true : (a b : Bool) → b ≡ true → a || b ≡ true

@@ -10,7 +10,7 @@ use Rattle.hba_regs.specs.Bits.{bit}
 use Rattle.hba_regs.specs.declared.reg.PortReg.{PortReg}
 use Rattle.hba_regs.specs.declared.reg.PortReg.TheVariants.{Tfd, Sig, Ssts}
 use Rattle.hba_regs.specs.declared.reg.Reg.TheVariants.{Px}
-use Rattle.adapter.specs.Access.{Reads, count_after_reading, link_wait_count_full_once_linked}
+use Rattle.adapter.specs.Access.{Reads, capped_count_after_reading, link_wait_count_full_once_linked}
 use Rattle.adapter.specs.Access.Access.{Reading}
 use Rattle.adapter.specs.Device.{Notes, DevicePort, Device}
 use Rattle.refinement.specs.Fragments.{AnySlotStates, ReadsPortOrWrites, IsSimulated}
@@ -159,7 +159,7 @@ module _ (laws : Laws) where
         let one = counted_again (bit v 7 || bit v 3) n (d.port port.0).notes.busy_count busy w.low small in
         let count =
         ap (λ (k : Notes). k.busy_count) (laws.notes_read port Tfd v d e quiet call)
-        ∙ ap (λ (det : ℕ). if nat_eq det 0 then count_after_reading (bit v 7 || bit v 3) (d.port port.0).notes.busy_count else (d.port port.0).notes.busy_count) w.det in
+        ∙ ap (λ (det : ℕ). if nat_eq det 0 then capped_count_after_reading (bit v 7 || bit v 3) (d.port port.0).notes.busy_count else (d.port port.0).notes.busy_count) w.det in
         record {
           followed = busy_followed;
           usable = usable_read laws AnySlotStates port Tfd v d e w.usable call;

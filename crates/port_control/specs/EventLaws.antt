@@ -17,7 +17,7 @@ use Rattle.adapter.specs.Steps.{Steps}
 use Rattle.refinement.specs.Laws.{FragmentLaws, TapeLaws}
 use Rattle.refinement.specs.Fragments.{AnyAccess, AnySlotStates, IsDrivenBy, AccessesNoOtherPort, SameSlotStates, OnlyDeviceChangesPort}
 use Rattle.refinement.specs.Errors.{ErrorBitsRiseByErrors, NoFaults, ErrorBitsStayClear}
-use Rattle.refinement.specs.PortFacts.{IsHaltedPlainOrQueued, RecordsFaultsIfSt, RunsWell, ShowsNoTrouble, PxisValueTellsNoTrouble, Undisturbed}
+use Rattle.refinement.specs.PortFacts.{IsHaltedByPlainOrQueued, RecordsFaultsIfSt, RunsWell, ShowsNoTrouble, PxisValueTellsNoTrouble, Undisturbed}
 use Rattle.refinement.specs.PreservedParts.{ControlsChangeOnlyByTheirWrites, LinkIsSameOrComesUp, NoPlugEvents, SameAdapter, DoesNotWrite}
 use Rattle.refinement.specs.PortNotes.{NotesChangeOnlyByReadOrSctlWrite}
 use Rattle.refinement.specs.Slots.{SlotStates}
@@ -133,14 +133,15 @@ pub record Laws : Type 0 where
       → DoesNotWrite (Px port Serr) access → Does access old new → HidesNoPlugEvent port.0 old new
   pub tfes_read_means_faulted : (port : Port) (v : ℕ) (old new : Device) → old.hr ≡ false → (old.port port.0).st ≡ true
       → RecordsFaultsIfSt old.tape (old.port port.0) port.0 → Reads (Px port Is) v old new → bit v 30 ≡ true
-      → IsHaltedPlainOrQueued (new.port port.0).halt
+      → IsHaltedByPlainOrQueued (new.port port.0).halt
   pub read_keeps_faulted : (port : ℕ) (r : Reg) (v : ℕ) (old new : Device) → old.hr ≡ false → (old.port port).st ≡ true
-      → RecordsFaultsIfSt old.tape (old.port port) port → IsHaltedPlainOrQueued (old.port port).halt → Reads r v old new
-      → IsHaltedPlainOrQueued (new.port port).halt
+      → RecordsFaultsIfSt old.tape (old.port port) port → IsHaltedByPlainOrQueued (old.port port).halt
+      → Reads r v old new
+      → IsHaltedByPlainOrQueued (new.port port).halt
   pub write_keeps_faulted : (port : ℕ) (r : Reg) (v : ℕ) (old new : Device) → old.hr ≡ false → (old.port port).st ≡ true
-      → RecordsFaultsIfSt old.tape (old.port port) port → IsHaltedPlainOrQueued (old.port port).halt
+      → RecordsFaultsIfSt old.tape (old.port port) port → IsHaltedByPlainOrQueued (old.port port).halt
       → Writes r v old new
-      → IsHaltedPlainOrQueued (new.port port).halt
+      → IsHaltedByPlainOrQueued (new.port port).halt
   pub last_ssts_is_read : (port : Port) (v : ℕ) (old new : Device) → Reads (Px port Ssts) v old new
       → (new.port port.0).notes.last_ssts ≡ v
   pub access_notes : (port : Port) (access : Access) (old new : Device) → Does access old new

@@ -16,7 +16,7 @@ use Rattle.block_machine.specs.DueRequests.{AreDueInTurnAndLeaveNoneDue, IsDue, 
 use Rattle.block_machine.specs.declared.due.QueueMode.{QueueMode}
 use Rattle.block_machine.specs.declared.due.Unanswered.{Unanswered}
 use Rattle.commands.specs.Costs.{ISSUE_ACCESSES}
-use Rattle.commands.specs.Tasks.{IsFitTransfer, IsTransfer}
+use Rattle.commands.specs.Tasks.{IsFitTransfer, IsReadOrWrite}
 use Rattle.host_boot.specs.declared.ProbeResult.{ProbeResult}
 use Rattle.commands.specs.Batches.{PlacedTask}
 use Rattle.request_queue.specs.BookEntries.{BookEntry, BookIsWellFormed, IsWellFormedEntry, as_unanswered, unanswered_of, due_ids, issued_request, update_if_id}
@@ -43,7 +43,7 @@ issued_length port ids old new issues = ap (λ (s : ServerState). length s.book)
 -- ---- one more is put in a slot
 
 -- what a port takes queued is a transfer
-transfers_of : (mode : QueueMode) (op : Op) → is_plain mode op ≡ false → IsTransfer op
+transfers_of : (mode : QueueMode) (op : Op) → is_plain mode op ≡ false → IsReadOrWrite op
 transfers_of mode Read queued = inl refl
 transfers_of mode Write queued = inr refl
 transfers_of mode Trim queued = absurd (false≢true (sym queued))

@@ -21,7 +21,7 @@ use Rattle.port_control.specs.PortEvents.{IsPxisSstsOrOwnIsAccess, TakesEvent}
 use Rattle.port_control.specs.declared.events.PortEvent.TheVariants.{TaskFileError}
 use Rattle.request_queue.specs.BookEntries.{BookEntry}
 use Rattle.request_queue.specs.declared.disposition.FailedRequest.{FailedRequest}
-use Rattle.server_history.specs.ErrorHandling.{AreAllQueuedAs, IsFailedRequest, LookTellsErrorUnlessTimedOut, ErrorHandlingIsBacked}
+use Rattle.server_history.specs.ErrorHandling.{AreAllQueuedAs, IsFailedRequest, LookTellsErrorUnlessTimedOut, TellsRecoveryIfTaskFileErrorElseNamesNone}
 use Rattle.server_history.specs.IssuingAndAnswering.{IsMaskOf, is_used}
 use Rattle.server_history.specs.ServerState.{ServerState, InCallInvariant, slots_at, state_of, used_for}
 use Rattle.port_control.specs.declared.events.PortError.{PortError}
@@ -154,7 +154,7 @@ module _ (x : Troubled) where
         pub alone : PlainIsSlot0 w.queued w.outstanding
         alone = x.laws.alone (mid x f a) x.port w.queued w.outstanding a.lent.in_call_invariant mid_mask mid_kinds
 
-        module _ (result : Recovered) (new : Device) (its_end : (m : RecoversOrStops x.port w.outstanding w.queued result f.found new) × ErrorHandlingIsBacked x.port_error x.port w.outstanding w.queued result m.accesses f.found new) where
+        module _ (result : Recovered) (new : Device) (its_end : (m : RecoversOrStops x.port w.outstanding w.queued result f.found new) × TellsRecoveryIfTaskFileErrorElseNamesNone x.port_error x.port w.outstanding w.queued result m.accesses f.found new) where
           abbrev handling : RecoversOrStops x.port w.outstanding w.queued result f.found new
           handling = its_end.0
 

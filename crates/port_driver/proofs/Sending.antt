@@ -31,7 +31,7 @@ use Rattle.server_history.specs.ServerState.{ServerState, InCallInvariant, is_se
 use Rattle.slots.specs.SlotUses.{PortSlots, IsLowestFree, IsTaken, with_use}
 use Rattle.commands.specs.Batches.{IsBatchIssued, batch_of_one}
 use Rattle.commands.specs.Issuing.{MayIssueTask}
-use Rattle.commands.specs.Tasks.{IsFitTransfer, IsTransfer}
+use Rattle.commands.specs.Tasks.{IsFitTransfer, IsReadOrWrite}
 
 -- ---- what a request of the book is
 
@@ -50,7 +50,7 @@ module _ (table : OwnersAndLoans) (e : BookEntry) (is : IsWellFormedEntry table 
   first : e.request.op ≢ Flush → 1 ≤ e.request.range.count → e.request.range.first.0 < 2 ^ 48
   first other some = let below = is.range_is_below_2_48_unless_flush other in omega (arith, some, below)
 
-  fits : (queued : Bool) → IsTransfer e.request.op → IsFitTransfer (record { op = e.request.op; range = e.request.range; queued = queued }) e.frames
+  fits : (queued : Bool) → IsReadOrWrite e.request.op → IsFitTransfer (record { op = e.request.op; range = e.request.range; queued = queued }) e.frames
   fits queued (inl same) = record { is_transfer = inl same; count_is_positive = (counted Read same).0; count_is_allowed = (counted Read same).1; first_in_range = first (not_flush Read (λ e. cc) same) (counted Read same).0; frame_count_is = enough Read same }
   fits queued (inr same) = record { is_transfer = inr same; count_is_positive = (counted Write same).0; count_is_allowed = (counted Write same).1; first_in_range = first (not_flush Write (λ e. cc) same) (counted Write same).0; frame_count_is = enough Write same }
 

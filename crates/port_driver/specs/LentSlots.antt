@@ -12,7 +12,7 @@ use Rattle.block_machine.specs.declared.due.QueueMode.{QueueMode}
 use Rattle.dma_frames.specs.FrameTables.{OwnersAndLoans}
 use Rattle.host_boot.specs.TakeOver.{probe_result_of}
 use Rattle.host_boot.specs.declared.ProbeResult.{ProbeResult}
-use Rattle.commands.specs.Tasks.{IsFitTransfer, IsTransfer}
+use Rattle.commands.specs.Tasks.{IsFitTransfer, IsReadOrWrite}
 use Rattle.commands.specs.declared.ncq.Task.{Task}
 use Rattle.request_queue.specs.BookEntries.{BookEntry, IsEarlier}
 use Rattle.server_history.specs.IssuingAndAnswering.{AnswersEach, AnswersOne, done_reply}
@@ -73,7 +73,7 @@ pub record AnswersDoneSlots (port : Port) (done : ℕ) (before after : List Repl
 -- The task may be issued in the slot: a transfer has its frames; a trim names 1 to 4,194,240 sectors, each below 2^48
 -- (64 entries of 65,535 in its block); and a trim and a flush aren't queued, and go in slot 0.
 pub record FitsSlot (task : Task) (frames : List Frame) (slot : ℕ) : Type 0 where
-  pub transfer_fits_frames : IsTransfer task.op → IsFitTransfer task frames
+  pub transfer_fits_frames : IsReadOrWrite task.op → IsFitTransfer task frames
   pub trim_range_is_allowed : task.op ≡ Trim → (1 ≤ task.range.count) × (task.range.count ≤ 4194240)
       × (task.range.first.0 + task.range.count ≤ 2 ^ 48)
   pub trim_and_flush_are_plain_in_slot_0 : (task.op ≡ Trim) ⊎ (task.op ≡ Flush) → (slot ≡ 0) × (task.queued ≡ false)

@@ -10,7 +10,7 @@ use std::alloc::{AllocError, Global};
 use std::marker::Model;
 
 /// The loans of one port that are kept, 32 at most, in the order in which they came. They can't be dropped:
-/// `give_back` ends them, and `destroy` the list.
+/// `give_back` ends them, and `destroy_empty` the list.
 pub struct Quarantine {
     loans: Vec<Loan>,
 }
@@ -57,7 +57,7 @@ impl Quarantine {
     }
 
     /// Ends what has no loans.
-    pub fn destroy(self)
+    pub fn destroy_empty(self)
         requires { self ≡ [] }
     {
         let Quarantine { loans } = self;

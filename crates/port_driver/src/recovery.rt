@@ -3,7 +3,7 @@
 ghost use Rattle.std.specs.Prelude.{ℕ, ◌≡◌, ◌≤◌, ◌+◌, ◌++◌, IsTrue, ◌↔◌, Some, List, AllPairs, IsPermutation, drop, length, take};
 ghost use Rattle.ata_types.specs.{declared.request.Reply.{Reply}, declared.Port.{Port}};
 ghost use Rattle.port_driver.specs.{Recovery.{AnswersDoneAndHandlesError, IsInError, error_of}, Costs.{booting_accesses, handling_accesses}};
-ghost use Rattle.server_history.specs.{ServerState.{ServerState, probed_mode}, ErrorHandling.{AreAllQueuedAs, RebootsAfterErrorOrFindsAbsent, IsFailedRequest, IsFoundAfterError, IsRevalidation, IsDiskOfSameSerialAndSize, ErrorHandlingIsBacked}};
+ghost use Rattle.server_history.specs.{ServerState.{ServerState, probed_mode}, ErrorHandling.{AreAllQueuedAs, RebootsAfterErrorOrFindsAbsent, IsFailedRequest, IsFoundAfterError, IsRevalidation, IsDiskOfSameSerialAndSize, TellsRecoveryIfTaskFileErrorElseNamesNone}};
 ghost use Rattle.adapter.specs.{Rules.{IsOn}, AccessBounds.{MakesAtMost}};
 ghost use Rattle.identify.specs.declared.error_log.FailedSlot.{FailedSlot};
 ghost use Rattle.error_recovery.specs.Recovery.{MayHandleError, PortMayRecover, RecoversOrStops};
@@ -58,8 +58,8 @@ fn recover_or_stop<A: Adapter>(
     ensures adapter_is_on { IsOn (A.device adapter.new) }
     ensures handling { (m : RecoversOrStops port outstanding queued result (A.device adapter.old)
         (A.device adapter.new))
-        × ErrorHandlingIsBacked port_error port outstanding queued result m.accesses (A.device adapter.old)
-        (A.device adapter.new) }
+        × TellsRecoveryIfTaskFileErrorElseNamesNone port_error port outstanding queued result m.accesses
+        (A.device adapter.old) (A.device adapter.new) }
     ensures cost { MakesAtMost (handling_accesses port_error) (A.access_count adapter.old)
         (A.access_count adapter.new) }
 {

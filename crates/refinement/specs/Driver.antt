@@ -21,7 +21,7 @@ use Rattle.block_machine.specs.Events.{AllEnabled, AllByDevice}
 use Rattle.refinement.specs.MemoryLayout.{command_list_address, received_fis_address, command_table_address, scratch_frame_address, IsTableOrHeaderByteButPrdbc, IsScratchByte}
 use Rattle.refinement.specs.Slots.{Free, Armed, Own, Serves, SlotStates, set_slot_state, SlotDecodesTo, MeansRequest, HasBlockIfTrim, HasListInPlace, client_operation_of}
 use Rattle.refinement.specs.Relation.{StateRelation, HaveSlotsUnlessParked}
-use Rattle.refinement.specs.Tape.{TellsDeviceSteps, PutsInDisks}
+use Rattle.refinement.specs.Tape.{TellsDeviceSteps, PortPlugsPutInDisks}
 
 -- ---- stores
 
@@ -93,14 +93,14 @@ pub record DriverRelation (m : Machine) (k : DriverState) : Type 0 where
 -- The tape's new entries tell of the device's steps among these; reads moved what their disks hold, where these tell
 -- it; and the disks that were put in are the device's.
 pub record TapeBacksSteps (old new : Device) (m : Machine) (steps : List Step) : Type 0 where
-  pub telling_is_same : new.telling ≡ old.telling
+  pub disks_tell_sectors_is_same : new.disks_tell_sectors ≡ old.disks_tell_sectors
   pub new_entries : List Entry
   pub tape_is : new.tape ≡ old.tape ++ new_entries
   pub tells_device_steps : TellsDeviceSteps m new_entries steps
-  pub steps_are_faithful : old.telling ≡ true → AllStepsFaithful m steps
+  pub steps_are_faithful : old.disks_tell_sectors ≡ true → AllStepsFaithful m steps
   pub plugged_disks_match_steps : (port : ℕ) → (disks : List device.Disk)
       × ((new.port port).plug_history ≡ (old.port port).plug_history ++ disks)
-      × PutsInDisks port disks steps
+      × PortPlugsPutInDisks port disks steps
 
 -- The device backs the steps, and all of them are its own: the driver made none.
 pub record IsBackedByDeviceAlone (old new : Device) (m : Machine) (steps : List Step) : Type 0 where

@@ -4,7 +4,7 @@ use Rattle.adapter.specs.Commands.{is_queued}
 use Rattle.adapter.specs.Device.{FetchedCommand, DevicePort, Device}
 use Rattle.adapter.specs.Device.Halt.{NotHalted}
 use Rattle.adapter.specs.Steps.{halt_after_start}
-use Rattle.refinement.specs.PortFacts.{IsHaltedPlainOrQueued}
+use Rattle.refinement.specs.PortFacts.{IsHaltedByPlainOrQueued}
 use Rattle.refinement.specs.Slots.{SlotStates, Free}
 
 -- The link is up: a disk is in, its first FIS has come, no other link is due, and COMRESET isn't being sent. A fault
@@ -53,4 +53,4 @@ pub record FaultLeavesIssued (uses : SlotStates) (port : ℕ) (d : Device) : Typ
   pub link_is_not_due : (d.port port).link_due ≡ false
   pub no_other_slot_is_used : (slot : ℕ) → slot ≢ 0 → uses port slot ≡ Free
   pub tfes_is_clear_or_issued : ((d.port port).is 30 ≡ false)
-      ⊎ (((d.port port).ci 0 ≡ true) × IsHaltedPlainOrQueued (d.port port).halt)
+      ⊎ (((d.port port).ci 0 ≡ true) × IsHaltedByPlainOrQueued (d.port port).halt)

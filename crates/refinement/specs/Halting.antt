@@ -2,12 +2,12 @@
 use Rattle.std.specs.Prelude.{ℕ, true, ◌≡◌, ◌≢◌, Some}
 use Rattle.adapter.specs.Commands.{is_queued}
 use Rattle.adapter.specs.Device.{FetchedCommand, DevicePort}
-use Rattle.adapter.specs.Device.Halt.{HaltedQueued, LogOnly}
+use Rattle.adapter.specs.Device.Halt.{HaltedByQueued, LogOnly}
 
 -- READ LOG EXT isn't awaited; and where a queued command has halted the port, a queued one is taken.
 pub record HaltFitsTakenCommands (p : DevicePort) : Type 0 where
   pub is_not_log_only : p.halt ≢ LogOnly
-  pub queued_is_taken : p.halt ≡ HaltedQueued → (slot : ℕ) × (t : FetchedCommand) × (p.taken slot ≡ Some t)
+  pub queued_is_taken : p.halt ≡ HaltedByQueued → (slot : ℕ) × (t : FetchedCommand) × (p.taken slot ≡ Some t)
       × (is_queued t.meaning.operation ≡ true)
 
 -- so it is while ST is one

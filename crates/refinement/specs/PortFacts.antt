@@ -9,7 +9,7 @@ use Rattle.hba_regs.specs.declared.reg.Reg.{Reg}
 use Rattle.hba_regs.specs.declared.reg.Reg.TheVariants.{Px}
 use Rattle.hba_regs.specs.declared.reg.PortReg.TheVariants.{Is, Cmd, Sctl, Serr}
 use Rattle.adapter.specs.Device.{Halt, DevicePort, Device}
-use Rattle.adapter.specs.Device.Halt.{NotHalted, HaltedPlain, HaltedQueued}
+use Rattle.adapter.specs.Device.Halt.{NotHalted, HaltedByPlain, HaltedByQueued}
 use Rattle.adapter.specs.Rules.{InUse}
 use Rattle.adapter.specs.Rules as rules
 use Rattle.adapter.specs.declared.command.Operation.{Operation}
@@ -129,8 +129,8 @@ pub record ClearsNoTrouble (port : Port) (r : Reg) (v : ℕ) : Type 0 where
 -- ---- faults since ST was set
 
 -- a fault has halted the port, by a plain or by a queued command
-abbrev pub IsHaltedPlainOrQueued : Halt → Type 0
-IsHaltedPlainOrQueued halt = (halt ≡ HaltedPlain) ⊎ (halt ≡ HaltedQueued)
+abbrev pub IsHaltedByPlainOrQueued : Halt → Type 0
+IsHaltedByPlainOrQueued halt = (halt ≡ HaltedByPlain) ⊎ (halt ≡ HaltedByQueued)
 
 -- the entry is a fault of the port
 abbrev pub IsFaultOf : ℕ → Entry → Type 0
@@ -156,8 +156,8 @@ pub record ShowsFault (entries : List Entry) (p : DevicePort) (port : ℕ) : Typ
 pub record RecordsFaults (tape : List Entry) (p : DevicePort) (port : ℕ) : Type 0 where
   pub st_set_is_on_tape : p.notes.st_set_at ≤ length tape
   pub no_link_is_due : p.link_due ≡ false
-  pub tfes_tells_fault : p.is 30 ≡ true → IsHaltedPlainOrQueued p.halt
-  pub shows_last_fault : IsHaltedPlainOrQueued p.halt → ShowsFault (drop p.notes.st_set_at tape) p port
+  pub tfes_tells_fault : p.is 30 ≡ true → IsHaltedByPlainOrQueued p.halt
+  pub shows_last_fault : IsHaltedByPlainOrQueued p.halt → ShowsFault (drop p.notes.st_set_at tape) p port
 
 -- so it is while ST is 1
 abbrev pub RecordsFaultsIfSt : List Entry → DevicePort → ℕ → Type 0

@@ -20,7 +20,7 @@ DoesNotWrite r access = Unit {0}
 
 -- the same memory, capabilities and ports, and disks that tell their sectors as they did
 pub record SameAdapter (old new : Device) : Type 0 where
-  pub telling : new.telling ≡ old.telling
+  pub disks_tell_sectors : new.disks_tell_sectors ≡ old.disks_tell_sectors
   pub memory_size : new.memory_size ≡ old.memory_size
   pub cap : new.cap ≡ old.cap
   pub pi : new.pi ≡ old.pi

@@ -4,7 +4,7 @@ use Rattle.hba_regs.specs.declared.reg.Reg.TheVariants.{Px}
 use Rattle.hba_regs.specs.declared.reg.PortReg.TheVariants.{Is, Cmd, Tfd, Ssts, Serr}
 use Rattle.adapter.specs.Access.{Reads, Writes}
 use Rattle.adapter.specs.Device.{Halt, Device}
-use Rattle.adapter.specs.Device.Halt.{HaltedPlain}
+use Rattle.adapter.specs.Device.Halt.{HaltedByPlain}
 use Rattle.adapter.specs.FirstRead.{first_read_device}
 use Rattle.adapter.specs.Rules.{MayWrite, IsStable}
 use Rattle.adapter.specs.Steps.{Steps}
@@ -22,7 +22,7 @@ pub record RecoveredWitness : Type 0 where
   pub linked : IsLinked (first_read_device.port 0)
   pub failed : Device
   pub fails : Steps first_read_device failed
-  pub halted : (failed.port 0).halt ≡ HaltedPlain
+  pub halted : (failed.port 0).halt ≡ HaltedByPlain
   pub may_stop : IsStable (MayWrite (Px (port_at 0) Cmd) 0x10) failed
   pub stopping : Device
   pub stops : Writes (Px (port_at 0) Cmd) 0x10 failed stopping

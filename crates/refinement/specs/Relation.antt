@@ -34,9 +34,9 @@ pub record SameSectors (m : Machine) (disk : Disk) (port : ℕ) : Type 0 where
   pub bytes_are_same : (k b : ℕ) → k < disk.sector_count → b < 512
       → slice_index (told_sectors k) b ≡ m.disk_bytes (port_at port) k b
 
--- what a sector of the port's disk may come back with, the machine's disk holds there or has held
-abbrev pub HoldsReplugCandidates : Machine → List Entry → DevicePort → ℕ → Type 0
-HoldsReplugCandidates m tape p port = (k : ℕ) → k < p.disk.sector_count → (bytes : List ℕ)
+-- what a sector of the port's disk may come back with, the machine's disk holds there, or held since its last flush
+abbrev pub KnowsAllReplugCandidates : Machine → List Entry → DevicePort → ℕ → Type 0
+KnowsAllReplugCandidates m tape p port = (k : ℕ) → k < p.disk.sector_count → (bytes : List ℕ)
     → WereHeldSinceFlush tape p.lasting port k bytes
     → HoldsOrHeldSinceFlush m (port_at port) k (slice_index bytes)
 
@@ -59,9 +59,9 @@ pub record StateRelation (uses : SlotStates) (m : Machine) (d : Device) : Type 0
   pub received_areas_in_use_are_placed : (port : ℕ) → (d.port port).fre ≡ true → HasReceivedArea (d.port port) port
   pub disks_are_same : (port : ℕ) → IsDiskOf m (d.port port) port
   pub client_frames_are_same : SameClientFrames m d.memory
-  pub sectors_are_same_if_disks_tell : d.telling ≡ true → (port : ℕ) → SameSectors m (d.port port).disk port
-  pub holds_replug_candidates_if_disks_tell : d.telling ≡ true → (port : ℕ)
-      → HoldsReplugCandidates m d.tape (d.port port) port
+  pub sectors_are_same_if_disks_tell : d.disks_tell_sectors ≡ true → (port : ℕ) → SameSectors m (d.port port).disk port
+  pub knows_replug_candidates_if_disks_tell : d.disks_tell_sectors ≡ true → (port : ℕ)
+      → KnowsAllReplugCandidates m d.tape (d.port port) port
 
 -- ---- what stands beside it, by port
 

@@ -5,7 +5,7 @@ use Rattle.ata_types.specs.declared.request.Op.{Op}
 use Rattle.ata_types.specs.declared.request.Op.TheVariants.{Read, Write, Trim, Flush}
 use Rattle.ata_types.specs.declared.request.RequestId.{RequestId}
 use Rattle.ata_types.specs.declared.limits.TheConstants.{MOST_REQUEST_FRAMES}
-use Rattle.adapter.specs.Commands.{Meaning, is_queued, is_ranged}
+use Rattle.adapter.specs.Commands.{Meaning, is_queued, moves_disk_sectors}
 use Rattle.adapter.specs.Device.{FetchedCommand, DevicePort}
 use Rattle.adapter.specs.Memory.{bytes_at, changed}
 use Rattle.adapter.specs.Decoding.{DecodesTo}
@@ -74,7 +74,7 @@ AreRequestPlaces Flush port r places = places ≡ []
 -- The command is the request's. Only slot 0 has a block in the scratch frame.
 pub record MeansRequest (port slot : ℕ) (r : Accepted) (c : Meaning) (places : List ℕ) : Type 0 where
   pub op_is : client_operation_of c.operation ≡ Some r.asked.op
-  pub first_sector_is_if_ranged : is_ranged c.operation ≡ true → c.first ≡ r.asked.first.0
+  pub first_sector_is_if_it_moves_sectors : moves_disk_sectors c.operation ≡ true → c.first ≡ r.asked.first.0
   pub places_are : AreRequestPlaces r.asked.op port r places
   pub trim_is_in_slot_0 : r.asked.op ≡ Trim → slot ≡ 0
 
@@ -117,14 +117,14 @@ pub record AwaitsFetch (memory : ℕ → ℕ) (p : DevicePort) (port slot : ℕ)
   pub unended : e.ended ≡ false
 
 -- what a taken command has moved, or cleared, was touched
-abbrev pub TouchedAsMoved : Op → (ℕ → ℕ) → ℕ → Pending → FetchedCommand → Type 0
-TouchedAsMoved Read memory port e t = TouchedUpTo e.touched t.moved
-TouchedAsMoved Write memory port e t = TouchedUpTo e.touched t.moved
-TouchedAsMoved Trim memory port e t =
+abbrev pub TouchedAsMovedOrCleared : Op → (ℕ → ℕ) → ℕ → Pending → FetchedCommand → Type 0
+TouchedAsMovedOrCleared Read memory port e t = TouchedUpTo e.touched t.moved
+TouchedAsMovedOrCleared Write memory port e t = TouchedUpTo e.touched t.moved
+TouchedAsMovedOrCleared Trim memory port e t =
     TouchedUpTo e.touched t.cleared
     × (((t.moved ≡ 0) × (t.cleared ≡ 0) × MeansRange (bytes_at memory (scratch_frame_address port) 512) e.request)
     ⊎ ((t.moved ≡ 1) × MeansRange t.block e.request))
-TouchedAsMoved Flush memory port e t = Unit {0}
+TouchedAsMovedOrCleared Flush memory port e t = Unit {0}
 
 -- taken by the device: the request isn't ended, also where all its sectors were touched
 pub record IsTakenFor (memory : ℕ → ℕ) (p : DevicePort) (port slot : ℕ) (e : Pending) (c : Meaning)
@@ -136,7 +136,7 @@ pub record IsTakenFor (memory : ℕ → ℕ) (p : DevicePort) (port slot : ℕ) 
   pub running : p.cr ≡ true
   pub ci_is_set_iff_st_and_plain : p.ci slot ≡ p.st && not (is_queued c.operation)
   pub sact : p.sact slot ≡ p.st && is_queued c.operation
-  pub progress : TouchedAsMoved e.request.asked.op memory port e command
+  pub progress : TouchedAsMovedOrCleared e.request.asked.op memory port e command
   pub unended : e.ended ≡ false
 
 -- ended, its bits clear

@@ -34,12 +34,12 @@ pub record MovesSector (m : Machine) (op : Op) (move : tape_move.Move) (steps : 
 
 -- A move, by the client's operation that its command does. A page, or a trim's block, goes between disk and scratch
 -- frame: that is no step of the machine.
-abbrev pub TellsMove : Option Op → Machine → tape_move.Move → List Step → Type 0
-TellsMove None m move steps = (move.address ≡ scratch_frame_address move.port.0) × (steps ≡ [])
-TellsMove (Some Read) m move steps = MovesSector m Read move steps
-TellsMove (Some Write) m move steps = MovesSector m Write move steps
-TellsMove (Some Trim) m move steps = (move.address ≡ scratch_frame_address move.port.0) × (steps ≡ [])
-TellsMove (Some Flush) m move steps = ⊥
+abbrev pub TellsTouchOrIsScratchMove : Option Op → Machine → tape_move.Move → List Step → Type 0
+TellsTouchOrIsScratchMove None m move steps = (move.address ≡ scratch_frame_address move.port.0) × (steps ≡ [])
+TellsTouchOrIsScratchMove (Some Read) m move steps = MovesSector m Read move steps
+TellsTouchOrIsScratchMove (Some Write) m move steps = MovesSector m Write move steps
+TellsTouchOrIsScratchMove (Some Trim) m move steps = (move.address ≡ scratch_frame_address move.port.0) × (steps ≡ [])
+TellsTouchOrIsScratchMove (Some Flush) m move steps = ⊥
 
 -- n sectors touched in a row, from one on: the request then, and the steps, the newest first. No bytes are moved.
 abbrev pub with_sectors_touched : Pending → ℕ → ℕ → Pending
@@ -77,7 +77,7 @@ TellsDone (Some op) m done steps = EndsPending m op done steps
 
 -- The machine's steps that an entry tells of. Of a disk that was put in the tape has the name alone.
 abbrev pub TellsEntry : Machine → Entry → List Step → Type 0
-TellsEntry m (entry.Move move) steps = TellsMove (client_operation_of move.operation) m move steps
+TellsEntry m (entry.Move move) steps = TellsTouchOrIsScratchMove (client_operation_of move.operation) m move steps
 TellsEntry m (entry.Clear clear) steps = ClearsSectors m clear steps
 TellsEntry m (entry.Done done) steps = TellsDone (client_operation_of done.operation) m done steps
 TellsEntry m (entry.Fault fault) steps = steps ≡ []
@@ -108,13 +108,13 @@ pub record IsPutIn (disk : device.Disk) (name size : ℕ) (content : DiskBytes) 
       → slice_index (told k) b ≡ content k b
 
 -- the disks that these steps, the newest first, put into the port, the oldest first
-abbrev pub PutsInDisks : ℕ → List device.Disk → List Step → Type 0
-PutsInDisks port disks [] = disks ≡ []
-PutsInDisks port disks (PlugDisk q name size content ∷ steps) =
-    ((q.0 ≢ port) × PutsInDisks port disks steps)
+abbrev pub PortPlugsPutInDisks : ℕ → List device.Disk → List Step → Type 0
+PortPlugsPutInDisks port disks [] = disks ≡ []
+PortPlugsPutInDisks port disks (PlugDisk q name size content ∷ steps) =
+    ((q.0 ≢ port) × PortPlugsPutInDisks port disks steps)
     ⊎ ((q.0 ≡ port) × ((earlier : List device.Disk) × (disk : device.Disk) × (disks ≡ earlier ++ disk ∷ [])
-    × IsPutIn disk name size content × PutsInDisks port earlier steps))
-PutsInDisks port disks (step ∷ steps) = PutsInDisks port disks steps
+    × IsPutIn disk name size content × PortPlugsPutInDisks port earlier steps))
+PortPlugsPutInDisks port disks (step ∷ steps) = PortPlugsPutInDisks port disks steps
 
 -- ---- what a call adds: device steps, and the driver's own between them
 

@@ -3,7 +3,7 @@
 ghost use Rattle.std.specs.Prelude.{ℕ, false, ◌≡◌, ◌≢◌, ◌++◌, List, Contains, length, None};
 ghost use Rattle.ata_types.specs.declared.Port.{Port};
 ghost use Rattle.hba_regs.specs.{Bits.{bit}, declared.reg.PortReg.{PortReg}, declared.reg.PortReg.TheVariants.{Cmd, Is, Sctl, Sact, Ci}, declared.reg.Reg.TheVariants.{Ghc, Px}};
-ghost use Rattle.adapter.specs.{Access.{Access, Does, Reads, Writes, Loads, Stores}, Device.{DevicePort, Device}, Idle.{IsIdle, DisksAreKnownIfTelling}, OneCommand.{SlotHasNoCommand}, Rules.{IsOn, MayWrite, IsStable}, Steps.{Steps}, declared.command.Operation.{Operation}, declared.tape.Entry.{Entry}};
+ghost use Rattle.adapter.specs.{Access.{Access, Does, Reads, Writes, Loads, Stores}, Device.{DevicePort, Device}, Idle.{IsIdle, DisksAreKnownIfTheyTell}, OneCommand.{SlotHasNoCommand}, Rules.{IsOn, MayWrite, IsStable}, Steps.{Steps}, declared.command.Operation.{Operation}, declared.tape.Entry.{Entry}};
 ghost use Rattle.refinement.specs.{Fragments.{AnyAccess, TapeGrows, AnySlotStates, SameSlotStates, SomeMachineAgrees, IsDrivenBy, ReadsPortOrWrites, IsSimulated, IsSimulatedChangingUses, AccessesNoOtherPort, OnlyDeviceChangesPort, NoCommandIsIssuedOrTaken, GainsNoMove}, Driver.{KeepsSlotStates, IsInMemoryOfFreeSlot}, PortFacts.{RecordsFaultsIfSt}, Laws.{TapeLaws}, PreservedParts.{SameAdapter, DoesNotWrite}};
 ghost use Rattle.refinement.specs.Slots.{SlotStates, Free, Own, client_operation_of, set_slot_state};
 
@@ -58,7 +58,7 @@ pub fn law_some_machine_agrees_after_simulation()
         → uses port 0 ≡ Free
         → SlotHasNoCommand (d.port port) 0 → SomeMachineAgrees (set_slot_state uses port 0 (Own o)) d
         → SomeMachineAgrees uses d }
-    ensures idle_device_agrees { (d : Device) → IsIdle d → DisksAreKnownIfTelling d
+    ensures idle_device_agrees { (d : Device) → IsIdle d → DisksAreKnownIfTheyTell d
         → SomeMachineAgrees (λ port slot. Free) d }
 {}
 

@@ -45,7 +45,7 @@ pub fn law_given_up_requests_are_parked()
 
 /// Where the machine agrees with the device, a slot in use is outstanding: so is the slot of a fault that the task file
 /// shows. Where every other slot is free, it is the one that isn't.
-pub fn law_slot_in_use_or_faulted_is_outstanding()
+pub fn law_issued_taken_or_faulted_is_outstanding()
     ensures used { (uses : SlotStates) (m : Machine) (d : Device) (port slot : ℕ) → StateRelation uses m d
         → InUse (d.port port) slot
         → IsOutstanding uses m (d.port port) port slot }

@@ -68,7 +68,7 @@ pub fn law_client_load_is_machine_load()
 }
 
 /// A step of the driver's own needs nothing of the device.
-pub fn law_own_steps_are_backed()
+pub fn law_steps_not_by_device_need_no_backing()
     ensures { (d : Device) (m : Machine) (step : Step) → (IsByDevice step → ⊥) → TapeBacksSteps d d m (step ∷ []) }
 {}
 
@@ -87,7 +87,7 @@ pub fn law_backing_composes()
 /// another. So it does by a step of its own; by what the device makes alone; by an access that ends with a step of its
 /// own; and by what any access or part of a call adds. And what goes so from each machine that agrees is a part of a
 /// call. The machine that is gone to is reached.
-pub fn law_advances_compose()
+pub fn law_driver_advances_compose()
     ensures reflexive { (k : DriverState) (m : Machine) → DriverRelation m k → DriverAdvances k m [] k }
     ensures transitive { (a b c : DriverState) (m : Machine) (early late : List Step) → DriverAdvances a m early b
         → DriverAdvances b (after m early) late c → DriverAdvances a m (late ++ early) c }
@@ -132,7 +132,7 @@ pub fn law_ticking_agrees()
 {}
 
 /// Nor does a client's grant that is revoked.
-pub fn law_revoking_agrees()
+pub fn law_revoking_grant_agrees()
     ensures { (k : DriverState) (m : Machine) (client : ClientId) (number : ℕ) → DriverRelation m k
         → DriverRelation (after_step m (Revoke client number)) k }
 {}
@@ -188,7 +188,7 @@ pub fn law_answering_with_frames_kept_agrees()
 {}
 
 /// A request that no slot serves may wait again.
-pub fn law_wait_again_agrees()
+pub fn law_slotless_request_waiting_again_agrees()
     ensures { (k : DriverState) (m : Machine) (e : Pending) (later : ℕ → List RequestId) → IsReachable m
         → DriverRelation m k
         → Contains m.book e → HasNoSlot k.slot_states e.request.id
@@ -334,7 +334,7 @@ pub fn law_enabled_issues_stay()
 /// unanswered and kept, in the same order, each as far as it was, or further. So what is due is the same. A frame that
 /// isn't lent to a request that the device may move keeps its bytes. And a port of which no request is kept has none
 /// kept after them.
-pub fn law_book_only_advances_over_device_steps()
+pub fn law_requests_only_advance_over_device_steps()
     ensures spares { (m : Machine) (steps : List Step) → AllByDevice steps
         → KeepsLoansAndPendingsOnlyAdvance m (after m steps) }
     ensures reflexive { (m : Machine) → KeepsLoansAndPendingsOnlyAdvance m m }
@@ -499,8 +499,8 @@ pub fn law_own_issuing_is_permitted()
 pub fn law_idle_device_agrees_with_initial_machine()
     ensures { (m : Machine) (d : Device) → IsInitial m → IsIdle d → ((port : ℕ) → IsDiskOf m (d.port port) port)
         → SameClientFrames m d.memory
-        → (d.telling ≡ true → (port : ℕ) → SameSectors m (d.port port).disk port)
-        → (d.telling ≡ true → (port k : ℕ)
+        → (d.disks_tell_sectors ≡ true → (port : ℕ) → SameSectors m (d.port port).disk port)
+        → (d.disks_tell_sectors ≡ true → (port k : ℕ)
         → m.overwritten_since_flush (port_at port) k ≡ replug_candidates d.tape (d.port port).lasting port k)
         → DriverRelation m (idle_driver_state d) }
 {}

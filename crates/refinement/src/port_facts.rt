@@ -3,10 +3,10 @@
 ghost use Rattle.std.specs.Prelude.{ℕ, true, false, ◌≡◌, ◌≢◌, ◌≤◌, ◌+◌, ◌*◌, ◌/◌, ◌%◌, ◌++◌, List, length, drop, Some, None, Contains, All};
 ghost use Rattle.ata_types.specs.{declared.Port.{Port}, declared.memory.TheConstants.{DRIVER_FRAMES, FRAME_BYTES}, declared.request.Frame.{Frame}, declared.request.RequestId.{RequestId}};
 ghost use Rattle.hba_regs.specs.{Bits.{bit}, declared.reg.Reg.{Reg}, declared.reg.Reg.TheVariants.{Ghc, Px}, declared.reg.PortReg.TheVariants.{Is, Ie, Cmd, Tfd, Sig, Ssts, Sctl, Serr, Ci, Sact, Clb, Clbu, Fb, Fbu}, declared.reg.PortReg.{PortReg}};
-ghost use Rattle.adapter.specs.{Access.{Reads, Writes, Loads, Stores, Access, Does, DoesAll, PortShows, notes_after_reading}, Access.Access.{Writing}, Device.{Device, DevicePort}, Device.Halt.{HaltedPlain}, FirstRead.{first_read_device}, Idle.{IsIdle, IsIdlePort}, OneCommand.{SlotHasNoCommand}, Rules.{IsInMemoryNotOwnedByDevice, IsOn, MayWrite, IsStable}, Steps.{Steps}, declared.command.Operation.{Operation}, declared.tape.Entry.{Entry}};
+ghost use Rattle.adapter.specs.{Access.{Reads, Writes, Loads, Stores, Access, Does, DoesAll, PortShows, notes_after_reading}, Access.Access.{Writing}, Device.{Device, DevicePort}, Device.Halt.{HaltedByPlain}, FirstRead.{first_read_device}, Idle.{IsIdle, IsIdlePort}, OneCommand.{SlotHasNoCommand}, Rules.{IsInMemoryNotOwnedByDevice, IsOn, MayWrite, IsStable}, Steps.{Steps}, declared.command.Operation.{Operation}, declared.tape.Entry.{Entry}};
 ghost use Rattle.block_machine.specs.{Events.{AllByDevice}, Histories.{IsReachable, IsSimulatedBySteps}, Expected.{after}, State.{Pending, Machine}, Steps.{Step, Release, IsIssuedOrKept, NoneKept, after_step}};
 ghost use Rattle.refinement.specs.{Relation.{StateRelation}, AwaitedPage.{AwaitsOrHasPage}, BootWitness.{BootWitness}, Fragments.{TapeGrows}, Driver.{DriverState, DriverRelation, IsOwnCommandPreparedInSlot0}, Errors.{KeepsSetBitsOfPxisAndSerrNX, NoDiskComes, LinkErrorsRiseByDisks, ErrorBitsStayClear, NoFatalErrors, NoFaults, ErrorBitsRiseByErrors, IsLeftByReset, ShowsResetStateUntilSerrX, IsCompositional, IsEngineWorkOrErrorOf}};
-ghost use Rattle.refinement.specs.PortFacts.{IsEngineStopped, IsQuiescentPort, FollowsAndHasPageSinceStSet, DeviceOwnsNoByteOfFrame, CommandsAreOver, RunsWell, Undisturbed, ShowsNoTrouble, PxisValueTellsNoTrouble, ClearsNoTrouble, IsHaltedPlainOrQueued, ShowsFault, RecordsFaults, RecordsFaultsIfSt, WhileLinkAwaitedCrIsClearAndDrqSet, CrAndTfesAreClear, IsCleanToStart, StartsCleanAndWritesSctlStopped, EndedOnPort, IsSlotClear};
+ghost use Rattle.refinement.specs.PortFacts.{IsEngineStopped, IsQuiescentPort, FollowsAndHasPageSinceStSet, DeviceOwnsNoByteOfFrame, CommandsAreOver, RunsWell, Undisturbed, ShowsNoTrouble, PxisValueTellsNoTrouble, ClearsNoTrouble, IsHaltedByPlainOrQueued, ShowsFault, RecordsFaults, RecordsFaultsIfSt, WhileLinkAwaitedCrIsClearAndDrqSet, CrAndTfesAreClear, IsCleanToStart, StartsCleanAndWritesSctlStopped, EndedOnPort, IsSlotClear};
 ghost use Rattle.refinement.specs.{PreservedParts.{DoesNotWrite, SameAdapter, ControlsChangeOnlyByTheirWrites, NoPlugEvents, KeepsDisk, LinkIsSameOrComesUp, HasDet3IfDiskPresent}, PortNotes.{NotesChangeOnlyByReadOrSctlWrite, NotesLast}, MemoryLayout.{scratch_frame_address}, Slots.{SlotStates, Free, Own, Serves, PageCameSinceAndStandsInScratch, set_slot_state}, SparedBook.{IsNotStepOfPendingRequest}, Staying.{StaysOverReadings, StaysOverSteps, StaysOverPermittedWritesWithCmdValue}};
 ghost use Rattle.refinement.specs.StartedPort.{IsUpForStart, IsStoppedAndUpForStartIfDet3, IsStarted, WritesCmdOnlyWithStClear, WritesCmdOnlyWithStSet};
 
@@ -362,7 +362,7 @@ pub fn law_writing_ghc_switches_on()
 
 /// A load is steps of the device, and a store is such steps with memory changed after them: so what holds of ports and
 /// of the tape over the device's steps holds over loads and stores.
-pub fn law_loads_and_stores_change_ports_by_steps()
+pub fn law_memory_accesses_change_ports_by_steps()
     ensures load { (at : ℕ) (bytes : List ℕ) (old new : Device) → Loads at bytes old new → Steps old new }
     ensures store { (at : ℕ) (bytes : List ℕ) (old new : Device) → Stores at bytes old new
         → (mid : Device) × Steps old mid × ((port : ℕ) → new.port port ≡ mid.port port) × (new.tape ≡ mid.tape)
@@ -480,7 +480,7 @@ pub fn law_tape_and_tfd_keep_faults_since_st()
         → IsStable (StartsCleanAndWritesSctlStopped r v) d }
     ensures idle { (tape : List Entry) (p : DevicePort) (port : ℕ) → p.st ≡ false → RecordsFaultsIfSt tape p port }
     ensures runs { RecordsFaults first_read_device.tape (first_read_device.port 0) 0 }
-    ensures failed { (new : Device) × Steps first_read_device new × ((new.port 0).halt ≡ HaltedPlain)
+    ensures failed { (new : Device) × Steps first_read_device new × ((new.port 0).halt ≡ HaltedByPlain)
         × RecordsFaults new.tape (new.port 0) 0 }
 {}
 
@@ -539,20 +539,20 @@ pub fn law_tfes_and_drq_clear_mean_clean_to_start()
 pub fn law_tfes_read_set_means_fault_halts_port()
     ensures told { (port : Port) (v : ℕ) (old new : Device) → old.hr ≡ false → (old.port port.0).st ≡ true
         → RecordsFaultsIfSt old.tape (old.port port.0) port.0 → Reads (Px port Is) v old new → bit v 30 ≡ true
-        → IsHaltedPlainOrQueued (new.port port.0).halt }
+        → IsHaltedByPlainOrQueued (new.port port.0).halt }
     ensures steps { (port : ℕ) (old new : Device) → old.hr ≡ false → (old.port port).st ≡ true
-        → RecordsFaultsIfSt old.tape (old.port port) port → IsHaltedPlainOrQueued (old.port port).halt → Steps old new
-        → IsHaltedPlainOrQueued (new.port port).halt }
+        → RecordsFaultsIfSt old.tape (old.port port) port → IsHaltedByPlainOrQueued (old.port port).halt → Steps old new
+        → IsHaltedByPlainOrQueued (new.port port).halt }
     ensures reads { (port : ℕ) (r : Reg) (v : ℕ) (old new : Device) → old.hr ≡ false → (old.port port).st ≡ true
-        → RecordsFaultsIfSt old.tape (old.port port) port → IsHaltedPlainOrQueued (old.port port).halt
+        → RecordsFaultsIfSt old.tape (old.port port) port → IsHaltedByPlainOrQueued (old.port port).halt
         → Reads r v old new
-        → IsHaltedPlainOrQueued (new.port port).halt }
+        → IsHaltedByPlainOrQueued (new.port port).halt }
     ensures writes { (port : ℕ) (r : Reg) (v : ℕ) (old new : Device) → old.hr ≡ false → (old.port port).st ≡ true
-        → RecordsFaultsIfSt old.tape (old.port port) port → IsHaltedPlainOrQueued (old.port port).halt
+        → RecordsFaultsIfSt old.tape (old.port port) port → IsHaltedByPlainOrQueued (old.port port).halt
         → Writes r v old new
-        → IsHaltedPlainOrQueued (new.port port).halt }
+        → IsHaltedByPlainOrQueued (new.port port).halt }
     ensures shown { (port : Port) (v : ℕ) (old new : Device) → old.hr ≡ false → (old.port port.0).st ≡ true
-        → RecordsFaultsIfSt old.tape (old.port port.0) port.0 → IsHaltedPlainOrQueued (old.port port.0).halt
+        → RecordsFaultsIfSt old.tape (old.port port.0) port.0 → IsHaltedByPlainOrQueued (old.port port.0).halt
         → Reads (Px port Tfd) v old new
         → (s : ShowsFault (drop (new.port port.0).notes.st_set_at new.tape) (new.port port.0) port.0)
         × (v % 256 ≡ s.fault.status) × (v / 256 % 256 ≡ s.fault.error) }

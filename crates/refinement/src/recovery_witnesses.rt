@@ -1,7 +1,7 @@
 // What the laws of plain work are about, and what they can't do without: the clause is the theorem. Nothing that runs
 // calls these functions.
 ghost use Rattle.std.specs.Prelude.{ℕ, true, false, ◌≡◌, Some};
-ghost use Rattle.adapter.specs.{Commands.{is_queued}, Device.{FetchedCommand, Device}, Device.Halt.{NotHalted, HaltedPlain, HaltedQueued}, FirstRead.{first_read_device}, Steps.{Steps, halt_after_start}};
+ghost use Rattle.adapter.specs.{Commands.{is_queued}, Device.{FetchedCommand, Device}, Device.Halt.{NotHalted, HaltedByPlain, HaltedByQueued}, FirstRead.{first_read_device}, Steps.{Steps, halt_after_start}};
 ghost use Rattle.block_machine.specs.{Histories.{IsReachable}, State.{Machine}};
 ghost use Rattle.refinement.specs.{Relation.{StateRelation}, Slots.{SlotStates}, HaltRecovery.{WorksOnUnqueuedCommandsOnly}, LogWitness.{LogEndsHaltWitness}, RecoveryWitness.{CommandMayHaveFailedBySstsRead, RecoveredWitness}, TwoReadsWitness.{two_issued}};
 
@@ -17,8 +17,8 @@ pub fn law_fault_recovery_example_runs_well()
 /// There are ports that fail, as their driver looks at them: they are there for a recovery to be asked for. On the one
 /// a plain read has failed, and on the other a queued one, in slot 1, while another waits.
 pub fn law_a_command_may_have_failed()
-    ensures plain { CommandMayHaveFailedBySstsRead first_read_device 0 HaltedPlain }
-    ensures queued { CommandMayHaveFailedBySstsRead two_issued 1 HaltedQueued }
+    ensures plain { CommandMayHaveFailedBySstsRead first_read_device 0 HaltedByPlain }
+    ensures queued { CommandMayHaveFailedBySstsRead two_issued 1 HaltedByQueued }
 {}
 
 /// There is a port that takes READ LOG EXT alone, as after a queued fault, with that command prepared: it is issued and

@@ -11,7 +11,7 @@ use Rattle.request_queue.specs.declared.ranges.RequestRange.{RequestRange}
 use Rattle.request_queue.specs.Conflicts.{AreConflictLists, ConflictLists}
 use Rattle.request_queue.specs.BookEntries.{BookEntry, as_unanswered, unanswered_of, update_if_id, issued_request, request_with_issued_cleared}
 use Rattle.request_queue.specs.Flushes.{flushes_among}
-use Rattle.request_queue.specs.Blockers.{IsBlockerOf, is_waiting_read_or_write, may_block}
+use Rattle.request_queue.specs.Blockers.{IsBlockerOf, is_waiting_read_or_write, conflicts_with_earlier}
 use Rattle.request_queue.specs.Sectors.{AreIndexed}
 use Rattle.request_queue.proofs.Flushing.{issued_flushes, requeued_flushes}
 use Rattle.request_queue.proofs.Holding.{holds_earlier}
@@ -82,7 +82,7 @@ the_same (x ∷ y ∷ book) r o one there other = absurd (let two : suc (suc (le
 -- none holds it
 pub lone_is_free : (book : List Unanswered) (r : Unanswered) → length book ≡ 1 → Contains book r → IsBlockerOf book r None
 lone_is_free book r one there = false_from_ne_true _ (λ held.
-    let o = one_found (may_block r) book (and_parts (is_waiting_read_or_write r) _ held).1 in
+    let o = one_found (conflicts_with_earlier r) book (and_parts (is_waiting_read_or_write r) _ held).1 in
     let earlier = holds_earlier r o.0 o.2 in
     let same = ap (λ (x : Unanswered). x.id.0) (the_same book r o.0 one there o.1) in
     omega (arith, earlier, same))

@@ -16,7 +16,7 @@ use Rattle.request_queue.specs.BookRanges.{is_earlier_conflict_on_port}
 use Rattle.request_queue.specs.BookEntries.{BookEntry, as_unanswered, unanswered_of, issued_request, request_with_issued_cleared}
 use Rattle.request_queue.specs.Flushes.{listed_flush, flushes_among, comes_after_flush}
 use Rattle.request_queue.specs.declared.flushes.Flush.{Flush}
-use Rattle.request_queue.specs.Blockers.{AreBlockers, AreBlockersExceptOf, IsBlockerOf, waiting_read_or_write_has_blocker, is_blocked_by, is_waiting_read_or_write, may_block}
+use Rattle.request_queue.specs.Blockers.{AreBlockers, AreBlockersExceptOf, IsBlockerOf, waiting_read_or_write_has_blocker, is_blocked_by, is_waiting_read_or_write, conflicts_with_earlier}
 use Rattle.request_queue.specs.Sectors.{AreIndexed, AreItemsOfList, item_of, list_number_of_port}
 use Rattle.request_queue.proofs.Flushing.{in_flushes, of_flushes}
 use Rattle.request_queue.proofs.Indexing.{asks_more, asks_newest, ids_apart, in_four, in_remove}
@@ -38,7 +38,7 @@ module _ (book : List Unanswered) (lists : List (List RequestRange)) (is : AreIn
 
   none_found : list_any (is_earlier_conflict_on_port (item_of r)) items ≡ false → list_any (comes_after_flush r) flushes ≡ false → waiting_read_or_write_has_blocker book r ≡ false
   none_found none empty_flushes = false_from_ne_true _ (λ held.
-      let o = one_found (may_block r) book (and_parts (is_waiting_read_or_write r) _ held).1 in
+      let o = one_found (conflicts_with_earlier r) book (and_parts (is_waiting_read_or_write r) _ held).1 in
       let parts = and_parts (is_earlier_on_port o.0 r) _ o.2 in
       by o.0 o.1 parts.0 parts.1 (is_flush o.0.op) refl)
     where
@@ -92,20 +92,20 @@ module _ (book : List Unanswered) (lists : List (List RequestRange)) (is : AreIn
 
 -- a blocker stays where those that may hold do
 carried : (old new : List Unanswered) (r s : Unanswered) (h : Option RequestId) → is_waiting_read_or_write s ≡ is_waiting_read_or_write r
-    → ((o : Unanswered) → Contains new o → may_block s o ≡ true → (u : Unanswered) × Contains old u × (may_block r u ≡ true))
-    → ((o : Unanswered) → Contains old o → h ≡ Some o.id → may_block r o ≡ true → (u : Unanswered) × Contains new u × (u.id ≡ o.id) × (may_block s u ≡ true))
+    → ((o : Unanswered) → Contains new o → conflicts_with_earlier s o ≡ true → (u : Unanswered) × Contains old u × (conflicts_with_earlier r u ≡ true))
+    → ((o : Unanswered) → Contains old o → h ≡ Some o.id → conflicts_with_earlier r o ≡ true → (u : Unanswered) × Contains new u × (u.id ≡ o.id) × (conflicts_with_earlier s u ≡ true))
     → IsBlockerOf old r h → IsBlockerOf new s h
 carried old new r s None same back forth none = false_from_ne_true _ (λ held.
     let two = and_parts (is_waiting_read_or_write s) _ held in
-    let o = one_found (may_block s) new two.1 in
+    let o = one_found (conflicts_with_earlier s) new two.1 in
     let u = back o.0 o.1 o.2 in
-    both_ways _ none (and_from _ _ (sym same ∙ two.0) (found (may_block r) old u.0 u.1 u.2)))
+    both_ways _ none (and_from _ _ (sym same ∙ two.0) (found (conflicts_with_earlier r) old u.0 u.1 u.2)))
 carried old new r s (Some id) same back forth is =
     let u = forth is.1.0 is.1.1 (ap Some (sym is.1.2)) is.1.3 in
     (same ∙ is.0, (u.0, u.1, u.2 ∙ is.1.2, u.3))
 
 -- one that may hold a request was accepted before it
-pub holds_earlier : (r o : Unanswered) → may_block r o ≡ true → o.id.0 < r.id.0
+pub holds_earlier : (r o : Unanswered) → conflicts_with_earlier r o ≡ true → o.id.0 < r.id.0
 holds_earlier r o is = ltb-true o.id.0 r.id.0 (and_parts (o.port.0 == r.port.0) _ (and_parts (is_earlier_on_port o r) _ is).0).1
 
 -- accepted
@@ -168,20 +168,20 @@ module _ (book : List Unanswered) (blockers : List (Option RequestId)) (i : ℕ)
     ];
   }
     where
-      back : (x o : Unanswered) → Contains marked_book o → may_block x o ≡ true → (u : Unanswered) × Contains book u × (may_block x u ≡ true)
+      back : (x o : Unanswered) → Contains marked_book o → conflicts_with_earlier x o ≡ true → (u : Unanswered) × Contains book u × (conflicts_with_earlier x u ≡ true)
       back x o there holds = let long = length-set book i marked in let lt = there.1 in elim (cases_eq there.0 i) [
         | inl e ↦
             let same : o ≡ marked = sym there.2 ∙ (ap (λ (j : ℕ). get_or marked_book j o) e ∙ get_or-set_same book i marked o within) in
-            (r, (i, within, get_or_from_slice_get book i r r at), ap (may_block x) (sym same) ∙ holds)
+            (r, (i, within, get_or_from_slice_get book i r r at), ap (conflicts_with_earlier x) (sym same) ∙ holds)
         | inr ne ↦ (o, (there.0, omega (arith, lt, long), sym (get_or-set_other book i there.0 marked o ne) ∙ there.2), holds)
       ]
 
-      forth : (x o : Unanswered) → Contains book o → may_block x o ≡ true → (u : Unanswered) × Contains marked_book u × (u.id ≡ o.id) × (may_block x u ≡ true)
+      forth : (x o : Unanswered) → Contains book o → conflicts_with_earlier x o ≡ true → (u : Unanswered) × Contains marked_book u × (u.id ≡ o.id) × (conflicts_with_earlier x u ≡ true)
       forth x o there holds = let long = length-set book i marked in let lt = there.1 in elim (cases_eq there.0 i) [
         | inl e ↦
             let same : o ≡ r = sym there.2 ∙ (ap (λ (j : ℕ). get_or book j o) e ∙ get_or_from_slice_get book i r o at) in
             let w = within in
-            (marked, (i, omega (arith, w, long), get_or-set_same book i marked marked within), ap (λ (u : Unanswered). u.id) (sym same), ap (may_block x) (sym same) ∙ holds)
+            (marked, (i, omega (arith, w, long), get_or-set_same book i marked marked within), ap (λ (u : Unanswered). u.id) (sym same), ap (conflicts_with_earlier x) (sym same) ∙ holds)
         | inr ne ↦ (o, (there.0, omega (arith, lt, long), get_or-set_other book i there.0 marked o ne ∙ there.2), refl, holds)
       ]
 
@@ -300,7 +300,7 @@ module _ (book : List Unanswered) (r : Unanswered) where
 
   pub a_holder : (h : Option RequestId) → (h ≡ None → ⊥) → IsBlockerOf book r h → waiting_read_or_write_has_blocker book r ≡ true
   a_holder None some is = absurd (some refl)
-  a_holder (Some id) some is = and_from _ _ is.0 (found (may_block r) book is.1.0 is.1.1 is.1.3)
+  a_holder (Some id) some is = and_from _ _ is.0 (found (conflicts_with_earlier r) book is.1.0 is.1.1 is.1.3)
 
 -- ---- of the book's own requests
 

@@ -10,7 +10,7 @@ use Rattle.ata_types.specs.declared.Port.{Port}
 use Rattle.block_machine.specs.declared.due.QueueMode.{QueueMode}
 use Rattle.block_machine.specs.declared.due.Unanswered.{Unanswered}
 use Rattle.block_machine.specs.DueRequests.{conflict_on_port_by_flush_or_overlap, waits_for, is_waiting_and_unblocked, is_plain}
-use Rattle.request_queue.specs.Blockers.{is_waiting_read_or_write, may_block}
+use Rattle.request_queue.specs.Blockers.{is_waiting_read_or_write, conflicts_with_earlier}
 use Rattle.request_queue.specs.DueWalk.{TalliesIssued, IsReachedInWalk, is_issued_plain}
 use Rattle.request_queue.specs.declared.due.IssuedTally.{IssuedTally}
 use Rattle.request_queue.proofs.Members.{count_cons, contains_none, contains_here, contains_there, contains_cases}
@@ -115,7 +115,7 @@ module _ (mode : QueueMode) (requests : List Unanswered) (i : ℕ) (r : Unanswer
       none_meets : (o : Unanswered) → Contains requests o → nat_lt o.id.0 r.id.0 ≡ true → is_plain mode o.op ≡ false → conflict_on_port_by_flush_or_overlap o r ≡ true → ⊥
       none_meets o there less alone meets = both_ways _ reached.without_blocker
           (and_from (is_waiting_read_or_write r) _ (and_from (not r.issued) _ (ap not waits) (queued_is_read_or_write mode r.op queued))
-          (found (may_block r) requests o there (and_from _ _ (and_from _ _ (of_one_port o there) less) meets)))
+          (found (conflicts_with_earlier r) requests o there (and_from _ _ (and_from _ _ (of_one_port o there) less) meets)))
 
       back : list_any (waits_for mode r) requests ≡ true → list_any (is_issued_plain mode) requests ≡ true
       back is =

@@ -14,7 +14,7 @@ use Rattle.block_machine.specs.declared.due.QueueMode.{QueueMode}
 use Rattle.block_machine.specs.declared.due.Unanswered.{Unanswered}
 use Rattle.block_machine.specs.DueRequests.{IsInOrder, is_plain, issued_count, free_slots, due_of}
 use Rattle.request_queue.specs.BookEntries.{BookEntry, as_unanswered, unanswered_of, due_ids}
-use Rattle.request_queue.specs.Blockers.{waiting_read_or_write_has_blocker, is_waiting_read_or_write, may_block, without_blocker}
+use Rattle.request_queue.specs.Blockers.{waiting_read_or_write_has_blocker, is_waiting_read_or_write, conflicts_with_earlier, without_blocker}
 use Rattle.request_queue.specs.DueWalk.{IsReachedInWalk}
 use Rattle.request_queue.specs.RequestSlab.{unanswered_at, blank_request}
 use Rattle.request_queue.proofs.Members.{count_append, count_cons, taken_more}
@@ -66,10 +66,10 @@ module _ (port : Port) (all book : List Unanswered) (is : book ≡ without_block
   unheld_at : (i : ℕ) (r : Unanswered) → slice_get book i ≡ Some r → waiting_read_or_write_has_blocker book r ≡ false
   unheld_at i r at = false_from_ne_true _ (λ held.
       let two = and_parts (is_waiting_read_or_write r) _ held in
-      let o = one_found (may_block r) book two.1 in
+      let o = one_found (conflicts_with_earlier r) book two.1 in
       let in_all = (of_filter p all o.0 (subst (λ (xs : List Unanswered). Contains xs o.0) is o.1)).0 in
       let its = subst (λ (x : Unanswered). p x ≡ true) (get_or_from_slice_get book i r r at) (each_passes i r (slice_get_within book i r at)) in
-      both_ways _ (not-true _ (and_parts (r.port.0 == port.0) _ its).1) (and_from _ _ two.0 (found (may_block r) all o.0 in_all o.2)))
+      both_ways _ (not-true _ (and_parts (r.port.0 == port.0) _ its).1) (and_from _ _ two.0 (found (conflicts_with_earlier r) all o.0 in_all o.2)))
 
   -- the walk has come to it
   pub reached : IsInOrder all → (mode : QueueMode) (i : ℕ) (r : Unanswered) → slice_get book i ≡ Some r

@@ -11,7 +11,7 @@ use Rattle.ata_types.specs.declared.request.Op.TheVariants.{Read, Write, Trim, F
 use Rattle.block_machine.specs.declared.due.QueueMode.{QueueMode}
 use Rattle.block_machine.specs.declared.due.Unanswered.{Unanswered}
 use Rattle.block_machine.specs.DueRequests.{unblocked_ahead_count, conflict_on_port_by_flush_or_overlap, due_of, free_slots, waits_for, is_waiting_and_unblocked, is_due, is_earlier_on_port, is_flush, is_plain, issued_count}
-use Rattle.request_queue.specs.Blockers.{waiting_read_or_write_has_blocker, is_read_or_write, is_waiting_read_or_write, may_block, without_blocker}
+use Rattle.request_queue.specs.Blockers.{waiting_read_or_write_has_blocker, is_read_or_write, is_waiting_read_or_write, conflicts_with_earlier, without_blocker}
 use Rattle.request_queue.proofs.Members.{count_cons, contains_none, contains_here, contains_there, contains_cases}
 
 -- ---- tests and lists
@@ -109,7 +109,7 @@ module _ (mode : QueueMode) (port : Port) (book : List Unanswered) where
   its_holder : (r : Unanswered) → waiting_read_or_write_has_blocker book r ≡ true → (o : Unanswered) × Contains book o × ((o.port.0 == r.port.0) ≡ true) × (o.id.0 < r.id.0)
       × (conflict_on_port_by_flush_or_overlap o r ≡ true)
   its_holder r held =
-      let any = one_found (may_block r) book (and_parts (is_waiting_read_or_write r) _ held).1 in
+      let any = one_found (conflicts_with_earlier r) book (and_parts (is_waiting_read_or_write r) _ held).1 in
       let parts = and_parts (is_earlier_on_port any.0 r) _ any.2 in
       let early = and_parts (any.0.port.0 == r.port.0) _ parts.0 in
       (any.0, any.1, early.0, ltb-true any.0.id.0 r.id.0 early.1, parts.1)
@@ -184,7 +184,7 @@ module _ (mode : QueueMode) (port : Port) (book : List Unanswered) where
       none held less queued meets =
           both_ways _ (not-true _ mine.1)
           (and_from (is_waiting_read_or_write x) _ (and_from (not x.issued) _ (ap not free) (queued_is_read_or_write mode x.op queued))
-          (found (may_block x) book o any.1 (and_from _ _ (and_from _ _ parts.0 less) meets)))
+          (found (conflicts_with_earlier x) book o any.1 (and_from _ _ (and_from _ _ parts.0 less) meets)))
 
       out_of : waiting_read_or_write_has_blocker book o ≡ true → (b : Bool) → is_plain mode x.op ≡ b → list_any (waits_for mode x) (without_blocker port book) ≡ true
       out_of held true plain = ⊎_elim

@@ -23,18 +23,18 @@ abbrev pub is_waiting_read_or_write : Unanswered → Bool
 is_waiting_read_or_write r = not r.issued && is_read_or_write r.op
 
 -- the other was accepted before the request, and conflicts with it
-abbrev pub may_block : Unanswered → Unanswered → Bool
-may_block r other = is_earlier_on_port other r && conflict_on_port_by_flush_or_overlap other r
+abbrev pub conflicts_with_earlier : Unanswered → Unanswered → Bool
+conflicts_with_earlier r other = is_earlier_on_port other r && conflict_on_port_by_flush_or_overlap other r
 
--- the request is a waiting read or write, and one of the book may hold it
+-- the request is a waiting read or write, and conflicts with an earlier one of the book
 abbrev pub waiting_read_or_write_has_blocker : List Unanswered → Unanswered → Bool
-waiting_read_or_write_has_blocker book r = is_waiting_read_or_write r && list_any (may_block r) book
+waiting_read_or_write_has_blocker book r = is_waiting_read_or_write r && list_any (conflicts_with_earlier r) book
 
 -- The request's blocker is the one of the book with this id. None says that it has no blocker.
 abbrev pub IsBlockerOf : List Unanswered → Unanswered → Option RequestId → Type 0
 IsBlockerOf book r None = waiting_read_or_write_has_blocker book r ≡ false
 IsBlockerOf book r (Some id) = (is_waiting_read_or_write r ≡ true)
-    × ((other : Unanswered) × Contains book other × (other.id ≡ id) × (may_block r other ≡ true))
+    × ((other : Unanswered) × Contains book other × (other.id ≡ id) × (conflicts_with_earlier r other ≡ true))
 
 -- each request's blocker, in order of acceptance
 pub record AreBlockers (book : List Unanswered) (blockers : List (Option RequestId)) : Type 0 where

@@ -13,7 +13,7 @@ use ata_types::{MOST_UNANSWERED_OF_ALL_CLIENTS, Op, PORTS, RequestId};
 use block_machine::Unanswered;
 use std::alloc::{AllocError, Global};
 
-/// Holders of no requests, with room for 128. No other call takes memory.
+/// Blockers of no requests, with room for 128. No other call takes memory.
 pub fn empty_blockers(alloc: Global) -> Result<Vec<Blocker>, AllocError>
     ensures { IfOk result (λ blockers. (blockers.items ≡ [])
         × (MOST_UNANSWERED_OF_ALL_CLIENTS ≤ vec_capacity blockers)) }

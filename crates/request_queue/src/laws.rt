@@ -9,7 +9,7 @@ ghost use Rattle.block_machine.specs.State as machine;
 ghost use Rattle.block_machine.specs.Steps as steps;
 
 use ata_types::{MOST_UNANSWERED_OF_A_CLIENT, MOST_UNANSWERED_OF_ALL_CLIENTS};
-use block_machine::laws::{law_due_list_is_exact, law_issuing_due_in_turn_leaves_none_due};
+use block_machine::laws::{law_due_of_port_is_exact, law_issuing_due_in_turn_leaves_none_due};
 
 /// Where the machine's book is the book, the machine's due requests are the book's.
 pub fn law_book_and_machine_agree_on_due_requests()
@@ -25,7 +25,7 @@ pub fn law_book_and_machine_agree_on_due_requests()
         → BookRelation entries pending → p.request.port ≡ port → IsDue mode (map unanswered pending) (unanswered p)
         → Contains (due_ids mode port (unanswered_of entries)) p.request.id }
 {
-    law_due_list_is_exact();
+    law_due_of_port_is_exact();
 }
 
 /// Each step of the machine on requests is a change of the book, or leaves it.
@@ -85,7 +85,7 @@ pub fn law_unanswered_follow_book_operations()
 
 /// The due requests of a port may be issued one after the other: each of them waits when its turn comes; and then none
 /// is due.
-pub fn law_due_requests_go_in_turn()
+pub fn law_issuing_due_entries_in_turn_leaves_none_due()
     ensures each_due_is_due_after_those_before { (mode : QueueMode) (port : Port) (entries : List BookEntry)
         → BookIsWellFormed entries
         → AreDueInTurnAndLeaveNoneDue mode port (due_ids mode port (unanswered_of entries)) (unanswered_of entries) }

@@ -22,7 +22,7 @@ use Rattle.adapter.specs.declared.access.FatalError.TheVariants.{Interface, Host
 use Rattle.ata_types.specs.declared.call.Call.{Call}
 use Rattle.ata_types.specs.declared.call.Call.TheVariants.{Submit, ClientStore, ClientLoad, Service, Tick, Reset, Revoke, State, Device}
 use Rattle.script.specs.FieldWords.{Word, fatal_word, frames_word}
-use Rattle.script.specs.Line.{HasLine, PortBelow4AndSlotBelow32, RequestFitsTypes, StepFitsModelledAdapter, line_text, line_words, op_word, page_word, port_and_slot_words, request_words, step_words}
+use Rattle.script.specs.Line.{HasLine, PortBelow4AndSlotBelow32, RequestFitsTypes, StepFitsModelledAdapter, line_text, line_words, op_word, page_word, port_and_slot_words, request_field_words, step_words}
 use Rattle.script.proofs.FrameLemmas.{IsFrame, decimals}
 use Rattle.script.proofs.FrameLemmas as frame
 use Rattle.script.proofs.WordLemmas.{Lacks-below, Within, Within-decimal, Within-hex, Within-join, Within-literal, Within-weaker, IsUtf8-from_Within, slice_split-join}
@@ -73,7 +73,7 @@ sectors_are : (r : Request) (words : List Word) → RequestFitsTypes r → AreWo
 sectors_are r words h rest = by_are r (decimal r.first.0 ∷ decimal r.count ∷ words) h
     (more (number r.first.0 h.first_in_range) (more (number r.count (omega (arith, h.count_in_range))) rest))
 
-request_are : (op : Op) (r : Request) → RequestFitsTypes r → AreWords (request_words op r)
+request_are : (op : Op) (r : Request) → RequestFitsTypes r → AreWords (request_field_words op r)
 request_are Read r h = sectors_are r (frames_word r.frames.items ∷ []) h (more (listed r.frames.items h.frames_in_range) none)
 request_are Write r h = sectors_are r (frames_word r.frames.items ∷ []) h (more (listed r.frames.items h.frames_in_range) none)
 request_are Trim r h = sectors_are r [] h none
@@ -153,7 +153,7 @@ step_few (step.Unplug port) = omega arith
 step_few (step.Plug port disk) = omega arith
 step_few (step.LosePlug port) = omega arith
 
-request_few : (op : Op) (r : Request) → length (request_words op r) ≤ 5
+request_few : (op : Op) (r : Request) → length (request_field_words op r) ≤ 5
 request_few Read r = omega arith
 request_few Write r = omega arith
 request_few Trim r = omega arith

@@ -33,11 +33,11 @@ transfer_words r = decimal r.client.0 ∷ decimal r.grant ∷ decimal r.first.0 
     ∷ frames_word r.frames.items ∷ []
 
 -- what stands after the operation's word: of a trim no frames, and of a flush no sectors either
-abbrev pub request_words : Op → Request → List Word
-request_words Read r = transfer_words r
-request_words Write r = transfer_words r
-request_words Trim r = decimal r.client.0 ∷ decimal r.grant ∷ decimal r.first.0 ∷ decimal r.count ∷ []
-request_words Flush r = decimal r.client.0 ∷ decimal r.grant ∷ []
+abbrev pub request_field_words : Op → Request → List Word
+request_field_words Read r = transfer_words r
+request_field_words Write r = transfer_words r
+request_field_words Trim r = decimal r.client.0 ∷ decimal r.grant ∷ decimal r.first.0 ∷ decimal r.count ∷ []
+request_field_words Flush r = decimal r.client.0 ∷ decimal r.grant ∷ []
 
 -- a port, and a slot of it
 abbrev pub port_and_slot_words : Port → Slot → List Word
@@ -66,7 +66,7 @@ step_words (step.Plug port disk) = codes "plug" ∷ decimal port.0 ∷ decimal d
 step_words (step.LosePlug port) = codes "loseplug" ∷ decimal port.0 ∷ []
 
 abbrev pub line_words : Call DeviceStep → List Word
-line_words (Submit request) = op_word request.op ∷ request_words request.op request
+line_words (Submit request) = op_word request.op ∷ request_field_words request.op request
 line_words (ClientStore client frame offset bytes) =
     codes "store" ∷ decimal client.0 ∷ decimal frame.0 ∷ decimal offset ∷ encode_lower bytes.items ∷ []
 line_words (ClientLoad client frame offset count) =

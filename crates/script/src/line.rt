@@ -1,6 +1,6 @@
 // One line of a script: the call that it asks for.
 ghost use Rattle.std.specs.{Prelude.{◌≡◌, ◌<◌, ◌≤◌, ◌==◌, ◌↔◌, IsTrue, ◌++◌, ◌∷◌, [], codes, Some, None, IfSome, OnSome, length, map}, List.{slice_split}};
-ghost use Rattle.script.specs.Line.{HasLine, RequestFitsTypes, HasNoFieldsWithoutWord, FoundCallHasWords, FoundStepHasWords, FindsSpelledLine, FindsSpelledStep, line_text, op_word, request_words, transfer_words};
+ghost use Rattle.script.specs.Line.{HasLine, RequestFitsTypes, HasNoFieldsWithoutWord, FoundCallHasWords, FoundStepHasWords, FindsSpelledLine, FindsSpelledStep, line_text, op_word, request_field_words, transfer_words};
 ghost use Rattle.ata_types.specs.{declared.call.Call.{Call}, declared.call.Call.TheVariants.{Device, Submit}, declared.request.Op.{Op}, declared.request.Request.{Request}};
 ghost use Rattle.adapter.specs.declared.access.DeviceStep.{DeviceStep};
 
@@ -395,7 +395,7 @@ fn make_request(call: &mut Call<DeviceStep>)
 /// A read or a write, from the words after its own. A request that is in the place already keeps its room for frames.
 #[inline(never)]
 fn of_transfer(op: Op, words: &[&[u8]], call: &mut Call<DeviceStep>) -> Option<()>
-    requires { (r : Request) → HasNoFieldsWithoutWord op r × (request_words op r ≡ transfer_words r) }
+    requires { (r : Request) → HasNoFieldsWithoutWord op r × (request_field_words op r ≡ transfer_words r) }
     ensures found { FoundCallHasWords (op_word op ∷ map (λ w. w.now) words.now) result call.new }
     ensures only { FindsSpelledLine (op_word op ∷ map (λ w. w.now) words.now) result call.new }
 {

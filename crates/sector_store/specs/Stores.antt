@@ -23,8 +23,8 @@ abbrev pub first_untaken_sector : (room : List (List ℕ)) → ℕ → List ℕ
 first_untaken_sector room left = slice_index_or room (length room - left) []
 
 -- One more call has failed: a write, or else a read, of this sector.
-abbrev pub RecordsOneMoreFailure : Bool → ℕ → (was now : Option Failures) → Type 0
-RecordsOneMoreFailure is_write sector was now =
+abbrev pub HasRecordAndNotesOneMoreFailure : Bool → ℕ → (was now : Option Failures) → Type 0
+HasRecordAndNotesOneMoreFailure is_write sector was now =
     (f : Failures) × (was ≡ Some f)
     × (now ≡ Some (record {
       failed_calls = (f.failed_calls + 1) % 2 ^ 64;
@@ -41,9 +41,9 @@ pub record ReadsSector {S : Type 0} (size : S → ℕ) (told : S → Option (ℕ
   pub is_sector : done ≡ true → IsSectorBytes after
   pub place_is_kept : done ≡ false → after ≡ before
   pub no_call_fails : (done ≡ true) ⊎ (size old ≤ sector) → failures new ≡ failures old
-  pub failure_is_noted : done ≡ false → sector < size old → RecordsOneMoreFailure false sector (failures old)
+  pub failure_is_noted : done ≡ false → sector < size old → HasRecordAndNotesOneMoreFailure false sector (failures old)
       (failures new)
-  pub contents_are_kept : told new ≡ told old
+  pub told_contents_are_kept : told new ≡ told old
   pub size_is_kept : size new ≡ size old
 
 -- A sector of a store was to have these bytes. It has, and no other one has others; or there is none, or a call has
@@ -54,7 +54,7 @@ pub record WritesSector {S : Type 0} (size : S → ℕ) (told : S → Option (�
   where
     pub is_inside : done ≡ true → sector < size old
     pub sector_is_replaced : done ≡ true → told new ≡ option_map (λ told. with_sector told sector bytes) (told old)
-    pub told_is_kept : done ≡ false → told new ≡ told old
+    pub failure_keeps_told_contents : done ≡ false → told new ≡ told old
     pub no_call_fails : (done ≡ true) ⊎ (size old ≤ sector) → failures new ≡ failures old
     pub failure_is_noted : done ≡ false → sector < size old → FailsAndPosts (failures old) (failures new)
     pub size_is_kept : size new ≡ size old

@@ -1,6 +1,6 @@
 // A disk over an open file.
 ghost use Rattle.std.specs.Prelude.{◌≡◌, ◌↔◌, ◌<◌, ◌≤◌, ◌*◌, ◌/◌, ◌^◌, Some, None, IsTrue, true, false};
-ghost use Rattle.sector_store.specs.Stores.{RecordsOneMoreFailure, IsSectorBytes};
+ghost use Rattle.sector_store.specs.Stores.{HasRecordAndNotesOneMoreFailure, IsSectorBytes};
 
 use crate::sector_file::SectorFile;
 use crate::{Failures, SectorStore};
@@ -78,7 +78,7 @@ impl FileStore {
     /// Notes a read or a write of a sector that is there, if it failed.
     fn note(&mut self, is_write: bool, sector: u64, done: bool)
         ensures same { done ≡ true → self.new.failures ≡ self.old.failures }
-        ensures fails { done ≡ false → RecordsOneMoreFailure is_write sector (Some self.old.failures)
+        ensures fails { done ≡ false → HasRecordAndNotesOneMoreFailure is_write sector (Some self.old.failures)
             (Some self.new.failures) }
         ensures sectors { self.new.sectors ≡ self.old.sectors }
     {

@@ -1,6 +1,6 @@
 // Stores of sectors of 512 bytes.
 ghost use Rattle.std.specs.Prelude.{◌≡◌, ◌<◌, ◌≤◌, ◌+◌, ◌^◌, ℕ, List, Option, None, Some, IfOk, replicate, true, length, nat_lt, if◌then◌else◌, slice_index_or, vec_capacity, []};
-ghost use Rattle.sector_store.specs.{Stores.{AreSectors, RecordsOneMoreFailure, ReadsSector, WritesSector, filled_with_zeros_to_size}, declared.store.Failures.{Failures}};
+ghost use Rattle.sector_store.specs.{Stores.{AreSectors, HasRecordAndNotesOneMoreFailure, ReadsSector, WritesSector, filled_with_zeros_to_size}, declared.store.Failures.{Failures}};
 
 use crate::sector_file::copy;
 use std::alloc::{AllocError, Global};
@@ -47,8 +47,8 @@ pub trait SectorStore: Drop {
 
     /// Replaces a sector.
     fn write(&mut self, sector: u64, bytes: &[u8; 512]) -> bool
-        ensures { WritesSector size told failures (RecordsOneMoreFailure true sector) sector bytes.now self.old self.new
-            result };
+        ensures { WritesSector size told failures (HasRecordAndNotesOneMoreFailure true sector) sector bytes.now
+            self.old self.new result };
 
     /// What it tells are sectors.
     ghost told_sectors_are_valid: { (s : Self) → AreSectors (size s) (told s) };

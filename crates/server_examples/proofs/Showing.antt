@@ -48,8 +48,8 @@ use Rattle.ata_types.specs.declared.call.CallResult.TheVariants as said
 use Rattle.server_examples.specs.ShownHistories.{CallsHaveHistory, ReleasesFrame, ShownRunLaws, ServesRead, ServesReadAnew}
 
 pub has_run : {A : Type 0} (device : A → Device) (old new : ServerView A) (events : List (Call DeviceStep)) (before after : List (CallResult (ArrayVec Reply))) → RunsAsPromised device old new events before after → before ≡ []
-    → StartsHistory (server_of device old) → (device old.adapter).telling ≡ true → CallsHaveHistory device old new events after
-has_run device old new events before after promised empty begun telling =
+    → StartsHistory (server_of device old) → (device old.adapter).disks_tell_sectors ≡ true → CallsHaveHistory device old new events after
+has_run device old new events before after promised empty begun disks_tell_sectors =
     let kept = promised.simulates_calls begun.0 [] begun.1 in
     let whole = append-nil kept.added in
     let is : promised.results ≡ after = sym (promised.results_are ∙ ap (λ (xs : List (CallResult (ArrayVec Reply))). xs ++ promised.results) empty) in
@@ -62,7 +62,7 @@ has_run device old new events before after promised empty begun telling =
       history_leads_to_new = subst (λ (past : List (JointEvent Device DeviceStep)). LeadsToServer begun.0 past (server_of device new)) whole kept.drives_device.history_leads_to_server;
       is_run = subst (λ (past : List (JointEvent Device DeviceStep)). IsRun begun.0.abstract (events_of past)) whole kept.meets_client_promise.is_run;
       every_read_holds = subst (λ (past : List (JointEvent Device DeviceStep)). EveryReadHoldsExpected begun.0.abstract (events_of past)) whole
-          (kept.meets_client_promise.reads_hold_if_disks_tell (ap (λ (d : Device). d.telling) begun.1.state_is_at_history_end.device_is ∙ telling));
+          (kept.meets_client_promise.reads_hold_if_disks_tell (ap (λ (d : Device). d.disks_tell_sectors) begun.1.state_is_at_history_end.device_is ∙ disks_tell_sectors));
     })
 
 -- what calls asked and said

@@ -35,7 +35,7 @@ use Rattle.ata_types.specs.declared.call.CallResult.TheVariants as says
 -- A history begins with the new server, over disks that tell their sectors.
 pub record StartsToldHistory {A : Type 0} (device : A → Device) (s : ServerView A) : Type 0 where
   pub starts_history : StartsHistory (server_of device s)
-  pub disks_tell_sectors : (device s.adapter).telling ≡ true
+  pub disks_tell_sectors : (device s.adapter).disks_tell_sectors ≡ true
 
 -- These calls of a new server said this: a history leads to the server before them without calls, and with theirs to
 -- the server after them. It is a run, and each read that it answers Ok holds what was left.

@@ -17,8 +17,8 @@ use block_server::{CallResults, Server};
 use driver_history::troubles::law_services_heed_shown_failures;
 use machine_runs::laws::{
     law_accepted_was_asked, law_answers_are_lawful, law_book_issue_counts_match_history,
-    law_ok_was_served, law_replied_was_asked, law_sole_book_request_is_issued_if_ready,
-    law_unanswered_has_ready_port_or_stuck_reset, law_unanswered_was_there_or_just_asked,
+    law_ok_was_served, law_port_of_unanswered_is_ready_or_reset_stuck, law_replied_was_asked,
+    law_sole_book_request_is_issued_if_ready, law_unanswered_was_there_or_just_asked,
 };
 use std::alloc::Global;
 
@@ -35,7 +35,7 @@ fn law_shown_run_prerequisites()
     law_ok_was_served::<DeviceStep>();
     law_sole_book_request_is_issued_if_ready::<DeviceStep>();
     law_book_issue_counts_match_history();
-    law_unanswered_has_ready_port_or_stuck_reset::<DeviceStep>();
+    law_port_of_unanswered_is_ready_or_reset_stuck::<DeviceStep>();
     law_services_heed_shown_failures();
 }
 

@@ -18,14 +18,14 @@ use Rattle.hba_regs.specs.declared.reg.Reg.TheVariants.{Ghc, Px}
 use Rattle.refinement.specs.Fragments.{IsDrivenBy, AccessesNoOtherPort, OnlyDeviceChangesPort, GainsNoMove, TapeGrows}
 use Rattle.refinement.specs.Errors.{NoDiskComes, IsFatalEntryOf}
 use Rattle.refinement.specs.Laws.{FragmentLaws}
-use Rattle.refinement.specs.PortFacts.{IsHaltedPlainOrQueued, RecordsFaultsIfSt, RunsWell, ShowsNoTrouble, PxisValueTellsNoTrouble, Undisturbed, IsFaultOf}
+use Rattle.refinement.specs.PortFacts.{IsHaltedByPlainOrQueued, RecordsFaultsIfSt, RunsWell, ShowsNoTrouble, PxisValueTellsNoTrouble, Undisturbed, IsFaultOf}
 use Rattle.block_machine.specs.Events.{AbstractCall, AbstractState, AbstractCallResult, Service}
 use Rattle.block_machine.specs.Histories.{JointState}
 use Rattle.block_machine.specs.Ports.{Evidence, IsStoppedOrStuck, Ports, SamePort}
 use Rattle.driver_history.specs.Evidence.{IsEvidencedOf, ShowsLinkChange, ShowsFailure}
 use Rattle.error_recovery.specs.Evidence.{BringsLastLogPage, HasFailed, GainsSinceStart}
 use Rattle.driver_history.specs.Histories.{BootsAnewWhereRequired, HasOnlyTaskFileError, LosesNoPortError, RunsWellAnew, IsForeignOrUnfit, ProbesDisk}
-use Rattle.driver_history.specs.PortTurn.{HasTurnIn, EvidenceAgreesOn, call_accesses, UnusableWithXEndsNotDueAbsentOrDeadIfNoneComes}
+use Rattle.driver_history.specs.PortTurn.{HasTurnIn, EvidenceAgreesOn, call_accesses, NoLinkDueAfterXUnlessAbsentDeadOrDiskComes}
 use Rattle.driver_history.specs.AccessTrace.{WritesOneToNoTroubleBit, LastSctlWritesResetLink}
 use Rattle.port_control.specs.Engines.{Stops}
 use Rattle.port_control.specs.PortEvents.{TakesEvent, port_event_of, IsPxisSstsOrOwnIsAccess}
@@ -51,12 +51,12 @@ pub record LookLaws : Type 0 where
   -- a command that failed
   pub look_finds_fault_halted : (port : Port) (old new : Device) → IsOn old → TakesEvent port TaskFileError old new
       → (old.port port.0).st ≡ true → RecordsFaultsIfSt old.tape (old.port port.0) port.0
-      → IsHaltedPlainOrQueued (new.port port.0).halt
+      → IsHaltedByPlainOrQueued (new.port port.0).halt
       × ((new.port port.0).notes.last_ssts % 16 ≡ 3)
   pub reading_keeps_fault_halted : (port : Port) (r : PortReg) (v : ℕ) (old new : Device) → IsOn old
       → Reads (Px port r) v old new
       → r ≢ Ssts → (old.port port.0).st ≡ true → RecordsFaultsIfSt old.tape (old.port port.0) port.0
-      → IsHaltedPlainOrQueued (old.port port.0).halt → IsHaltedPlainOrQueued (new.port port.0).halt
+      → IsHaltedByPlainOrQueued (old.port port.0).halt → IsHaltedByPlainOrQueued (new.port port.0).halt
       × ((new.port port.0).notes.last_ssts ≡ (old.port port.0).notes.last_ssts)
   -- what a look tells of trouble
   pub look_tells_shown_change : (port : Port) (result : PortEvent) (old new : Device) → IsOn old
@@ -191,7 +191,7 @@ pub record CallLaws : Type 0 where
       → IsOn old.device → (t : HasTurnIn port old.device new) → IsOn t.end → SamePort ended ports port
       → SamePort old.abstract.ports begun.ports port
       → (IsForeignOrUnfit old.abstract.ports port → HasDet3IfDiskPresent (old.device.port port.0))
-      → UnusableWithXEndsNotDueAbsentOrDeadIfNoneComes port (record { device = t.start; abstract = begun }) ended t.end
+      → NoLinkDueAfterXUnlessAbsentDeadOrDiskComes port (record { device = t.start; abstract = begun }) ended t.end
       → (NoDiskComes port.0 t.start t.end → ProbesDisk t.turn
       (record { device = t.start; abstract = begun }) ended t.end
       port)
@@ -200,8 +200,8 @@ pub record CallLaws : Type 0 where
       (ended ports : Ports) (new : Device)
       → IsOn old.device → (t : HasTurnIn port old.device new) → IsOn t.end → SamePort ended ports port
       → SamePort old.abstract.ports begun.ports port
-      → UnusableWithXEndsNotDueAbsentOrDeadIfNoneComes port (record { device = t.start; abstract = begun }) ended
-      t.end → UnusableWithXEndsNotDueAbsentOrDeadIfNoneComes port old ports new
+      → NoLinkDueAfterXUnlessAbsentDeadOrDiskComes port (record { device = t.start; abstract = begun }) ended
+      t.end → NoLinkDueAfterXUnlessAbsentDeadOrDiskComes port old ports new
   pub stopped_port_set_st_since : (port : Port) (accesses : List Access) (old new : Device) → IsOn old
       → All (DoesNotWrite Ghc) accesses → DoesAll accesses old new → Stops port accesses → (new.port port.0).st ≡ true
       → length old.tape ≤ (new.port port.0).notes.st_set_at

@@ -52,12 +52,14 @@ NamesNoneAndIsNotRunning result = (result.failed ≡ None)
     × ((token : running_token.Running) → result.next ≢ next.Running token)
 
 -- What is told then. Where a command had failed, the port was recovered. Where its link or the host's bus had, its disk
--- was lost, or a request is hung, the port was stopped.
-abbrev pub ErrorHandlingIsBacked : PortError → Port → ℕ → Bool → Recovered → List Access → Device → Device → Type 0
-ErrorHandlingIsBacked TaskFileError port outstanding queued result accesses old new =
+-- was lost, or a request is hung, nobody is named, and the port doesn't run.
+abbrev pub TellsRecoveryIfTaskFileErrorElseNamesNone : PortError → Port → ℕ → Bool → Recovered → List Access → Device
+    → Device → Type 0
+TellsRecoveryIfTaskFileErrorElseNamesNone TaskFileError port outstanding queued result accesses old new =
     TellsRecovery port outstanding queued result
     accesses old new
-ErrorHandlingIsBacked port_error port outstanding queued result accesses old new = NamesNoneAndIsNotRunning result
+TellsRecoveryIfTaskFileErrorElseNamesNone port_error port outstanding queued result accesses old new =
+    NamesNoneAndIsNotRunning result
 
 -- each used slot has a queued command, or each has a plain one
 abbrev pub AreAllQueuedAs : Bool → PortSlots → Type 0
@@ -85,9 +87,8 @@ pub record IsErrorHandled (port : Port) (old mid : ServerState) (new : Device) :
   pub are_queued_alike : AreAllQueuedAs queued (slots_at mid.slots port.0)
   pub result : Recovered
   pub recovers_or_stops : RecoversOrStops port outstanding queued result mid.device new
-  pub tells_error_handling : ErrorHandlingIsBacked port_error port outstanding queued result recovers_or_stops.accesses
-      mid.device
-      new
+  pub tells_error_handling : TellsRecoveryIfTaskFileErrorElseNamesNone port_error port outstanding queued result
+      recovers_or_stops.accesses mid.device new
 
 -- ---- what it is then
 

@@ -217,8 +217,8 @@ pub record PrerequisiteLaws : Type 0 where
   pub one_port_spares_ghc : (port : Port) (access : Access) → AccessesNoOtherPort port access → DoesNotWrite Ghc access
   pub idle_device_is_related : (m : Machine) (d : Device) → IsInitial m → IsIdle d
       → ((port : ℕ) → IsDiskOf m (d.port port) port) → SameClientFrames m d.memory
-      → (d.telling ≡ true → (port : ℕ) → SameSectors m (d.port port).disk port)
-      → (d.telling ≡ true → (port k : ℕ)
+      → (d.disks_tell_sectors ≡ true → (port : ℕ) → SameSectors m (d.port port).disk port)
+      → (d.disks_tell_sectors ≡ true → (port k : ℕ)
       → m.overwritten_since_flush (port_at port) k ≡ replug_candidates d.tape (d.port port).lasting port k)
       → DriverRelation m (idle_driver_state d)
   -- clients' bytes

@@ -16,7 +16,7 @@ use Rattle.block_machine.specs.Events.{AbstractCall, AnswersLawfulAndWaitsOnStop
 use Rattle.block_machine.specs.DueRequests.{requests_of_port}
 use Rattle.block_machine.specs.Histories.{JointEvent, JointState, IsReachable}
 use Rattle.block_machine.specs.Expected.{after}
-use Rattle.block_machine.specs.Ports.{Evidence, RequestFault, IsStoppedOrStuck, ChangesOnlyIfStoppedOrStuck, Ports, SameSerialAndSize, SamePort}
+use Rattle.block_machine.specs.Ports.{Evidence, RequestFault, IsStoppedOrStuck, MayBecomeInService, Ports, SameSerialAndSize, SamePort}
 use Rattle.block_machine.specs.State.{Machine, Pending}
 use Rattle.block_machine.specs.Steps.{Step, WaitAgain, Answer, Issue}
 use Rattle.driver_history.specs.EvidenceHandling.{OnlyPortsShowingErrorRequeueAbortRevokeFault}
@@ -26,7 +26,7 @@ use Rattle.identify.specs.ErrorLog.{NamesQueuedCommand}
 use Rattle.driver_history.specs.Histories.{FindsDone, IsIssuedOn, IssuesDue, LosesNoPortError, RunsWellAnew, PortCorresponds}
 use Rattle.driver_history.specs.PortInvariants.{HasNoUnanswered}
 use Rattle.driver_history.specs.AccessTrace.{StaysInDriverFrames, LastSctlWritesResetLink}
-use Rattle.driver_history.specs.PortTurn.{UnusableWithXEndsNotDueAbsentOrDeadIfNoneComes}
+use Rattle.driver_history.specs.PortTurn.{NoLinkDueAfterXUnlessAbsentDeadOrDiskComes}
 use Rattle.host_boot.specs.TakeOver.{probe_result_of}
 use Rattle.host_boot.specs.declared.ProbeResult.{ProbeResult}
 use Rattle.host_boot.specs.declared.ProbeResult.TheVariants.{Ready, Unready, Unserved}
@@ -116,25 +116,24 @@ joint_event_of_turn turn replies new evidence steps = record {
 }
 
 -- What a call does of a port's trouble: none is lost unless the port was stopped, and then it runs well anew.
-pub record HandlesShownErrors (port : Port) (accesses : List Access) (old : JointState Device) (evidence : Evidence)
-    (ports : Ports) (new : Device) : Type 0 where
+pub record LosesNoErrorAndRunsWellAnew (port : Port) (accesses : List Access) (old : JointState Device)
+    (evidence : Evidence) (ports : Ports) (new : Device) : Type 0 where
   pub loses_no_error : LosesNoPortError evidence old ports new port
   pub runs_well_anew : RunsWellAnew evidence accesses old ports new port
 
 -- In a service the turn has done of its port what a call does of one; where it probed a port that showed X, and no disk
--- came, no link is due at its end, unless the port is absent or dead (UnusableWithXEndsNotDueAbsentOrDeadIfNoneComes);
+-- came, no link is due at its end, unless the port is absent or dead (NoLinkDueAfterXUnlessAbsentDeadOrDiskComes);
 -- where it restarts the port it has done what a call does of trouble; of a port that rests nothing is asked.
-abbrev pub CorrespondsOrHandlesErrorsByTurn : Turn → Port → List Reply → List Access → ServerState → ServerState
-    → Machine → Evidence
-    → List Step → Type 0
-CorrespondsOrHandlesErrorsByTurn ServingReady port replies accesses old new m evidence steps =
+abbrev pub CorrespondsInServiceLosesNoErrorInRestart : Turn → Port → List Reply → List Access → ServerState
+    → ServerState → Machine → Evidence → List Step → Type 0
+CorrespondsInServiceLosesNoErrorInRestart ServingReady port replies accesses old new m evidence steps =
     PortCorresponds (joint_state_of old m) (joint_event_of_turn ServingReady replies new evidence steps) accesses port
-CorrespondsOrHandlesErrorsByTurn InRestart port replies accesses old new m evidence steps =
-    HandlesShownErrors port accesses (joint_state_of old m) evidence (ports_of new) new.device
-CorrespondsOrHandlesErrorsByTurn InProbe port replies accesses old new m evidence steps =
+CorrespondsInServiceLosesNoErrorInRestart InRestart port replies accesses old new m evidence steps =
+    LosesNoErrorAndRunsWellAnew port accesses (joint_state_of old m) evidence (ports_of new) new.device
+CorrespondsInServiceLosesNoErrorInRestart InProbe port replies accesses old new m evidence steps =
     PortCorresponds (joint_state_of old m) (joint_event_of_turn InProbe replies new evidence steps) accesses port
-    × UnusableWithXEndsNotDueAbsentOrDeadIfNoneComes port (joint_state_of old m) (ports_of new) new.device
-CorrespondsOrHandlesErrorsByTurn RestingInTick port replies accesses old new m evidence steps = Unit {0}
+    × NoLinkDueAfterXUnlessAbsentDeadOrDiskComes port (joint_state_of old m) (ports_of new) new.device
+CorrespondsInServiceLosesNoErrorInRestart RestingInTick port replies accesses old new m evidence steps = Unit {0}
 
 -- What was done was found by a reading of the masks, in which the bits of each slot that wasn't used when the turn
 -- began were clear. (The bytes of such a slot may say still the command of a request that has ended.)
@@ -205,7 +204,7 @@ pub record SimulatesTurn (turn : Turn) (port : Port) (replies : List Reply) (acc
       accesses old new m evidence steps
   pub replies_match : RepliesMatch steps replies
   pub unplugged_outcome_empties_port : UnpluggedOutcomeEmptiesPort steps (after m steps)
-  pub port_is_serviced : ChangesOnlyIfStoppedOrStuck (ports_of old) evidence (ports_of new) port
+  pub port_is_serviced : MayBecomeInService (ports_of old) evidence (ports_of new) port
   pub shown_disk_was_in_or_came : SamePort (ports_of old) (ports_of new) port
       ⊎ ShownDiskWasInOrCame (abstract_state_of old m) steps (abstract_state_of new (after m steps)) port
   pub same_disk_or_none_unanswered : SameSerialAndSize (ports_of old) (ports_of new) port
@@ -216,7 +215,7 @@ pub record SimulatesTurn (turn : Turn) (port : Port) (replies : List Reply) (acc
       evidence port
   pub faults_are_told : (told : RequestFault) → Contains evidence.faults told
       → IsFaultOfUsedSlot port accesses old new told
-  pub turn_corresponds : CorrespondsOrHandlesErrorsByTurn turn port replies accesses old new m evidence steps
+  pub turn_corresponds : CorrespondsInServiceLosesNoErrorInRestart turn port replies accesses old new m evidence steps
   pub finds_done : turn ≡ ServingReady → (e : Pending) → IsIssuedOn port m e → FindsDoneInTurn port accesses old m steps
 
 -- what a turn of the port leaves of the server: its grants, the disks that are wanted, the id that was handed out last,

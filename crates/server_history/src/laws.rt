@@ -2,7 +2,7 @@
 ghost use Rattle.std.specs.Prelude.{ℕ, Bool, true, false, ◌≡◌, ◌≢◌, ◌<◌, ◌≤◌, ◌+◌, ◌*◌, ◌/◌, ◌%◌, ◌++◌, List, [], ◌∷◌, Some, None, Ok, Err, length, All, Contains, count_by, not};
 ghost use Rattle.ata_types.specs.{declared.Port.{Port}, declared.PortState.TheVariants.{Dead, Ready as ReadyState}, declared.grant.GrantRow.{GrantRow}, declared.memory.TheConstants.{FRAME_BYTES}, declared.refusal.MemFault.{MemFault}, declared.refusal.Refusal.{Refusal}, declared.request.ClientId.{ClientId}, declared.request.Frame.{Frame}, declared.request.Reply.{Reply}, declared.request.Request.{Request}};
 ghost use Rattle.ata_types.specs.{declared.request.RequestId.{RequestId}, declared.PortState.{PortState}};
-ghost use Rattle.adapter.specs.{Access.{Loads, Stores}, AskedSteps.{DoesOrFailsStep}, Device.{Device}, Idle.{IsIdle, DisksAreKnownIfTelling}, OneCommand.{SlotHasNoCommand}, Rules.{HasPort, IsInMemoryNotOwnedByDevice, IsOn, IsStable}, Steps.{Steps}, declared.access.DeviceStep.{DeviceStep}};
+ghost use Rattle.adapter.specs.{Access.{Loads, Stores}, AskedSteps.{DoesOrFailsStep}, Device.{Device}, Idle.{IsIdle, DisksAreKnownIfTheyTell}, OneCommand.{SlotHasNoCommand}, Rules.{HasPort, IsInMemoryNotOwnedByDevice, IsOn, IsStable}, Steps.{Steps}, declared.access.DeviceStep.{DeviceStep}};
 ghost use Rattle.refinement.specs.{Fragments.{SomeMachineAgreesWith, AnySlotStates, IsSimulated}, PortFacts.{RunsWell, Undisturbed}};
 ghost use Rattle.block_machine.specs.{DueRequests.{IsDue, is_plain}, Events.{Submit, StoreAt, LoadAt, RevokeOf, Service, State, Tick, StepDevice, Submitted, Replied, PortStateShown, Stepped, WasRevoked}, Refusals.{IsAcceptable, IsFirstRefusal, MayAccessFrame, IsFirstMemFault}, Rules.{HasRow, IsNamed}};
 ghost use Rattle.command_table.specs.TableStores.{IsSlotStateFree};
@@ -36,7 +36,7 @@ pub fn law_new_ready_ports_run_well_if_undisturbed()
 
 /// A server of an adapter that was taken over holds what a server keeps, and a history without calls leads to it.
 pub fn law_new_server_starts_history()
-    ensures { (s : ServerState) (host : Host) (idle : Device) → IsIdle idle → DisksAreKnownIfTelling idle
+    ensures { (s : ServerState) (host : Host) (idle : Device) → IsIdle idle → DisksAreKnownIfTheyTell idle
         → TakesOver s.wanted host idle s.device → IsNewServer host s → InvariantWithNoneDue s × StartsHistory s }
 {
     law_history_prerequisites();

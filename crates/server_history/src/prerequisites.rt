@@ -8,8 +8,9 @@ use adapter::laws::law_step_lists_keep_what_steps_keep;
 use adapter::laws::law_steps_never_switch_adapter_on;
 use block_machine::laws::law_a_grant_name_is_of_at_most_one_row;
 use block_machine::laws::law_accepted_is_granted;
+use block_machine::laws::law_book_limits_hold_and_frames_are_lent;
 use block_machine::laws::law_due_depends_on_own_port;
-use block_machine::laws::law_due_list_is_exact;
+use block_machine::laws::law_due_of_port_is_exact;
 use block_machine::laws::law_ended_is_issued;
 use block_machine::laws::law_issue_requeue_answer_keep_other_ports;
 use block_machine::laws::law_issuing_due_in_turn_leaves_none_due;
@@ -20,7 +21,6 @@ use block_machine::laws::law_one_id_is_in_the_book_once;
 use block_machine::laws::law_one_id_is_one_request;
 use block_machine::laws::law_ready_ports_are_served;
 use block_machine::laws::law_request_in_book_or_kept_was_accepted;
-use block_machine::laws::law_request_limits_hold_and_frames_are_lent;
 use block_machine::laws::law_rows_shrink_and_owners_stay;
 use block_machine::laws::law_step_lists_compose;
 use commands::laws::law_batch_and_mask_access_spares_other_ports;
@@ -59,28 +59,28 @@ use refinement::disks::law_vacancy_stays_where_no_disk_comes;
 use refinement::fragments::law_other_ports_are_untouched;
 use refinement::giving_up::law_given_up_requests_are_parked;
 use refinement::giving_up::law_giving_up_stopped_port_slots_agrees;
-use refinement::giving_up::law_slot_in_use_or_faulted_is_outstanding;
+use refinement::giving_up::law_issued_taken_or_faulted_is_outstanding;
 use refinement::laws::law_accepting_agrees;
-use refinement::laws::law_advances_compose;
 use refinement::laws::law_answering_slotless_request_agrees;
 use refinement::laws::law_answering_with_frames_kept_agrees;
 use refinement::laws::law_backing_composes;
-use refinement::laws::law_book_only_advances_over_device_steps;
 use refinement::laws::law_client_load_is_machine_load;
 use refinement::laws::law_client_store_is_machine_store;
 use refinement::laws::law_device_owns_no_unlent_client_bytes;
 use refinement::laws::law_device_steps_are_a_call_part;
+use refinement::laws::law_driver_advances_compose;
 use refinement::laws::law_idle_device_agrees_with_initial_machine;
 use refinement::laws::law_no_more_slots_serve_than_requests_issued;
-use refinement::laws::law_own_steps_are_backed;
 use refinement::laws::law_pages_come_only_for_own_commands;
 use refinement::laws::law_parking_agrees;
 use refinement::laws::law_parking_request_frees_its_slot;
 use refinement::laws::law_plug_events_match_disk_changes;
-use refinement::laws::law_revoking_agrees;
+use refinement::laws::law_requests_only_advance_over_device_steps;
+use refinement::laws::law_revoking_grant_agrees;
 use refinement::laws::law_setting_changes_one_slot;
+use refinement::laws::law_slotless_request_waiting_again_agrees;
+use refinement::laws::law_steps_not_by_device_need_no_backing;
 use refinement::laws::law_ticking_agrees;
-use refinement::laws::law_wait_again_agrees;
 use refinement::laws::law_waiting_has_no_slot;
 use refinement::port_facts::law_clear_pxis_error_bits_mean_no_error;
 use refinement::port_facts::law_clear_slots_and_ended_requests_stay_so;
@@ -117,7 +117,7 @@ fn law_basics()
     law_histories_reach_their_machines();
     law_one_id_is_in_the_book_once();
     law_ended_is_issued();
-    law_book_only_advances_over_device_steps();
+    law_requests_only_advance_over_device_steps();
     law_accesses_compose();
 }
 
@@ -125,7 +125,7 @@ fn law_basics()
 pub fn law_frame_holder_prerequisites()
     ensures { FrameHolderLaws }
 {
-    law_request_limits_hold_and_frames_are_lent();
+    law_book_limits_hold_and_frames_are_lent();
     law_request_in_book_or_kept_was_accepted();
     law_accepted_is_granted();
     law_rows_shrink_and_owners_stay();
@@ -140,12 +140,12 @@ fn law_slots()
     ensures { SlotLaws }
 {
     law_accepting_agrees();
-    law_revoking_agrees();
+    law_revoking_grant_agrees();
     law_parking_agrees();
     law_parking_request_frees_its_slot();
     law_slot_is_clear_iff_ended_while_st_set();
     law_answering_slotless_request_agrees();
-    law_wait_again_agrees();
+    law_slotless_request_waiting_again_agrees();
     law_answering_with_frames_kept_agrees();
     law_acts_advance_driver();
     law_pages_come_only_for_own_commands();
@@ -157,7 +157,7 @@ fn law_slots()
     law_slot_decodes_to_at_most_one_command();
     law_stored_command_stays_over_acts_sparing_it();
     law_stored_command_stays_while_st_set();
-    law_slot_in_use_or_faulted_is_outstanding();
+    law_issued_taken_or_faulted_is_outstanding();
 }
 
 /// What becomes of requests that get older.
@@ -195,7 +195,7 @@ fn law_recoveries()
     ensures { RecoveryLaws }
 {
     law_no_more_slots_serve_than_requests_issued();
-    law_advances_compose();
+    law_driver_advances_compose();
     law_setting_changes_one_slot();
     law_other_ports_are_untouched();
     law_det_3_means_disk_present_is_invariant();
@@ -248,9 +248,9 @@ pub fn law_history_prerequisites()
     law_entries_stay_well_formed();
     law_answers_of_one_outcome_are_one_change();
     law_backing_composes();
-    law_own_steps_are_backed();
+    law_steps_not_by_device_need_no_backing();
     law_unanswered_follow_book_operations();
-    law_due_list_is_exact();
+    law_due_of_port_is_exact();
     law_issuing_due_in_turn_leaves_none_due();
     law_due_depends_on_own_port();
     law_issue_requeue_answer_keep_other_ports();

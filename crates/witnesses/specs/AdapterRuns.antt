@@ -4,7 +4,7 @@ use Rattle.adapter.specs.Access.{Access, Shows, device_after_reading, device_aft
 use Rattle.adapter.specs.Access.Access.{Reading, Writing, Loading, Storing}
 use Rattle.adapter.specs.Commands.{is_queued}
 use Rattle.adapter.specs.Device.{FetchedCommand, DevicePort, Device}
-use Rattle.adapter.specs.Device.Halt.{HaltedQueued, NotHalted}
+use Rattle.adapter.specs.Device.Halt.{HaltedByQueued, NotHalted}
 use Rattle.adapter.specs.FirstRead.{no_notes, empty_port}
 use Rattle.adapter.specs.Guarded.{IsGuarded, PassesTest}
 use Rattle.adapter.specs.Idle.{IsIdle, HoldsBytesAndTellsDisks}
@@ -138,7 +138,7 @@ pub record FirstHasFailed : Type 0 where
   pub both_are_queued : (is_queued one.meaning.operation ≡ true) × (is_queued other.meaning.operation ≡ true)
   pub failed_is_taken : (device.port 0).taken 0 ≡ Some one
   pub other_is_taken : (device.port 0).taken 1 ≡ Some other
-  pub halted : (device.port 0).halt ≡ HaltedQueued
+  pub halted : (device.port 0).halt ≡ HaltedByQueued
   pub tfes_is_set : (device.port 0).is 30 ≡ true
   pub fault_is_on_tape : (before : List Entry) × (device.tape ≡ before ++ fault_entry 0 0 0x40 0 ∷ [])
 

@@ -13,10 +13,10 @@ use Rattle.block_machine.specs.Ports.{Evidence}
 abbrev pub mask_accesses : List Access
 mask_accesses = Reading (Px (port_at 0) Ci) 1 ∷ Reading (Px (port_at 0) Sact) 0 ∷ []
 
--- the port is stopped
-abbrev pub stop_accesses : List Access
-stop_accesses = Reading (Px (port_at 0) Cmd) 0xc011 ∷ Writing (Px (port_at 0) Cmd) 0xc010 ∷ Reading (Px (port_at 0) Cmd)
-    0x4010 ∷ []
+-- ST is cleared, and CR falls
+abbrev pub stop_engine_accesses : List Access
+stop_engine_accesses = Reading (Px (port_at 0) Cmd) 0xc011 ∷ Writing (Px (port_at 0) Cmd) 0xc010
+    ∷ Reading (Px (port_at 0) Cmd) 0x4010 ∷ []
 
 -- FRE is cleared; command list and received FIS area are put in their places; and FRE is set
 abbrev pub base_address_accesses : List Access
@@ -35,7 +35,7 @@ comreset_accesses =
 
 -- all of them, one after another
 abbrev pub stop_and_comreset_accesses : List Access
-stop_and_comreset_accesses = mask_accesses ++ (stop_accesses ++ (base_address_accesses ++ comreset_accesses))
+stop_and_comreset_accesses = mask_accesses ++ (stop_engine_accesses ++ (base_address_accesses ++ comreset_accesses))
 
 -- what is named: port 0 was stopped, and has lost its disk; and these ports have failed, each by a fatal error
 abbrev pub port_0_lost_and_stopped_evidence : List Port → Evidence

@@ -19,7 +19,7 @@ returns-in_default-clause-finds g c =
     record {
       result_is_backed = ((wants, (still_there c.args.port _ _ (boots_same c.law_prerequisites.ensures c.args.port _ _ (Unready Dead) (inl (stuck_boots c.law_prerequisites.ensures c.args.port _ _ c.in_default.ensures.fails.1.is_simulated))) (c.requires.may.port_in_range, there)).1), (c.stop.ensures.st_is_cleared.st_is_clear, c.in_default.ensures.fails.1.stuck_is_backed));
       sctl_was_written_unless_unserved_or_dead = tt;
-      halt_is_of_taken = λ info is. let z : Unready Dead ≡ Ready info = is in absurd cc;
+      halt_fits_taken_commands = λ info is. let z : Unready Dead ≡ Ready info = is in absurd cc;
       boots = inl (stuck_boots c.law_prerequisites.ensures c.args.port _ _ c.in_default.ensures.fails.1.is_simulated);
       stops_and_boots = (
         g.A.Adapter.device c.stop.new.adapter,
@@ -45,7 +45,7 @@ returns-clause-finds g c =
     record {
       result_is_backed = found_stands c.law_prerequisites.ensures c.args.port _ _ c.in-Ok.ensures.stops.is_simulated _ _ c.boot_stopped.result (subst B c.in-Ok.ensures.token_is_of_port c.boot_stopped.ensures.boots) wants (c.requires.may.port_in_range, there);
       sctl_was_written_unless_unserved_or_dead = found_reset c.law_prerequisites.ensures c.args.port _ _ c.in-Ok.ensures.stops.is_simulated _ _ c.boot_stopped.result (subst B c.in-Ok.ensures.token_is_of_port c.boot_stopped.ensures.boots);
-      halt_is_of_taken = found_halts c.args.wanted.now c.args.port _ _ c.boot_stopped.result (subst B c.in-Ok.ensures.token_is_of_port c.boot_stopped.ensures.boots);
+      halt_fits_taken_commands = found_halts c.args.wanted.now c.args.port _ _ c.boot_stopped.result (subst B c.in-Ok.ensures.token_is_of_port c.boot_stopped.ensures.boots);
       boots = found_boots c.law_prerequisites.ensures c.args.port _ _ c.in-Ok.ensures.stops.is_simulated _ _ c.boot_stopped.result (subst B c.in-Ok.ensures.token_is_of_port c.boot_stopped.ensures.boots);
       stops_and_boots = found_way c.law_prerequisites.ensures c.args.port _ _ c.in-Ok.ensures.stops.is_simulated _ _ c.boot_stopped.result (subst B c.in-Ok.ensures.token_is_of_port c.boot_stopped.ensures.boots);
     }

@@ -51,7 +51,7 @@ loop-number-preserved g c =
     boots_same c.law_prerequisites.ensures port _ _ c.boot_port.result c.boot_port.ensures.finds.boots in
     record {
       underway = next c.law_prerequisites.ensures c.args.wanted.now c.loop-number.ports port c.loop-number-test.true _ _ _ c.boot_port.result c.loop-number.invariant.underway
-          c.boot_port.ensures.adapter_is_on c.boot_port.ensures.finds.result_is_backed c.boot_port.ensures.finds.sctl_was_written_unless_unserved_or_dead c.boot_port.ensures.finds.halt_is_of_taken c.boot_port.ensures.finds.boots;
+          c.boot_port.ensures.adapter_is_on c.boot_port.ensures.finds.result_is_backed c.boot_port.ensures.finds.sctl_was_written_unless_unserved_or_dead c.boot_port.ensures.finds.halt_fits_taken_commands c.boot_port.ensures.finds.boots;
       way = way_more c.loop-number.ports c.loop-number.number c.boot_port.result _ _ _ c.loop-number.invariant.underway.long c.loop-number-test.true c.loop-number.invariant.way
           c.boot_port.ensures.finds.stops_and_boots;
       there = c.loop-number.invariant.there ∙ sym same.pi;

@@ -40,7 +40,7 @@ returns-in-Ok-clause-identifies g c =
       ready = enabled_ready c.law_prerequisites.ensures c.args.port _ _ _ c.in-Some.page c.requires.up.1 e.on e.gets.leaves_running e.gets.reads e.gets.agrees _ _ c.write.ensures.does c.args.wanted.now _ c.causes.ensures c.in-Ok.ensures.fit;
       boots = enabled_boots c.law_prerequisites.ensures c.args.port _ _ _ c.in-Some.page c.requires.up.1 e.on e.gets.leaves_running e.gets.reads e.gets.agrees _ _ c.write.ensures.does;
       asks_disk = record { asked = _; asks = e.gets.reads.1.is_driven; enables_interrupts = subst W c.causes.ensures c.write.ensures.does };
-      halt_is_of_taken = enabled_halts c.law_prerequisites.ensures c.args.port _ _ _ c.in-Some.page c.requires.up.1 e.on e.gets.leaves_running e.gets.reads e.gets.agrees _ _ c.write.ensures.does e.gets.page_ends_halt c.args.wanted.now _ c.causes.ensures c.in-Ok.ensures.fit;
+      halt_fits_taken_commands = enabled_halts c.law_prerequisites.ensures c.args.port _ _ _ c.in-Some.page c.requires.up.1 e.on e.gets.leaves_running e.gets.reads e.gets.agrees _ _ c.write.ensures.does e.gets.page_ends_halt c.args.wanted.now _ c.causes.ensures c.in-Ok.ensures.fit;
       runs_on = told_runs_on c.law_prerequisites.ensures c.args.port _ _ _ c.requires.up.1 e.gets.reads.1.is_driven _ _ e.on c.write.ensures.does;
     }
 

@@ -10,7 +10,7 @@ use Rattle.adapter.specs.Access.{Access, Does, Reads, Writes}
 use Rattle.adapter.specs.Access.Access.{Reading, Writing}
 use Rattle.adapter.specs.Device.{Device}
 use Rattle.adapter.specs.Rules.{IsOn}
-use Rattle.refinement.specs.PortFacts.{IsHaltedPlainOrQueued, RecordsFaultsIfSt}
+use Rattle.refinement.specs.PortFacts.{IsHaltedByPlainOrQueued, RecordsFaultsIfSt}
 use Rattle.refinement.specs.PreservedParts.{DoesNotWrite}
 use Rattle.port_control.specs.EventLaws.{Laws}
 use Rattle.port_control.specs.PortEvents.{TakesEvent}
@@ -22,7 +22,7 @@ use Rattle.port_control.proofs.looks.Telling.{answered_failed}
 pub record StandsFaulted (port : Port) (d : Device) : Type 0 where
   pub st : (d.port port.0).st ≡ true
   pub recorded : RecordsFaultsIfSt d.tape (d.port port.0) port.0
-  pub halted : IsHaltedPlainOrQueued (d.port port.0).halt
+  pub halted : IsHaltedByPlainOrQueued (d.port port.0).halt
 
 module _ (laws : Laws) (port : Port) where
   -- what an access leaves that writes neither PxCMD nor PxSCTL

@@ -3,7 +3,7 @@ ghost use Rattle.std.specs.Prelude.{ℕ, true, false, ◌≡◌, ◌≢◌, ◌�
 ghost use Rattle.ata_types.specs.declared.Port.{Port};
 ghost use Rattle.hba_regs.specs.{Bits.{bit}, declared.reg.PortReg.{PortReg}, declared.reg.PortReg.TheVariants.{Ci, Is, Sact, Ssts}, declared.reg.Reg.TheVariants.{Ghc, Px}};
 ghost use Rattle.adapter.specs.{Access.{Access, Reads}, Device.{Device}, Rules.{IsOn}};
-ghost use Rattle.refinement.specs.{Fragments.{SameSlotStates, SomeMachineAgrees, IsDrivenBy, IsSimulated, AccessesNoOtherPort}, Errors.{KeepsSetBitsOfPxisAndSerrNX, NoDiskComes}, PortFacts.{IsHaltedPlainOrQueued, RecordsFaultsIfSt, RunsWell, ShowsNoTrouble, PxisValueTellsNoTrouble, Undisturbed}, PreservedParts.{SameAdapter, DoesNotWrite}, Slots.{SlotStates}};
+ghost use Rattle.refinement.specs.{Fragments.{SameSlotStates, SomeMachineAgrees, IsDrivenBy, IsSimulated, AccessesNoOtherPort}, Errors.{KeepsSetBitsOfPxisAndSerrNX, NoDiskComes}, PortFacts.{IsHaltedByPlainOrQueued, RecordsFaultsIfSt, RunsWell, ShowsNoTrouble, PxisValueTellsNoTrouble, Undisturbed}, PreservedParts.{SameAdapter, DoesNotWrite}, Slots.{SlotStates}};
 ghost use Rattle.port_control.specs.{PortEvents.{port_event_of, IsPxisSstsOrOwnIsAccess, TakesEvent}, ServiceAccesses.{ShowedLossOrHadPlugEvent, WritesOnlyHbaIsPxIsCiOrSact, WritesOnlyHbaIsCiSactOrOtherPxIs, SerrNXStaySet, HidesNoPlugEvent, HidesNoFatal, HidesNoFault}, declared.events.PortEvent.{PortEvent}};
 ghost use Rattle.port_control.specs.declared.events.PortEvent.TheVariants as look;
 
@@ -126,12 +126,12 @@ pub fn law_unread_error_bits_stay_set()
 pub fn law_task_file_error_means_halted()
     ensures look_finds_fault { (port : Port) (old new : Device) → IsOn old → TakesEvent port look.TaskFileError old new
         → (old.port port.0).st ≡ true → RecordsFaultsIfSt old.tape (old.port port.0) port.0
-        → IsHaltedPlainOrQueued (new.port port.0).halt
+        → IsHaltedByPlainOrQueued (new.port port.0).halt
         × ((new.port port.0).notes.last_ssts % 16 ≡ 3) }
     ensures reads_keep_fault { (port : Port) (r : PortReg) (v : ℕ) (old new : Device) → IsOn old
         → Reads (Px port r) v old new
         → r ≢ Ssts → (old.port port.0).st ≡ true → RecordsFaultsIfSt old.tape (old.port port.0) port.0
-        → IsHaltedPlainOrQueued (old.port port.0).halt → IsHaltedPlainOrQueued (new.port port.0).halt
+        → IsHaltedByPlainOrQueued (old.port port.0).halt → IsHaltedByPlainOrQueued (new.port port.0).halt
         × ((new.port port.0).notes.last_ssts ≡ (old.port port.0).notes.last_ssts) }
 {
     law_prerequisites();

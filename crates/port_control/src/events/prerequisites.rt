@@ -16,7 +16,7 @@ use refinement::laws::{
 use refinement::port_facts::{
     law_adapter_stays_same_and_on_until_ghc_write, law_clear_error_bits_stay_clear,
     law_clear_pxis_error_bits_mean_no_error, law_link_is_same_or_comes_up_without_plugs,
-    law_loads_and_stores_change_ports_by_steps, law_no_trouble_shown_means_undisturbed,
+    law_memory_accesses_change_ports_by_steps, law_no_trouble_shown_means_undisturbed,
     law_noted_reads_change_only_by_read_or_sctl, law_port_controls_stay_until_written,
     law_port_register_read_is_noted_as_last, law_running_well_stays_if_undisturbed,
     law_serr_n_clear_means_no_plug_event, law_set_pxis_serr_nx_bits_stay_until_written,
@@ -42,7 +42,7 @@ pub fn law_prerequisites()
     law_tape_and_tfd_keep_faults_since_st();
     law_running_well_stays_if_undisturbed();
     law_link_is_same_or_comes_up_without_plugs();
-    law_loads_and_stores_change_ports_by_steps();
+    law_memory_accesses_change_ports_by_steps();
     law_port_register_read_is_noted_as_last();
     law_noted_reads_change_only_by_read_or_sctl();
     law_serr_n_clear_means_no_plug_event();

@@ -14,16 +14,16 @@ use Rattle.refinement.specs.PreservedParts.{SameAdapter}
 use Rattle.refinement.proofs.steps.RegisterWrites.{or_false}
 
 steps_same : (old new : Device) → Steps old new → SameAdapter old new
-steps_same old new s = let k : KeepsOverSteps old new = law_step_lists_keep_what_steps_keep s in record { telling = k.telling_is_kept; memory_size = k.memory_size_is_kept; cap = k.cap_is_kept; pi = k.pi_is_kept }
+steps_same old new s = let k : KeepsOverSteps old new = law_step_lists_keep_what_steps_keep s in record { disks_tell_sectors = k.disks_tell_sectors_is_kept; memory_size = k.memory_size_is_kept; cap = k.cap_is_kept; pi = k.pi_is_kept }
 
 pub same_more : (old mid new : Device) → SameAdapter old mid → SameAdapter mid new → SameAdapter old new
-same_more old mid new a b = record { telling = b.telling ∙ a.telling; memory_size = b.memory_size ∙ a.memory_size; cap = b.cap ∙ a.cap; pi = b.pi ∙ a.pi }
+same_more old mid new a b = record { disks_tell_sectors = b.disks_tell_sectors ∙ a.disks_tell_sectors; memory_size = b.memory_size ∙ a.memory_size; cap = b.cap ∙ a.cap; pi = b.pi ∙ a.pi }
 
 pub same_refl : (d : Device) → SameAdapter d d
-same_refl d = record { telling = refl; memory_size = refl; cap = refl; pi = refl }
+same_refl d = record { disks_tell_sectors = refl; memory_size = refl; cap = refl; pi = refl }
 
 noted_same : (r : Reg) (v : ℕ) (d : Device) → SameAdapter d (device_after_reading r v d)
-noted_same (Px p r) v d = record { telling = refl; memory_size = refl; cap = refl; pi = refl }
+noted_same (Px p r) v d = record { disks_tell_sectors = refl; memory_size = refl; cap = refl; pi = refl }
 noted_same Cap v d = same_refl d
 noted_same Ghc v d = same_refl d
 noted_same Is v d = same_refl d
@@ -33,9 +33,9 @@ noted_same Cap2 v d = same_refl d
 noted_same Bohc v d = same_refl d
 
 written_same : (r : Reg) (v : ℕ) (d : Device) → SameAdapter d (device_after_write r v d)
-written_same (Px p r) v d = record { telling = refl; memory_size = refl; cap = refl; pi = refl }
-written_same Ghc v d = record { telling = refl; memory_size = refl; cap = refl; pi = refl }
-written_same Is v d = record { telling = refl; memory_size = refl; cap = refl; pi = refl }
+written_same (Px p r) v d = record { disks_tell_sectors = refl; memory_size = refl; cap = refl; pi = refl }
+written_same Ghc v d = record { disks_tell_sectors = refl; memory_size = refl; cap = refl; pi = refl }
+written_same Is v d = record { disks_tell_sectors = refl; memory_size = refl; cap = refl; pi = refl }
 written_same Cap v d = same_refl d
 written_same Pi v d = same_refl d
 written_same Vs v d = same_refl d
@@ -48,7 +48,7 @@ access_same (Writing r v) old new x = subst (SameAdapter old) (sym x.effect) (sa
 access_same (Loading at bytes) old new x = steps_same old new x.steps
 access_same (Storing at bytes) old new x =
     let s = steps_same old x.at_access x.steps in
-    subst (SameAdapter old) (sym x.effect) (record { telling = s.telling; memory_size = s.memory_size; cap = s.cap; pi = s.pi })
+    subst (SameAdapter old) (sym x.effect) (record { disks_tell_sectors = s.disks_tell_sectors; memory_size = s.memory_size; cap = s.cap; pi = s.pi })
 
 -- ---- it stays switched on
 

@@ -21,7 +21,7 @@ use Rattle.refinement.specs.StepLaws.{StepLaws}
 use Rattle.refinement.specs.Relation.{StateRelation}
 use Rattle.refinement.specs.Slots.{SlotState, Free, SlotStates, RelatesSlot, IsEmptySlot}
 use Rattle.refinement.proofs.steps.StillFrames.{over_unused}
-use Rattle.refinement.specs.PortFacts.{IsHaltedPlainOrQueued, ShowsFault, RecordsFaults, RecordsFaultsIfSt}
+use Rattle.refinement.specs.PortFacts.{IsHaltedByPlainOrQueued, ShowsFault, RecordsFaults, RecordsFaultsIfSt}
 use Rattle.refinement.proofs.device.AwaitedLink.{leads_keep}
 use Rattle.refinement.proofs.device.HealthyPort.{at_port}
 use Rattle.refinement.proofs.device.RecordedFaults.{faulted_admits, fault_halts}
@@ -29,7 +29,7 @@ use Rattle.refinement.proofs.device.FaultsOverAccesses.{reads_recorded}
 
 -- while ST is 1, a fault has halted the port, and no link is due that ends it
 abbrev IsStuck : DevicePort → Type 0
-IsStuck p = p.st ≡ true → (p.link_due ≡ false) × IsHaltedPlainOrQueued p.halt
+IsStuck p = p.st ≡ true → (p.link_due ≡ false) × IsHaltedByPlainOrQueued p.halt
 
 step_stuck : (d : Device) (port : ℕ) (step : DeviceTransition) → Can step d → IsStuck (d.port port) → IsStuck ((device_after step d).port port)
 step_stuck d port (Fetch p slot c places) can h = at_port IsStuck IsStuck d p port _ h (λ e x. x) (λ ne x. x)
@@ -48,15 +48,15 @@ step_stuck d port (Plug p disk) can h = at_port IsStuck IsStuck d p port _ h (λ
 step_stuck d port ResetEnds can h = λ st. absurd (false≢true st)
 step_stuck d port (Scribble p slot at bytes) can h = h
 
-module _ (laws : StepLaws) (port : ℕ) (old new : Device) (off : old.hr ≡ false) (st : (old.port port).st ≡ true) (h : RecordsFaultsIfSt old.tape (old.port port) port) (faulted : IsHaltedPlainOrQueued (old.port port).halt) where
+module _ (laws : StepLaws) (port : ℕ) (old new : Device) (off : old.hr ≡ false) (st : (old.port port).st ≡ true) (h : RecordsFaultsIfSt old.tape (old.port port) port) (faulted : IsHaltedByPlainOrQueued (old.port port).halt) where
   running : Steps old new → (new.port port).st ≡ true
   running s = let k : KeepsOverSteps old new = laws.steps_keep _ _ s in let on : KeepsOutsideReset old new = k.keeps_outside_reset off in (on.controls_are_kept port).st_is_kept ∙ st
 
-  pub steps_faulted : Steps old new → IsHaltedPlainOrQueued (new.port port).halt
+  pub steps_faulted : Steps old new → IsHaltedByPlainOrQueued (new.port port).halt
   steps_faulted s = (leads_keep IsStuck step_stuck port s.steps old new s.lead (λ on. ((h st).no_link_is_due, faulted)) (running s)).1
 
-noted_halt : (port : ℕ) (r : Reg) (v : ℕ) (d : Device) → IsHaltedPlainOrQueued (d.port port).halt → IsHaltedPlainOrQueued ((device_after_reading r v d).port port).halt
-noted_halt port (Px p r) v d h = at_port (λ x. IsHaltedPlainOrQueued x.halt) (λ x. IsHaltedPlainOrQueued x.halt) d p.0 port _ h (λ e x. x) (λ ne x. x)
+noted_halt : (port : ℕ) (r : Reg) (v : ℕ) (d : Device) → IsHaltedByPlainOrQueued (d.port port).halt → IsHaltedByPlainOrQueued ((device_after_reading r v d).port port).halt
+noted_halt port (Px p r) v d h = at_port (λ x. IsHaltedByPlainOrQueued x.halt) (λ x. IsHaltedByPlainOrQueued x.halt) d p.0 port _ h (λ e x. x) (λ ne x. x)
 noted_halt port Cap v d h = h
 noted_halt port Ghc v d h = h
 noted_halt port adapter.Is v d h = h
@@ -65,10 +65,10 @@ noted_halt port Vs v d h = h
 noted_halt port Cap2 v d h = h
 noted_halt port Bohc v d h = h
 
-pub reads_faulted : StepLaws → (port : ℕ) (r : Reg) (v : ℕ) (old new : Device) → old.hr ≡ false → (old.port port).st ≡ true → RecordsFaultsIfSt old.tape (old.port port) port → IsHaltedPlainOrQueued (old.port port).halt →
-    Reads r v old new → IsHaltedPlainOrQueued (new.port port).halt
+pub reads_faulted : StepLaws → (port : ℕ) (r : Reg) (v : ℕ) (old new : Device) → old.hr ≡ false → (old.port port).st ≡ true → RecordsFaultsIfSt old.tape (old.port port) port → IsHaltedByPlainOrQueued (old.port port).halt →
+    Reads r v old new → IsHaltedByPlainOrQueued (new.port port).halt
 reads_faulted laws port r v old new off st h faulted call =
-    subst (λ (d : Device). IsHaltedPlainOrQueued (d.port port).halt) (sym call.effect) (noted_halt port r v call.at_access (steps_faulted laws port old call.at_access off st h faulted call.steps))
+    subst (λ (d : Device). IsHaltedByPlainOrQueued (d.port port).halt) (sym call.effect) (noted_halt port r v call.at_access (steps_faulted laws port old call.at_access off st h faulted call.steps))
 
 -- no write ends a halt while ST is 1
 port_halt : (r : PortReg) (v tape : ℕ) (p : DevicePort) → p.st ≡ true → (port_after_write r v tape p).halt ≡ p.halt
@@ -106,17 +106,17 @@ written_halt port Vs v d st = refl
 written_halt port Cap2 v d st = refl
 written_halt port Bohc v d st = refl
 
-pub writes_faulted : StepLaws → (port : ℕ) (r : Reg) (v : ℕ) (old new : Device) → old.hr ≡ false → (old.port port).st ≡ true → RecordsFaultsIfSt old.tape (old.port port) port → IsHaltedPlainOrQueued (old.port port).halt →
-    Writes r v old new → IsHaltedPlainOrQueued (new.port port).halt
+pub writes_faulted : StepLaws → (port : ℕ) (r : Reg) (v : ℕ) (old new : Device) → old.hr ≡ false → (old.port port).st ≡ true → RecordsFaultsIfSt old.tape (old.port port) port → IsHaltedByPlainOrQueued (old.port port).halt →
+    Writes r v old new → IsHaltedByPlainOrQueued (new.port port).halt
 writes_faulted laws port r v old new off st h faulted call =
-    let mid : IsHaltedPlainOrQueued (call.at_access.port port).halt = steps_faulted laws port old call.at_access off st h faulted call.steps in
+    let mid : IsHaltedByPlainOrQueued (call.at_access.port port).halt = steps_faulted laws port old call.at_access off st h faulted call.steps in
     let same : (new.port port).halt ≡ (call.at_access.port port).halt =
     ap (λ (d : Device). (d.port port).halt) call.effect ∙ written_halt port r v call.at_access (running laws port old call.at_access off st h faulted call.steps) in
-    subst IsHaltedPlainOrQueued (sym same) mid
+    subst IsHaltedByPlainOrQueued (sym same) mid
 
 -- TFES is read
 pub tfes_tells : StepLaws → (port : Port) (v : ℕ) (old new : Device) → old.hr ≡ false → (old.port port.0).st ≡ true → RecordsFaultsIfSt old.tape (old.port port.0) port.0 → Reads (Px port Is) v old new → bit v 30 ≡ true →
-    IsHaltedPlainOrQueued (new.port port.0).halt
+    IsHaltedByPlainOrQueued (new.port port.0).halt
 tfes_tells laws port v old new off st h call set =
     let x : PortRegisterRead port.0 Is v old new = laws.reading_shows_register port Is v old new call off in
     let now : RecordsFaults new.tape (new.port port.0) port.0 = reads_recorded port.0 (Px port Is) v old new call h ((x.keeps.keeps_outside_reset.controls_are_kept port.0).st_is_kept ∙ st) in
@@ -127,7 +127,7 @@ parts_read : (v tfd status error : ℕ) → v % 65536 ≡ tfd → tfd ≡ status
 parts_read v tfd status error e f low high = (omega (arith, e, f, low, high), omega (arith, e, f, low, high))
 
 -- TFD of a port that a fault has halted shows the last one
-pub fault_is_read : StepLaws → (port : Port) (v : ℕ) (old new : Device) → old.hr ≡ false → (old.port port.0).st ≡ true → RecordsFaultsIfSt old.tape (old.port port.0) port.0 → IsHaltedPlainOrQueued (old.port port.0).halt →
+pub fault_is_read : StepLaws → (port : Port) (v : ℕ) (old new : Device) → old.hr ≡ false → (old.port port.0).st ≡ true → RecordsFaultsIfSt old.tape (old.port port.0) port.0 → IsHaltedByPlainOrQueued (old.port port.0).halt →
     Reads (Px port Tfd) v old new → (s : ShowsFault (drop (new.port port.0).notes.st_set_at new.tape) (new.port port.0) port.0) × (v % 256 ≡ s.fault.status) × (v / 256 % 256 ≡ s.fault.error)
 fault_is_read laws port v old new off st h faulted call =
     let x : PortRegisterRead port.0 Tfd v old new = laws.reading_shows_register port Tfd v old new call off in

@@ -10,7 +10,7 @@ use Rattle.hba_regs.specs.declared.reg.PortReg.TheVariants.{Is, Cmd, Sact}
 use Rattle.adapter.specs.Access.{Access, Does, Reads, Writes, port_after_write, port_after_st_write, port_after_fre_write}
 use Rattle.adapter.specs.Commands.{Meaning, is_queued}
 use Rattle.adapter.specs.Device.{Halt, FetchedCommand, DevicePort, Device}
-use Rattle.adapter.specs.Device.Halt.{NotHalted, HaltedPlain, HaltedQueued, LogOnly}
+use Rattle.adapter.specs.Device.Halt.{NotHalted, HaltedByPlain, HaltedByQueued, LogOnly}
 use Rattle.adapter.specs.Memory.{changed}
 use Rattle.adapter.specs.Steps.{DeviceTransition, Can, device_after, TransitionsLead, Steps, halt_after_fault, halt_after_start, newly_fetched, MayFetch}
 use Rattle.adapter.specs.Steps.DeviceTransition.{Fetch, FetchFault, Move, Clear, Done, Fault, Fatal, Fall, FrFall, LinkUp, Unplug, Plug, ResetEnds, Scribble}
@@ -101,8 +101,8 @@ taken_plain uses m d port slot t a st clear is = by (uses port slot) (a.relates_
 -- a plain fault is ended by a start, where the halt before it was
 halted_plain : (h : Halt) → halt_after_start h ≡ NotHalted → halt_after_start (halt_after_fault h false) ≡ NotHalted
 halted_plain NotHalted e = refl
-halted_plain HaltedPlain e = refl
-halted_plain HaltedQueued e = absurd (let z : LogOnly ≡ NotHalted = e in cc)
+halted_plain HaltedByPlain e = refl
+halted_plain HaltedByQueued e = absurd (let z : LogOnly ≡ NotHalted = e in cc)
 halted_plain LogOnly e = absurd (let z : LogOnly ≡ NotHalted = e in cc)
 
 -- one slot's command changed, and is a plain one

@@ -6,7 +6,7 @@ use Rattle.std.proofs.lemmas.List.{drop-append-le, length-append}
 use Rattle.std.proofs.lemmas.List.Elements.{All-nil, All-push}
 use Rattle.std.proofs.lemmas.Bool.{both_ways, false≢true}
 use Rattle.adapter.specs.Device.{Bases, Disk, DurableState, Halt, DevicePort, Device}
-use Rattle.adapter.specs.Device.Halt.{NotHalted, HaltedPlain, HaltedQueued, LogOnly}
+use Rattle.adapter.specs.Device.Halt.{NotHalted, HaltedByPlain, HaltedByQueued, LogOnly}
 use Rattle.adapter.specs.Memory.{changed}
 use Rattle.adapter.specs.Rules.{InUse}
 use Rattle.adapter.specs.Steps.{DeviceTransition, Can, device_after, TransitionsLead, Steps, AreBsyDrqBits, admits, halt_after_fault, halt_after_start, fault_entry}
@@ -15,35 +15,35 @@ use Rattle.adapter.specs.declared.command.Operation.{Operation}
 use Rattle.adapter.specs.declared.tape.Entry.{Entry}
 use Rattle.adapter.specs.declared.tape.Entry.TheVariants as entry
 use Rattle.adapter.proofs.Changed.{changed_other}
-use Rattle.refinement.specs.PortFacts.{IsHaltedPlainOrQueued, IsFaultOf, ShowsFault, RecordsFaults, RecordsFaultsIfSt}
+use Rattle.refinement.specs.PortFacts.{IsHaltedByPlainOrQueued, IsFaultOf, ShowsFault, RecordsFaults, RecordsFaultsIfSt}
 use Rattle.refinement.proofs.device.HealthyPort.{at_port}
 
 -- ---- halts
 
 -- a port that a fault has halted takes no command, and goes on with none
-pub faulted_admits : {A : Type 0} (h : Halt) (o : Operation) → IsHaltedPlainOrQueued h → admits h o ≡ true → A
+pub faulted_admits : {A : Type 0} (h : Halt) (o : Operation) → IsHaltedByPlainOrQueued h → admits h o ≡ true → A
 faulted_admits h o (inl e) a = absurd (false≢true (ap (λ (x : Halt). admits x o) (sym e) ∙ a))
 faulted_admits h o (inr e) a = absurd (false≢true (ap (λ (x : Halt). admits x o) (sym e) ∙ a))
 
-pub running_faulted : {A : Type 0} → IsHaltedPlainOrQueued NotHalted → A
+pub running_faulted : {A : Type 0} → IsHaltedByPlainOrQueued NotHalted → A
 running_faulted (inl e) = absurd cc
 running_faulted (inr e) = absurd cc
 
-pub restarted_faulted : {A : Type 0} (h : Halt) → IsHaltedPlainOrQueued (halt_after_start h) → A
+pub restarted_faulted : {A : Type 0} (h : Halt) → IsHaltedByPlainOrQueued (halt_after_start h) → A
 restarted_faulted NotHalted f = running_faulted f
-restarted_faulted HaltedPlain f = running_faulted f
-restarted_faulted HaltedQueued (inl e) = absurd cc
-restarted_faulted HaltedQueued (inr e) = absurd cc
+restarted_faulted HaltedByPlain f = running_faulted f
+restarted_faulted HaltedByQueued (inl e) = absurd cc
+restarted_faulted HaltedByQueued (inr e) = absurd cc
 restarted_faulted LogOnly (inl e) = absurd cc
 restarted_faulted LogOnly (inr e) = absurd cc
 
-pub fault_halts : (h : Halt) (queued : Bool) → IsHaltedPlainOrQueued (halt_after_fault h queued)
-fault_halts HaltedQueued queued = inr refl
+pub fault_halts : (h : Halt) (queued : Bool) → IsHaltedByPlainOrQueued (halt_after_fault h queued)
+fault_halts HaltedByQueued queued = inr refl
 fault_halts LogOnly queued = inr refl
 fault_halts NotHalted true = inr refl
 fault_halts NotHalted false = inl refl
-fault_halts HaltedPlain true = inr refl
-fault_halts HaltedPlain false = inl refl
+fault_halts HaltedByPlain true = inr refl
+fault_halts HaltedByPlain false = inl refl
 
 -- ---- what a record rests on
 
@@ -98,9 +98,9 @@ recorded_on tape p new port same h st =
     record {
       st_set_is_on_tape = subst (λ (n : ℕ). n ≤ length tape) (sym same.set_at) x.st_set_is_on_tape;
       no_link_is_due = same.linked ∙ x.no_link_is_due;
-      tfes_tells_fault = λ f. subst IsHaltedPlainOrQueued (sym same.halt) (x.tfes_tells_fault (same.flag f));
+      tfes_tells_fault = λ f. subst IsHaltedByPlainOrQueued (sym same.halt) (x.tfes_tells_fault (same.flag f));
       shows_last_fault = λ f. subst (λ (n : ℕ). ShowsFault (drop n tape) new port) (sym same.set_at)
-          (shows_on (drop p.notes.st_set_at tape) p new port same (x.shows_last_fault (subst IsHaltedPlainOrQueued same.halt f)));
+          (shows_on (drop p.notes.st_set_at tape) p new port same (x.shows_last_fault (subst IsHaltedByPlainOrQueued same.halt f)));
     }
 
 -- one more entry, which is no fault of the port's
@@ -138,7 +138,7 @@ record Worked (o : Operation) (p new : DevicePort) : Type 0 where
   pub set_at : new.notes.st_set_at ≡ p.notes.st_set_at
   pub linked : new.link_due ≡ p.link_due
   pub flag : new.is 30 ≡ true → p.is 30 ≡ true
-  pub halt : IsHaltedPlainOrQueued new.halt → IsHaltedPlainOrQueued p.halt
+  pub halt : IsHaltedByPlainOrQueued new.halt → IsHaltedByPlainOrQueued p.halt
 
 recorded_worked : (tape later : List Entry) (o : Operation) (p new : DevicePort) (port : ℕ) → length tape ≤ length later → Worked o p new → RecordsFaultsIfSt tape p port → RecordsFaultsIfSt later new port
 recorded_worked tape later o p new port more w h st =
@@ -164,7 +164,7 @@ recorded_fault tape p new port q slot error kept_bits queued here st set_at link
     record {
       st_set_is_on_tape = subst (λ (k : ℕ). k ≤ length (tape ++ fault_entry q slot error kept_bits ∷ [])) (sym set_at) (longer tape (fault_entry q slot error kept_bits) p.notes.st_set_at x.st_set_is_on_tape);
       no_link_is_due = linked ∙ x.no_link_is_due;
-      tfes_tells_fault = λ _. subst IsHaltedPlainOrQueued (sym halt) (fault_halts p.halt queued);
+      tfes_tells_fault = λ _. subst IsHaltedByPlainOrQueued (sym halt) (fault_halts p.halt queued);
       shows_last_fault = λ _. subst (λ (k : ℕ). ShowsFault (drop k (tape ++ fault_entry q slot error kept_bits ∷ [])) new port) (sym set_at) (record {
         before = drop p.notes.st_set_at tape;
         fault = record { port = record { 0 = q }; slot = record { 0 = slot }; status = 0x41 + kept_bits; error = error };

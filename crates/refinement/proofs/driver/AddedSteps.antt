@@ -65,11 +65,11 @@ among_append m (entry ∷ entries) then early late a b = (
 
 pub backed_then : (old mid new : Device) (m : Machine) (early late : List Step) → TapeBacksSteps old mid m early → TapeBacksSteps mid new (left.after m early) late → TapeBacksSteps old new m (late ++ early)
 backed_then old mid new m early late a b = record {
-  telling_is_same = b.telling_is_same ∙ a.telling_is_same;
+  disks_tell_sectors_is_same = b.disks_tell_sectors_is_same ∙ a.disks_tell_sectors_is_same;
   new_entries = a.new_entries ++ b.new_entries;
   tape_is = b.tape_is ∙ (ap (λ t. t ++ b.new_entries) a.tape_is ∙ append_assoc old.tape a.new_entries b.new_entries);
   tells_device_steps = among_append m a.new_entries b.new_entries early late a.tells_device_steps b.tells_device_steps;
-  steps_are_faithful = λ t. told_append m late early (a.steps_are_faithful t) (b.steps_are_faithful (a.telling_is_same ∙ t));
+  steps_are_faithful = λ t. told_append m late early (a.steps_are_faithful t) (b.steps_are_faithful (a.disks_tell_sectors_is_same ∙ t));
   plugged_disks_match_steps = λ q.
       let x = a.plugged_disks_match_steps q in
       let y = b.plugged_disks_match_steps q in
@@ -77,14 +77,14 @@ backed_then old mid new m early late a b = record {
 }
 
 pub backed : (uses : SlotStates) (m : Machine) (old new : Device) → (f : SimulatesSteps uses m old new) → TapeBacksSteps old new m f.steps
-backed uses m old new f = record { telling_is_same = f.telling_is_same; new_entries = f.new_entries; tape_is = f.tape_is; tells_device_steps = tells_among m f.new_entries f.steps f.tape_tells_steps; steps_are_faithful = f.steps_are_faithful; plugged_disks_match_steps = f.plugged_disks_match_steps }
+backed uses m old new f = record { disks_tell_sectors_is_same = f.disks_tell_sectors_is_same; new_entries = f.new_entries; tape_is = f.tape_is; tells_device_steps = tells_among m f.new_entries f.steps f.tape_tells_steps; steps_are_faithful = f.steps_are_faithful; plugged_disks_match_steps = f.plugged_disks_match_steps }
 
 pub told_then : (old mid new : Device) (m : Machine) (early late : List Step) → IsBackedByDeviceAlone old mid m early → IsBackedByDeviceAlone mid new (left.after m early) late → IsBackedByDeviceAlone old new m (late ++ early)
 told_then old mid new m early late a b = record { is_backed = backed_then old mid new m early late a.is_backed b.is_backed; all_steps_are_by_device = device_append late early b.all_steps_are_by_device a.all_steps_are_by_device }
 
 pub nothing_backed : (d : Device) (m : Machine) → TapeBacksSteps d d m []
 nothing_backed d m = record {
-  telling_is_same = refl;
+  disks_tell_sectors_is_same = refl;
   new_entries = [];
   tape_is = sym (append-nil d.tape);
   tells_device_steps = tt;

@@ -63,7 +63,7 @@ stored_on uses m d reached a client frame offset bytes opens =
       disks_are_same = λ q. record { present = (a.disks_are_same q).present; id = (a.disks_are_same q).id; sector_count = (a.disks_are_same q).sector_count };
       client_frames_are_same = λ f b from small. memory_put m d.memory (4096 * frame.0 + offset) frame offset bytes refl x.1 a.client_frames_are_same f b from small;
       sectors_are_same_if_disks_tell = λ t q. let s = a.sectors_are_same_if_disks_tell t q in record { told_sectors = s.told_sectors; disk_tells = s.disk_tells; bytes_are_same = s.bytes_are_same };
-      holds_replug_candidates_if_disks_tell = a.holds_replug_candidates_if_disks_tell;
+      knows_replug_candidates_if_disks_tell = a.knows_replug_candidates_if_disks_tell;
     }
 
 pub client_stores : StepLaws → (k : DriverState) (m : Machine) (client : ClientId) (frame : Frame) (offset : ℕ) (bytes : List ℕ) (new : Device) → IsReachable m → DriverRelation m k → IsEnabled m (Store client frame offset bytes) →
@@ -79,7 +79,7 @@ client_stores laws k m client frame offset bytes new r knows may call =
       all_steps_are_by_device = tells_device m f.new_entries f.steps f.tape_tells_steps;
       steps_are_enabled = (f.steps_are_enabled, opens);
       is_backed = subst (λ (d : Device). TapeBacksSteps k.device d m (Store client frame offset bytes ∷ f.steps)) (sym call.effect)
-          (record { telling_is_same = all.telling_is_same; new_entries = all.new_entries; tape_is = all.tape_is; tells_device_steps = all.tells_device_steps; steps_are_faithful = all.steps_are_faithful; plugged_disks_match_steps = all.plugged_disks_match_steps });
+          (record { disks_tell_sectors_is_same = all.disks_tell_sectors_is_same; new_entries = all.new_entries; tape_is = all.tape_is; tells_device_steps = all.tells_device_steps; steps_are_faithful = all.steps_are_faithful; plugged_disks_match_steps = all.plugged_disks_match_steps });
       driver_relation = record {
         state_relation = subst (λ (d : Device). StateRelation k.slot_states (after_step (left.after m f.steps) (Store client frame offset bytes)) d) (sym call.effect)
             (stored_on k.slot_states (left.after m f.steps) call.at_access later f.state_relation client frame offset bytes opens);
@@ -113,7 +113,7 @@ client_loads laws k m client frame offset bytes new r knows may call =
       );
       is_backed = backed_then k.device new new m f.steps (Load client frame offset bytes ∷ []) first (own_backed new (left.after m f.steps) (Load client frame offset bytes) (λ z. z));
       driver_relation = record {
-        state_relation = let a = f.state_relation in record { relates_slots = a.relates_slots; serve_distinct_requests = a.serve_distinct_requests; received_areas_in_use_are_placed = a.received_areas_in_use_are_placed; disks_are_same = a.disks_are_same; client_frames_are_same = a.client_frames_are_same; sectors_are_same_if_disks_tell = a.sectors_are_same_if_disks_tell; holds_replug_candidates_if_disks_tell = a.holds_replug_candidates_if_disks_tell };
+        state_relation = let a = f.state_relation in record { relates_slots = a.relates_slots; serve_distinct_requests = a.serve_distinct_requests; received_areas_in_use_are_placed = a.received_areas_in_use_are_placed; disks_are_same = a.disks_are_same; client_frames_are_same = a.client_frames_are_same; sectors_are_same_if_disks_tell = a.sectors_are_same_if_disks_tell; knows_replug_candidates_if_disks_tell = a.knows_replug_candidates_if_disks_tell };
         have_slots_unless_parked = λ q. follows_have k.slot_states m k.device new f q (k.awaiting_disposition q) (knows.have_slots_unless_parked q);
       };
     }

@@ -118,7 +118,7 @@ module _ (k : DriverState) (port : ℕ) where
       disks_are_same = a.disks_are_same;
       client_frames_are_same = a.client_frames_are_same;
       sectors_are_same_if_disks_tell = a.sectors_are_same_if_disks_tell;
-      holds_replug_candidates_if_disks_tell = a.holds_replug_candidates_if_disks_tell;
+      knows_replug_candidates_if_disks_tell = a.knows_replug_candidates_if_disks_tell;
     }
 
     pub all_given_up : DriverRelation m k → DriverRelation m (with_all_parked k port)

@@ -9,7 +9,7 @@ use Rattle.hba_regs.specs.declared.reg.Reg.TheVariants.{Px}
 use Rattle.adapter.specs.Access.{Access, Does, port_after_write}
 use Rattle.adapter.specs.Commands.{is_queued}
 use Rattle.adapter.specs.Device.{Halt, FetchedCommand, DevicePort, Device}
-use Rattle.adapter.specs.Device.Halt.{NotHalted, HaltedPlain, HaltedQueued, LogOnly}
+use Rattle.adapter.specs.Device.Halt.{NotHalted, HaltedByPlain, HaltedByQueued, LogOnly}
 use Rattle.adapter.specs.Steps.{DeviceTransition, Can, device_after, TransitionsLead, Steps, admits, halt_after_fault, halt_after_start}
 use Rattle.adapter.specs.Steps.DeviceTransition.{Fetch, FetchFault, Move, Clear, Done, Fault, Fatal, Fall, FrFall, LinkUp, Unplug, Plug, ResetEnds, Scribble}
 use Rattle.adapter.specs.declared.command.Operation.{Operation}
@@ -37,23 +37,23 @@ use Rattle.refinement.proofs.steps.TakenCommand.{never_refused}
 -- ---- halts
 
 -- no command works on a port that a queued one has halted
-not_halted : (h : Halt) (o : Operation) → admits h o ≡ true → h ≢ HaltedQueued
+not_halted : (h : Halt) (o : Operation) → admits h o ≡ true → h ≢ HaltedByQueued
 not_halted h o admitted is = false≢true (ap (λ (x : Halt). admits x o) (sym is) ∙ admitted)
 
 -- a fault doesn't await the log
 faulted_unlogged : (h : Halt) (queued : Bool) → halt_after_fault h queued ≢ LogOnly
-faulted_unlogged NotHalted true is = let z : HaltedQueued ≡ LogOnly = is in cc
-faulted_unlogged NotHalted false is = let z : HaltedPlain ≡ LogOnly = is in cc
-faulted_unlogged HaltedPlain true is = let z : HaltedQueued ≡ LogOnly = is in cc
-faulted_unlogged HaltedPlain false is = let z : HaltedPlain ≡ LogOnly = is in cc
-faulted_unlogged HaltedQueued queued is = let z : HaltedQueued ≡ LogOnly = is in cc
-faulted_unlogged LogOnly queued is = let z : HaltedQueued ≡ LogOnly = is in cc
+faulted_unlogged NotHalted true is = let z : HaltedByQueued ≡ LogOnly = is in cc
+faulted_unlogged NotHalted false is = let z : HaltedByPlain ≡ LogOnly = is in cc
+faulted_unlogged HaltedByPlain true is = let z : HaltedByQueued ≡ LogOnly = is in cc
+faulted_unlogged HaltedByPlain false is = let z : HaltedByPlain ≡ LogOnly = is in cc
+faulted_unlogged HaltedByQueued queued is = let z : HaltedByQueued ≡ LogOnly = is in cc
+faulted_unlogged LogOnly queued is = let z : HaltedByQueued ≡ LogOnly = is in cc
 
 -- a plain fault is one of a queued command only where one halted the port before
-faulted_plain : (h : Halt) → h ≢ LogOnly → halt_after_fault h false ≡ HaltedQueued → h ≡ HaltedQueued
-faulted_plain NotHalted other is = absurd (let z : HaltedPlain ≡ HaltedQueued = is in cc)
-faulted_plain HaltedPlain other is = absurd (let z : HaltedPlain ≡ HaltedQueued = is in cc)
-faulted_plain HaltedQueued other is = refl
+faulted_plain : (h : Halt) → h ≢ LogOnly → halt_after_fault h false ≡ HaltedByQueued → h ≡ HaltedByQueued
+faulted_plain NotHalted other is = absurd (let z : HaltedByPlain ≡ HaltedByQueued = is in cc)
+faulted_plain HaltedByPlain other is = absurd (let z : HaltedByPlain ≡ HaltedByQueued = is in cc)
+faulted_plain HaltedByQueued other is = refl
 faulted_plain LogOnly other is = absurd (other refl)
 
 -- ---- ports
@@ -62,7 +62,7 @@ faulted_plain LogOnly other is = absurd (other refl)
 pub calm_halts : (p : DevicePort) → p.halt ≡ NotHalted → HaltFitsTakenCommands p
 calm_halts p is = record {
   is_not_log_only = λ log. let z : NotHalted ≡ LogOnly = sym is ∙ log in cc;
-  queued_is_taken = λ queued. absurd (let z : NotHalted ≡ HaltedQueued = sym is ∙ queued in cc);
+  queued_is_taken = λ queued. absurd (let z : NotHalted ≡ HaltedByQueued = sym is ∙ queued in cc);
 }
 
 -- working on plain commands alone
@@ -92,7 +92,7 @@ fault_halts p new slot t halt taken here h = record {
   queued_is_taken = λ queued. by (is_queued t.meaning.operation) refl (sym halt ∙ queued);
 }
   where
-    by : (b : Bool) → is_queued t.meaning.operation ≡ b → halt_after_fault p.halt (is_queued t.meaning.operation) ≡ HaltedQueued → (slot : ℕ) × (t : FetchedCommand) × (new.taken slot ≡ Some t) × (is_queued t.meaning.operation ≡ true)
+    by : (b : Bool) → is_queued t.meaning.operation ≡ b → halt_after_fault p.halt (is_queued t.meaning.operation) ≡ HaltedByQueued → (slot : ℕ) × (t : FetchedCommand) × (new.taken slot ≡ Some t) × (is_queued t.meaning.operation ≡ true)
     by true kind is = (slot, t, ap (λ (f : ℕ → Option FetchedCommand). f slot) taken ∙ here, kind)
     by false kind is =
         let w = h.queued_is_taken (faulted_plain p.halt h.is_not_log_only (ap (halt_after_fault p.halt) (sym kind) ∙ is)) in

@@ -18,7 +18,7 @@ use Rattle.block_machine.specs.Steps.{Step, Accept, Issue, Touch, End, Age, Wait
 use Rattle.block_machine.specs.Events.{IsByDevice}
 use Rattle.block_machine.specs.Expected as left
 use Rattle.block_machine.specs.Expected.{StepIsFaithful}
-use Rattle.refinement.specs.Tape.{PutsInDisks}
+use Rattle.refinement.specs.Tape.{PortPlugsPutInDisks}
 use Rattle.block_machine.specs.Histories.{IsReachable, IsSimulatedBySteps}
 use Rattle.refinement.specs.MemoryLayout.{scratch_frame_address}
 use Rattle.refinement.specs.Slots.{SlotState, Free, Own, Serves, SlotStates, set_slot_state, Armed}
@@ -59,7 +59,7 @@ own_prepared_stays uses m old mid port o v r a calm s x =
 -- a step of the driver's own, with no access
 pub own_backed : (d : Device) (m : Machine) (step : Step) → (IsByDevice step → ⊥) → TapeBacksSteps d d m (step ∷ [])
 own_backed d m step own = record {
-  telling_is_same = refl;
+  disks_tell_sectors_is_same = refl;
   new_entries = [];
   tape_is = sym (append-nil d.tape);
   tells_device_steps = (tt, own);
@@ -82,7 +82,7 @@ own_backed d m step own = record {
     told (Store client frame offset bytes) o = tt
     told (Load client frame offset bytes) o = tt
 
-    puts : (s : Step) → (IsByDevice s → ⊥) → (q : ℕ) → PutsInDisks q [] (s ∷ [])
+    puts : (s : Step) → (IsByDevice s → ⊥) → (q : ℕ) → PortPlugsPutInDisks q [] (s ∷ [])
     puts (PlugDisk port name size disk) o q = absurd (o tt)
     puts (Touch e i block) o q = refl
     puts (End e) o q = refl
@@ -102,7 +102,7 @@ own_backed d m step own = record {
 -- what is backed stays so as a port is changed that has the same disks
 backed_on : (old mid : Device) (m : Machine) (steps : List Step) (port : ℕ) (p : device.DevicePort) → p.plug_history ≡ (mid.port port).plug_history → TapeBacksSteps old mid m steps → TapeBacksSteps old (with_port mid port p) m steps
 backed_on old mid m steps port p same b = record {
-  telling_is_same = b.telling_is_same;
+  disks_tell_sectors_is_same = b.disks_tell_sectors_is_same;
   new_entries = b.new_entries;
   tape_is = b.tape_is;
   tells_device_steps = b.tells_device_steps;

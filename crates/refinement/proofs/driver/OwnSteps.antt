@@ -21,7 +21,7 @@ use Rattle.block_machine.proofs.Members.{map_in, into_map, at_cases, without_in,
 use Rattle.block_machine.proofs.Sound.{Sound}
 use Rattle.block_machine.proofs.Standing.{standing}
 use Rattle.adapter.specs.OneCommand.{SlotHasNoCommand}
-use Rattle.refinement.specs.Slots.{SlotState, Free, Own, Serves, SlotStates, set_slot_state, TouchedAsMoved, IsInSomeStage, RelatesSlot, Armed, IsArmedIfSt}
+use Rattle.refinement.specs.Slots.{SlotState, Free, Own, Serves, SlotStates, set_slot_state, TouchedAsMovedOrCleared, IsInSomeStage, RelatesSlot, Armed, IsArmedIfSt}
 use Rattle.refinement.specs.Relation.{StateRelation, port_at}
 use Rattle.refinement.specs.Driver.{DriverState, DriverRelation, HasNoSlot, OthersStayParked, ParkedStayUnlessKept, with_slot_freed_and_request_parked, with_slot_freed}
 use Rattle.refinement.proofs.relation.LastingSectors.{gains_none, keeps_same, lasting_on}
@@ -37,7 +37,7 @@ use Rattle.ata_types.specs.declared.request.ClientId.{ClientId}
 
 -- another form of a request that asks the same and is as far
 module _ (memory : ℕ → ℕ) (p : DevicePort) (port slot : ℕ) (e : Pending) (c : Meaning) (places : List ℕ) (issues age : ℕ) (issued : Bool) where
-  progress_of : (op : Op) (t : FetchedCommand) → TouchedAsMoved op memory port e t → TouchedAsMoved op memory port (record e { issue_count = issues; age = age; issued = issued }) t
+  progress_of : (op : Op) (t : FetchedCommand) → TouchedAsMovedOrCleared op memory port e t → TouchedAsMovedOrCleared op memory port (record e { issue_count = issues; age = age; issued = issued }) t
   progress_of Read t h = h
   progress_of Write t h = h
   progress_of Trim t h = h
@@ -93,7 +93,7 @@ agrees_on uses m m' d a world goes = record {
   };
   client_frames_are_same = λ f b from small. a.client_frames_are_same f b from small ∙ ap (λ (g : Memory). g f b) (sym world.memory);
   sectors_are_same_if_disks_tell = λ t q. sectors_on m m' (d.port q).disk q (λ k b lb. ap (λ (g : Port → DiskBytes). g (port_at q) k b) world.disks) (a.sectors_are_same_if_disks_tell t q);
-  holds_replug_candidates_if_disks_tell = λ t q. lasting_on m m' d.tape d.tape (d.port q) (d.port q) q refl refl (keeps_same m m' q world.disks world.aside) (gains_none d.tape m' q) (a.holds_replug_candidates_if_disks_tell t q);
+  knows_replug_candidates_if_disks_tell = λ t q. lasting_on m m' d.tape d.tape (d.port q) (d.port q) q refl refl (keeps_same m m' q world.disks world.aside) (gains_none d.tape m' q) (a.knows_replug_candidates_if_disks_tell t q);
 }
 
 -- ---- accept

@@ -119,8 +119,8 @@ module _ (uses : SlotStates) (m m' : Machine) (d : Device) (a : StateRelation us
     client_frames_are_same = λ f b from small. a.client_frames_are_same f b from small ∙ ap (λ (g : Memory). g f b) (sym x.world.memory);
     sectors_are_same_if_disks_tell = λ t q. subst (λ (y : device.Disk × DurableState). SameSectors m' y.0 q) (sym (x.disk q))
         (sectors_on m m' (d.port q).disk q (λ k b lb. ap (λ (g : Port → DiskBytes). g (port_at q) k b) x.world.disks) (a.sectors_are_same_if_disks_tell t q));
-    holds_replug_candidates_if_disks_tell = λ t q. lasting_on m m' d.tape d.tape (d.port q) (ports q) q (ap (λ (y : device.Disk × DurableState). y.1) (x.disk q)) (ap (λ (y : device.Disk × DurableState). y.0.sector_count) (x.disk q))
-        (keeps_same m m' q x.world.disks x.world.aside) (gains_none d.tape m' q) (a.holds_replug_candidates_if_disks_tell t q);
+    knows_replug_candidates_if_disks_tell = λ t q. lasting_on m m' d.tape d.tape (d.port q) (ports q) q (ap (λ (y : device.Disk × DurableState). y.1) (x.disk q)) (ap (λ (y : device.Disk × DurableState). y.0.sector_count) (x.disk q))
+        (keeps_same m m' q x.world.disks x.world.aside) (gains_none d.tape m' q) (a.knows_replug_candidates_if_disks_tell t q);
   }
 
 -- ---- a command is issued

@@ -11,7 +11,7 @@ use Rattle.adapter.specs.Access.{Access, Does, Reads, Writes, port_after_write, 
 use Rattle.adapter.specs.Access.Access.{Writing}
 use Rattle.adapter.specs.Commands.{is_queued}
 use Rattle.adapter.specs.Device.{Halt, FetchedCommand, DevicePort, Device}
-use Rattle.adapter.specs.Device.Halt.{NotHalted, HaltedPlain, HaltedQueued, LogOnly}
+use Rattle.adapter.specs.Device.Halt.{NotHalted, HaltedByPlain, HaltedByQueued, LogOnly}
 use Rattle.adapter.specs.Memory.{changed}
 use Rattle.adapter.specs.Steps.{DeviceTransition, Can, device_after, TransitionsLead, Steps, admits, halt_after_fault}
 use Rattle.adapter.specs.Steps.DeviceTransition.{Fetch, FetchFault, Move, Clear, Done, Fault, Fatal, Fall, FrFall, LinkUp, Unplug, Plug, ResetEnds, Scribble}
@@ -22,7 +22,7 @@ use Rattle.block_machine.specs.Expected as left
 use Rattle.block_machine.specs.State.{Machine}
 use Rattle.refinement.specs.StepLaws.{StepLaws}
 use Rattle.refinement.specs.Relation.{StateRelation}
-use Rattle.refinement.specs.PortFacts.{RunsWell, IsHaltedPlainOrQueued, IsCleanToStart}
+use Rattle.refinement.specs.PortFacts.{RunsWell, IsHaltedByPlainOrQueued, IsCleanToStart}
 use Rattle.refinement.specs.Simulation.{SimulatesSteps}
 use Rattle.refinement.specs.PreservedParts.{DoesNotWrite}
 use Rattle.adapter.specs.OneCommand.{SlotHasNoCommand}
@@ -43,22 +43,22 @@ use Rattle.refinement.proofs.device.PlainPort.{fetched_plain}
 
 -- as facts of a port's fields
 abbrev Told : DevicePort → Type 0
-Told p = (p.is 30 ≡ false) ⊎ ((p.ci 0 ≡ true) × IsHaltedPlainOrQueued p.halt)
+Told p = (p.is 30 ≡ false) ⊎ ((p.ci 0 ≡ true) × IsHaltedByPlainOrQueued p.halt)
 
 abbrev Open : DevicePort → Type 0
 Open p = (p.st ≡ true) × (p.sact 0 ≡ false) × (p.link_due ≡ false) × Told p
 
 -- a fault halts
-faults : (h : Halt) (queued : Bool) → IsHaltedPlainOrQueued (halt_after_fault h queued)
-faults HaltedQueued queued = inr refl
+faults : (h : Halt) (queued : Bool) → IsHaltedByPlainOrQueued (halt_after_fault h queued)
+faults HaltedByQueued queued = inr refl
 faults LogOnly queued = inr refl
 faults NotHalted true = inr refl
 faults NotHalted false = inl refl
-faults HaltedPlain true = inr refl
-faults HaltedPlain false = inl refl
+faults HaltedByPlain true = inr refl
+faults HaltedByPlain false = inl refl
 
 -- and a port that a fault has halted works on nothing
-unworked : {A : Type 0} (h : Halt) (o : Operation) → IsHaltedPlainOrQueued h → admits h o ≡ true → A
+unworked : {A : Type 0} (h : Halt) (o : Operation) → IsHaltedByPlainOrQueued h → admits h o ≡ true → A
 unworked {A} h o (inl e) can = absurd (false≢true (ap (λ (x : Halt). admits x o) (sym e) ∙ can))
 unworked {A} h o (inr e) can = absurd (false≢true (ap (λ (x : Halt). admits x o) (sym e) ∙ can))
 
@@ -90,7 +90,7 @@ module _ (uses : SlotStates) (m : Machine) (d : Device) (a : StateRelation uses 
         x.2,
         ⊎_elim
             (λ (n : (d.port p).is 30 ≡ false). inl n)
-            (λ (y : ((d.port p).ci 0 ≡ true) × IsHaltedPlainOrQueued (d.port p).halt). inr (ap (λ (f : ℕ → Bool). f 0) (cond-false (is_queued c.operation) _ _ plain) ∙ y.0, y.1))
+            (λ (y : ((d.port p).ci 0 ≡ true) × IsHaltedByPlainOrQueued (d.port p).halt). inr (ap (λ (f : ℕ → Bool). f 0) (cond-false (is_queued c.operation) _ _ plain) ∙ y.0, y.1))
             x.3,
       ))
       (λ ne x. x)
@@ -104,7 +104,7 @@ module _ (uses : SlotStates) (m : Machine) (d : Device) (a : StateRelation uses 
         x.2,
         inl (beside_set (d.port p).is flag (small can.cause_is_allowed) (⊎_elim
             (λ (n : (d.port p).is 30 ≡ false). n)
-            (λ (y : ((d.port p).ci 0 ≡ true) × IsHaltedPlainOrQueued (d.port p).halt). unworked (d.port p).halt t.meaning.operation y.1 can.works.working.admitted)
+            (λ (y : ((d.port p).ci 0 ≡ true) × IsHaltedByPlainOrQueued (d.port p).halt). unworked (d.port p).halt t.meaning.operation y.1 can.works.working.admitted)
             x.3)),
       ))
       (λ ne x. x)
@@ -125,7 +125,7 @@ module _ (uses : SlotStates) (m : Machine) (d : Device) (a : StateRelation uses 
         x.2,
         ⊎_elim
             (λ (n : (d.port p).is 30 ≡ false). inl (beside_set (d.port p).is place (small can.1) n))
-            (λ (y : ((d.port p).ci 0 ≡ true) × IsHaltedPlainOrQueued (d.port p).halt). inr y)
+            (λ (y : ((d.port p).ci 0 ≡ true) × IsHaltedByPlainOrQueued (d.port p).halt). inr y)
             x.3,
       ))
       (λ ne x. x)
@@ -170,13 +170,13 @@ written_opens Ci v tape p on other control h = (
   h.0,
   h.1,
   h.2,
-  ⊎_elim (λ (n : p.is 30 ≡ false). inl n) (λ (y : (p.ci 0 ≡ true) × IsHaltedPlainOrQueued p.halt). inr (or_left (p.ci 0) (bit v 0) y.0, y.1)) h.3,
+  ⊎_elim (λ (n : p.is 30 ≡ false). inl n) (λ (y : (p.ci 0 ≡ true) × IsHaltedByPlainOrQueued p.halt). inr (or_left (p.ci 0) (bit v 0) y.0, y.1)) h.3,
 )
 written_opens Is v tape p on other control h = (
   h.0,
   h.1,
   h.2,
-  ⊎_elim (λ (n : p.is 30 ≡ false). inl (and_left (p.is 30) (not (bit v 30)) n)) (λ (y : (p.ci 0 ≡ true) × IsHaltedPlainOrQueued p.halt). inr y) h.3,
+  ⊎_elim (λ (n : p.is 30 ≡ false). inl (and_left (p.is 30) (not (bit v 30)) n)) (λ (y : (p.ci 0 ≡ true) × IsHaltedByPlainOrQueued p.halt). inr y) h.3,
 )
 written_opens _ v tape p on other control h = h
 
@@ -230,7 +230,7 @@ unfailed laws uses m port v old new r a h call clear =
     let shown : (call.at_access.port port.0).ci 0 ≡ false = sym (call.shows 0 (omega arith)) ∙ clear in
     ap (λ (d : Device). (d.port port.0).is 30) call.effect ∙ (ap (λ (p : DevicePort). p.is 30) (changed_same call.at_access.port port.0 _) ∙ ⊎_elim
     (λ (n : (call.at_access.port port.0).is 30 ≡ false). n)
-    (λ (y : ((call.at_access.port port.0).ci 0 ≡ true) × IsHaltedPlainOrQueued (call.at_access.port port.0).halt). absurd (both_ways _ shown y.0))
+    (λ (y : ((call.at_access.port port.0).ci 0 ≡ true) × IsHaltedByPlainOrQueued (call.at_access.port port.0).halt). absurd (both_ways _ shown y.0))
     mid.tfes_is_clear_or_issued)
 
 pub open_well : (p : DevicePort) → RunsLinked p → p.halt ≡ NotHalted → p.is 30 ≡ false → p.serr_n ≡ false → p.serr_x ≡ false → ((place : ℕ) → 27 ≤ place → place ≤ 29 → p.is place ≡ false) → RunsWell p

@@ -9,7 +9,7 @@ use Rattle.ata_types.specs.declared.request.Frame.{Frame}
 use Rattle.adapter.specs.Device.{Device, DurableState}
 use Rattle.adapter.specs.Steps.{WereHeldSinceFlush, bytes_put_into}
 use Rattle.adapter.specs.declared.tape.Entry.{Entry}
-use Rattle.adapter.specs.Idle.{IsIdle, DisksAreKnownIfTelling}
+use Rattle.adapter.specs.Idle.{IsIdle, DisksAreKnownIfTheyTell}
 use Rattle.block_machine.specs.State.{Block, DiskBytes, Machine}
 use Rattle.block_machine.specs.Expected.{IsInitial}
 use Rattle.refinement.specs.Slots.{Free, Serves}
@@ -38,7 +38,7 @@ returns tape lasting port k bytes (inr (entry, here, is)) = Contains-append_righ
     (in_blocks port k (drop lasting.tape_length tape) entry bytes here is)
 
 pub idle_knows : (m : Machine) (d : Device) → IsInitial m → IsIdle d → ((port : ℕ) → IsDiskOf m (d.port port) port) → SameClientFrames m d.memory →
-    (d.telling ≡ true → (port : ℕ) → SameSectors m (d.port port).disk port) → (d.telling ≡ true → (port k : ℕ) → m.overwritten_since_flush (port_at port) k ≡ replug_candidates d.tape (d.port port).lasting port k) → DriverRelation m (idle_driver_state d)
+    (d.disks_tell_sectors ≡ true → (port : ℕ) → SameSectors m (d.port port).disk port) → (d.disks_tell_sectors ≡ true → (port k : ℕ) → m.overwritten_since_flush (port_at port) k ≡ replug_candidates d.tape (d.port port).lasting port k) → DriverRelation m (idle_driver_state d)
 idle_knows m d s i disk memory sectors aside = record {
   state_relation = record {
     relates_slots = λ q k. record { is_not_issued = (i.ports_are_idle q).ci_is_clear k; is_not_taken = (i.ports_are_idle q).none_is_taken k; unarmed = (i.ports_are_idle q).sact_is_clear k };
@@ -47,7 +47,7 @@ idle_knows m d s i disk memory sectors aside = record {
     disks_are_same = disk;
     client_frames_are_same = memory;
     sectors_are_same_if_disks_tell = sectors;
-    holds_replug_candidates_if_disks_tell = λ t port k inside bytes w. inr (slice_index bytes, subst (λ (l : List Block). Contains l (slice_index bytes)) (sym (aside t port k)) (returns d.tape (d.port port).lasting port k bytes w), λ b lb. refl);
+    knows_replug_candidates_if_disks_tell = λ t port k inside bytes w. inr (slice_index bytes, subst (λ (l : List Block). Contains l (slice_index bytes)) (sym (aside t port k)) (returns d.tape (d.port port).lasting port k bytes w), λ b lb. refl);
   };
   have_slots_unless_parked = λ q e may at_port. ⊎_elim
       (λ z. absurd (All-contains (λ _. ⊥) [] e (All-nil (λ _. ⊥)) (subst (λ es. Contains es e) s.book_is_empty z.0)))
@@ -80,11 +80,11 @@ machine_of d rows owner = record {
 }
 
 pub machine_knows : (d : Device) (rows : List GrantRow) (owner : Frame → Option ClientId) → IsInitial (machine_of d rows owner) → IsIdle d
-    → DisksAreKnownIfTelling d → DriverRelation (machine_of d rows owner) (idle_driver_state d)
+    → DisksAreKnownIfTheyTell d → DriverRelation (machine_of d rows owner) (idle_driver_state d)
 machine_knows d rows owner start is told =
     idle_knows (machine_of d rows owner) d start is (λ q. record { present = refl; id = refl; sector_count = refl }) (λ f b low small. refl) sectors (λ _ port k. refl)
   where
-    sectors : d.telling ≡ true → (port : ℕ) → SameSectors (machine_of d rows owner) (d.port port).disk port
+    sectors : d.disks_tell_sectors ≡ true → (port : ℕ) → SameSectors (machine_of d rows owner) (d.port port).disk port
     sectors tells q =
         let t = told tells q in
         record { told_sectors = t.0; disk_tells = t.1; bytes_are_same = λ k b inside small. sym (ap (λ (s : Option (ℕ → List ℕ)). told_bytes s k b) t.1) }
@@ -102,7 +102,7 @@ unowned_starts d = record {
   owned_frames_are_clients = λ frame client (e : None ≡ Some client). absurd (cc);
 }
 
-pub idle_agrees : (d : Device) → IsIdle d → DisksAreKnownIfTelling d → SomeMachineAgrees (λ port slot. Free) d
+pub idle_agrees : (d : Device) → IsIdle d → DisksAreKnownIfTheyTell d → SomeMachineAgrees (λ port slot. Free) d
 idle_agrees d is told = record {
   machine = machine_of d [] (λ frame. None);
   parked = λ port. [];

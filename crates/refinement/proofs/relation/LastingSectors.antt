@@ -8,7 +8,7 @@ use Rattle.std.proofs.lemmas.Option.{same_Some}
 use Rattle.ata_types.specs.declared.Port.{Port}
 use Rattle.ata_types.specs.declared.request.Op.{Op}
 use Rattle.ata_types.specs.declared.request.Op.TheVariants.{Read, Write, Trim, Flush}
-use Rattle.adapter.specs.Commands.{is_ranged, reads_memory}
+use Rattle.adapter.specs.Commands.{moves_disk_sectors, reads_memory}
 use Rattle.adapter.specs.Device.{Disk, DurableState, DevicePort, FetchedCommand}
 use Rattle.adapter.specs.Steps.{WereHeldSinceFlush, bytes_put_into, lasting_after, lasting_after_plug_or_replug, port_with_lasting_after_operation, next_sector, move_of, clear_entry}
 use Rattle.adapter.specs.declared.command.Operation.{Operation}
@@ -21,7 +21,7 @@ use Rattle.block_machine.specs.DueRequests.{is_flush, changes_sectors}
 use Rattle.block_machine.specs.Expected as left
 use Rattle.block_machine.specs.Steps.{Touch, End, PlugDisk, SameBytes, HoldsOrHeldSinceFlush, after_step, put_sector}
 use Rattle.refinement.specs.Slots.{client_operation_of}
-use Rattle.refinement.specs.Relation.{port_at, SameSectors, HoldsReplugCandidates}
+use Rattle.refinement.specs.Relation.{port_at, SameSectors, KnowsAllReplugCandidates}
 use Rattle.refinement.specs.Tape.{with_sectors_touched, touch_steps}
 
 -- ---- the machine: what a sector holds, or has held, so it has after a step, until a flush is ended
@@ -113,10 +113,10 @@ and_false false = refl
 -- a move for another command than a write puts nothing
 pub quiet_move : (port slot : ℕ) (t : FetchedCommand) (bytes : List ℕ) → (client_operation_of t.meaning.operation ≡ Some Write → ⊥) → IsQuiet (entry.Move (move_of port slot t bytes))
 quiet_move port slot t bytes none q k =
-    cond-false (((port == q) && (next_sector t == k)) && (is_ranged t.meaning.operation && reads_memory t.meaning.operation)) (Some bytes) None
+    cond-false (((port == q) && (next_sector t == k)) && (moves_disk_sectors t.meaning.operation && reads_memory t.meaning.operation)) (Some bytes) None
     (ap (λ (b : Bool). ((port == q) && (next_sector t == k)) && b) (quiet t.meaning.operation none) ∙ and_false ((port == q) && (next_sector t == k)))
   where
-    quiet : (o : Operation) → (client_operation_of o ≡ Some Write → ⊥) → is_ranged o && reads_memory o ≡ false
+    quiet : (o : Operation) → (client_operation_of o ≡ Some Write → ⊥) → moves_disk_sectors o && reads_memory o ≡ false
     quiet operation.Write n = absurd (n refl)
     quiet operation.WriteQueued n = absurd (n refl)
     quiet operation.Read n = refl
@@ -157,7 +157,7 @@ keeps_same m m' port disks aside k b h =
     (subst (λ (old : List Block). Holds (m.disk_bytes (port_at port) k) old b) (ap (λ (f : Port → ℕ → List Block). f (port_at port) k) (sym aside)) h)
 
 pub lasting_on : (m m' : Machine) (earlier later : List Entry) (p new : DevicePort) (port : ℕ) → new.lasting ≡ p.lasting → new.disk.sector_count ≡ p.disk.sector_count
-    → Keeps m m' port → Gains earlier later m' port → HoldsReplugCandidates m earlier p port → HoldsReplugCandidates m' later new port
+    → Keeps m m' port → Gains earlier later m' port → KnowsAllReplugCandidates m earlier p port → KnowsAllReplugCandidates m' later new port
 lasting_on m m' earlier later p new port same size keeps gains h k inside bytes w = ⊎_elim
     (λ before. keeps k (slice_index bytes) (h k (subst (λ (n : ℕ). k < n) size inside) bytes before))
     (λ now. now)
@@ -165,7 +165,7 @@ lasting_on m m' earlier later p new port same size keeps gains h k inside bytes 
 
 -- what is lasting is what the disk holds now, and nothing was put since
 lasting_now : (m : Machine) (tape : List Entry) (e : Entry) (disk : Disk) (new : DevicePort) (port : ℕ) → IsQuiet e → new.lasting ≡ record { sectors = disk.sectors; tape_length = length tape }
-    → new.disk.sector_count ≡ disk.sector_count → SameSectors m disk port → HoldsReplugCandidates m (tape ++ e ∷ []) new port
+    → new.disk.sector_count ≡ disk.sector_count → SameSectors m disk port → KnowsAllReplugCandidates m (tape ++ e ∷ []) new port
 lasting_now m tape e disk new port quiet is size s k inside bytes w = by (subst (λ (l : DurableState). WereHeldSinceFlush (tape ++ e ∷ []) l port k bytes) is w)
   where
     by : WereHeldSinceFlush (tape ++ e ∷ []) (record { sectors = disk.sectors; tape_length = length tape }) port k bytes → HoldsOrHeldSinceFlush m (port_at port) k (slice_index bytes)
@@ -182,7 +182,7 @@ abbrev pub disk_of : DevicePort → Disk × DurableState
 disk_of p = (p.disk, p.lasting)
 
 -- where nothing is put, the port's disk is the same, and its machine's too
-pub lasting_same : (m : Machine) (tape : List Entry) (p new : DevicePort) (port : ℕ) → disk_of new ≡ disk_of p → HoldsReplugCandidates m tape p port → HoldsReplugCandidates m tape new port
+pub lasting_same : (m : Machine) (tape : List Entry) (p new : DevicePort) (port : ℕ) → disk_of new ≡ disk_of p → KnowsAllReplugCandidates m tape p port → KnowsAllReplugCandidates m tape new port
 lasting_same m tape p new port same h =
     lasting_on m m tape tape p new port (ap (λ (x : Disk × DurableState). x.1) same) (ap (λ (x : Disk × DurableState). x.0.sector_count) same) (λ k b held. held) (gains_none tape m port) h
 
@@ -209,7 +209,7 @@ gains_write tape m port slot t bytes q now = gains_put tape (entry.Move (move_of
     by k other false writes at is = absurd (puts_none None other refl is)
 
     put : (k : ℕ) (other : List ℕ) → bytes_put_into q k (entry.Move (move_of port slot t bytes)) ≡ Some other → HoldsOrHeldSinceFlush m (port_at q) k (slice_index other)
-    put k other is = by k other ((port == q) && (next_sector t == k)) (is_ranged t.meaning.operation && reads_memory t.meaning.operation) refl is
+    put k other is = by k other ((port == q) && (next_sector t == k)) (moves_disk_sectors t.meaning.operation && reads_memory t.meaning.operation) refl is
 
 -- and a clear puts zeros
 pub gains_clear : (tape : List Entry) (m : Machine) (port slot first count q : ℕ)
@@ -230,12 +230,12 @@ gains_clear tape m port slot first count q now = gains_put tape (clear_entry por
 
 -- A command is ended: what the disk holds is lasting if it is a flush, and else what was so before.
 module _ (m : Machine) (e : Pending) (tape : List Entry) (last : Entry) (quiet : IsQuiet last) where
-  pub lasting_ended : (p : DevicePort) (port : ℕ) (o : Operation) → client_operation_of o ≡ Some e.request.asked.op → SameSectors m p.disk port → HoldsReplugCandidates m tape p port
-      → HoldsReplugCandidates (after_step m (End e)) (tape ++ last ∷ []) (port_with_lasting_after_operation p o (length tape)) port
+  pub lasting_ended : (p : DevicePort) (port : ℕ) (o : Operation) → client_operation_of o ≡ Some e.request.asked.op → SameSectors m p.disk port → KnowsAllReplugCandidates m tape p port
+      → KnowsAllReplugCandidates (after_step m (End e)) (tape ++ last ∷ []) (port_with_lasting_after_operation p o (length tape)) port
   lasting_ended p port o is s h = by o is
     where
       other : (o : Operation) (op : Op) → is_flush op ≡ false → Some op ≡ Some e.request.asked.op → lasting_after o p.lasting p.disk (length tape) ≡ p.lasting
-          → HoldsReplugCandidates (after_step m (End e)) (tape ++ last ∷ []) (port_with_lasting_after_operation p o (length tape)) port
+          → KnowsAllReplugCandidates (after_step m (End e)) (tape ++ last ∷ []) (port_with_lasting_after_operation p o (length tape)) port
       other o op plain is same =
           lasting_on m (after_step m (End e)) tape (tape ++ last ∷ []) p (port_with_lasting_after_operation p o (length tape)) port same refl
           (λ k b held. held_ended m e (port_at port) k b (ap (λ (b : Bool). (e.request.port.0 == port) && b) (ap is_flush (sym (same_Some op e.request.asked.op is)) ∙ plain) ∙ and_false (e.request.port.0 == port)) held)
@@ -244,7 +244,7 @@ module _ (m : Machine) (e : Pending) (tape : List Entry) (last : Entry) (quiet :
       no_op : {A : Type 0} → None ≡ Some e.request.asked.op → A
       no_op z = absurd cc
 
-      by : (o : Operation) → client_operation_of o ≡ Some e.request.asked.op → HoldsReplugCandidates (after_step m (End e)) (tape ++ last ∷ []) (port_with_lasting_after_operation p o (length tape)) port
+      by : (o : Operation) → client_operation_of o ≡ Some e.request.asked.op → KnowsAllReplugCandidates (after_step m (End e)) (tape ++ last ∷ []) (port_with_lasting_after_operation p o (length tape)) port
       by operation.Flush is = lasting_now (after_step m (End e)) tape last p.disk (port_with_lasting_after_operation p operation.Flush (length tape)) port quiet refl refl (record { told_sectors = s.told_sectors; disk_tells = s.disk_tells; bytes_are_same = s.bytes_are_same })
       by operation.Read is = other operation.Read Read refl is refl
       by operation.ReadQueued is = other operation.ReadQueued Read refl is refl
@@ -255,15 +255,15 @@ module _ (m : Machine) (e : Pending) (tape : List Entry) (last : Entry) (quiet :
       by operation.ReadLog is = no_op is
 
   -- of another port
-  pub lasting_ended_elsewhere : (p : DevicePort) (port q : ℕ) → e.request.port.0 ≡ port → q ≢ port → HoldsReplugCandidates m tape p q → HoldsReplugCandidates (after_step m (End e)) (tape ++ last ∷ []) p q
+  pub lasting_ended_elsewhere : (p : DevicePort) (port q : ℕ) → e.request.port.0 ≡ port → q ≢ port → KnowsAllReplugCandidates m tape p q → KnowsAllReplugCandidates (after_step m (End e)) (tape ++ last ∷ []) p q
   lasting_ended_elsewhere p port q at ne h =
       lasting_on m (after_step m (End e)) tape (tape ++ last ∷ []) p p q refl refl
       (λ k b held. held_ended m e (port_at q) k b (ap (λ (b : Bool). b && is_flush e.request.asked.op) (ne_eqb e.request.port.0 q (λ z. ne (sym z ∙ at)))) held)
       (gains_quiet tape last (after_step m (End e)) q quiet) h
 
 -- a page command is ended: it is no flush
-pub lasting_read : (m : Machine) (tape : List Entry) (last : Entry) (p : DevicePort) (port : ℕ) (o : Operation) → IsQuiet last → client_operation_of o ≡ None → HoldsReplugCandidates m tape p port
-    → HoldsReplugCandidates m (tape ++ last ∷ []) (port_with_lasting_after_operation p o (length tape)) port
+pub lasting_read : (m : Machine) (tape : List Entry) (last : Entry) (p : DevicePort) (port : ℕ) (o : Operation) → IsQuiet last → client_operation_of o ≡ None → KnowsAllReplugCandidates m tape p port
+    → KnowsAllReplugCandidates m (tape ++ last ∷ []) (port_with_lasting_after_operation p o (length tape)) port
 lasting_read m tape last p port o quiet none h =
     lasting_on m m tape (tape ++ last ∷ []) p (port_with_lasting_after_operation p o (length tape)) port (by o none) refl (λ k b held. held) (gains_quiet tape last m port quiet) h
   where
@@ -284,10 +284,10 @@ lasting_read m tape last p port o quiet none h =
 module _ (m : Machine) (port : ℕ) (disk : Disk) (content : state.DiskBytes) (tape : List Entry) (last : Entry) (quiet : IsQuiet last) where
   pub lasting_put_in : (p new : DevicePort) → m.disk_ids (port_at port) ≡ p.disk.name → new.disk.sector_count ≡ disk.sector_count → new.lasting ≡ lasting_after_plug_or_replug p.lasting p.disk disk (length tape)
       → (disk.name ≡ p.disk.name → disk.sector_count ≡ p.disk.sector_count) → SameSectors (after_step m (PlugDisk (port_at port) disk.name disk.sector_count content)) disk port
-      → HoldsReplugCandidates m tape p port → HoldsReplugCandidates (after_step m (PlugDisk (port_at port) disk.name disk.sector_count content)) (tape ++ last ∷ []) new port
+      → KnowsAllReplugCandidates m tape p port → KnowsAllReplugCandidates (after_step m (PlugDisk (port_at port) disk.name disk.sector_count content)) (tape ++ last ∷ []) new port
   lasting_put_in p new id size is known s h = by (nat_eq disk.name p.disk.name) refl
     where
-      by : (b : Bool) → nat_eq disk.name p.disk.name ≡ b → HoldsReplugCandidates (after_step m (PlugDisk (port_at port) disk.name disk.sector_count content)) (tape ++ last ∷ []) new port
+      by : (b : Bool) → nat_eq disk.name p.disk.name ≡ b → KnowsAllReplugCandidates (after_step m (PlugDisk (port_at port) disk.name disk.sector_count content)) (tape ++ last ∷ []) new port
       by true e =
           let name : disk.name ≡ p.disk.name = eqb-true disk.name p.disk.name e in
           lasting_on m (after_step m (PlugDisk (port_at port) disk.name disk.sector_count content)) tape (tape ++ last ∷ []) p new port
@@ -297,7 +297,7 @@ module _ (m : Machine) (port : ℕ) (disk : Disk) (content : state.DiskBytes) (t
       by false e = lasting_now (after_step m (PlugDisk (port_at port) disk.name disk.sector_count content)) tape last disk new port quiet
           (is ∙ cond-false (nat_eq disk.name p.disk.name) p.lasting (record { sectors = disk.sectors; tape_length = length tape }) e) size s
 
-  pub lasting_put_elsewhere : (p : DevicePort) (q : ℕ) → q ≢ port → HoldsReplugCandidates m tape p q → HoldsReplugCandidates (after_step m (PlugDisk (port_at port) disk.name disk.sector_count content)) (tape ++ last ∷ []) p q
+  pub lasting_put_elsewhere : (p : DevicePort) (q : ℕ) → q ≢ port → KnowsAllReplugCandidates m tape p q → KnowsAllReplugCandidates (after_step m (PlugDisk (port_at port) disk.name disk.sector_count content)) (tape ++ last ∷ []) p q
   lasting_put_elsewhere p q ne h =
       lasting_on m (after_step m (PlugDisk (port_at port) disk.name disk.sector_count content)) tape (tape ++ last ∷ []) p p q refl refl
       (λ k b held. held_replaced m (port_at port) disk.name disk.sector_count content (port_at q) k b (λ e. absurd (ne (eqb-true q port e))) held)

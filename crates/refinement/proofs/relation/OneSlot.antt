@@ -11,7 +11,7 @@ use Rattle.adapter.proofs.MemoryLemmas.{patched_apart}
 use Rattle.block_machine.specs.State.{Pending, Machine}
 use Rattle.block_machine.specs.Steps.{IsIssuedOrKept}
 use Rattle.refinement.specs.Slots.{Serves, SlotStates, RelatesSlot}
-use Rattle.refinement.specs.Relation.{StateRelation, port_at, IsDiskOf, SameSectors, HoldsReplugCandidates, SameClientFrames, HasReceivedArea, ServeDistinctRequests}
+use Rattle.refinement.specs.Relation.{StateRelation, port_at, IsDiskOf, SameSectors, KnowsAllReplugCandidates, SameClientFrames, HasReceivedArea, ServeDistinctRequests}
 use Rattle.refinement.proofs.relation.SlotRelation.{SameSlot, SameFixed, slots_after}
 use Rattle.refinement.proofs.relation.TouchesAndEnds.{Goes}
 
@@ -39,10 +39,10 @@ pub record Acts (Except : ℕ → Type 0) (uses : SlotStates) (m m' : Machine) (
   pub present : new.present ≡ (d.port port).present
   pub name : new.disk.name ≡ (d.port port).disk.name
   pub size : new.disk.sector_count ≡ (d.port port).disk.sector_count
-  pub sectors : d.telling ≡ true → SameSectors m' new.disk port
-  pub other_sectors : d.telling ≡ true → (q : ℕ) → q ≢ port → SameSectors m' (d.port q).disk q
-  pub lasting : d.telling ≡ true → HoldsReplugCandidates m' later new port
-  pub other_lasting : d.telling ≡ true → (q : ℕ) → q ≢ port → HoldsReplugCandidates m' later (d.port q) q
+  pub sectors : d.disks_tell_sectors ≡ true → SameSectors m' new.disk port
+  pub other_sectors : d.disks_tell_sectors ≡ true → (q : ℕ) → q ≢ port → SameSectors m' (d.port q).disk q
+  pub lasting : d.disks_tell_sectors ≡ true → KnowsAllReplugCandidates m' later new port
+  pub other_lasting : d.disks_tell_sectors ≡ true → (q : ℕ) → q ≢ port → KnowsAllReplugCandidates m' later (d.port q) q
   pub memory : SameClientFrames m' memory'
 
 pub acted : (Except : ℕ → Type 0) (uses : SlotStates) (m m' : Machine) (d : Device) (a : StateRelation uses m d) (memory' : ℕ → ℕ) (later : List Entry) (port slot : ℕ) (new : DevicePort) →
@@ -65,7 +65,7 @@ acted Except uses m m' d a memory' later port slot new x = record {
       });
   client_frames_are_same = x.memory;
   sectors_are_same_if_disks_tell = λ t. changed_at d.port port new (λ q p. SameSectors m' p.disk q) (x.sectors t) (x.other_sectors t);
-  holds_replug_candidates_if_disks_tell = λ t. changed_at d.port port new (λ q p. HoldsReplugCandidates m' later p q) (x.lasting t) (x.other_lasting t);
+  knows_replug_candidates_if_disks_tell = λ t. changed_at d.port port new (λ q p. KnowsAllReplugCandidates m' later p q) (x.lasting t) (x.other_lasting t);
 }
 
 -- another slot's request is another

@@ -7,7 +7,7 @@ use Rattle.adapter.specs.Memory.{patched, changed}
 use Rattle.adapter.specs.Commands.{is_queued}
 use Rattle.adapter.specs.Device as device
 use Rattle.adapter.specs.Device.{HasKnownSectors, DurableState, FetchedCommand, DevicePort, Device}
-use Rattle.adapter.specs.Steps.{device_after, MayScribble, port_after_reset, IsReplugOf, WereHeldSinceFlush, lasting_after_plug_or_replug}
+use Rattle.adapter.specs.Steps.{device_after, MayScribble, port_after_hba_reset, IsReplugOf, WereHeldSinceFlush, lasting_after_plug_or_replug}
 use Rattle.adapter.specs.Steps.DeviceTransition.{Fault, Fatal, Fall, FrFall, LinkUp, Unplug, Plug, ResetEnds, Scribble}
 use Rattle.adapter.specs.declared.command.Operation.{Operation}
 use Rattle.adapter.specs.declared.tape.Entry.{Entry}
@@ -17,8 +17,8 @@ use Rattle.block_machine.specs.Steps as machine
 use Rattle.block_machine.specs.Steps.{HoldsOrHeldSinceFlush, after_step}
 use Rattle.adapter.specs.OneCommand.{SlotHasNoCommand}
 use Rattle.refinement.specs.Slots.{SlotState, Free, Own, Serves, SlotStates, IsInSomeStage, IsMove, OwnAwaitsFetch, OwnIsTaken, OwnIsOverWithPageIfSt, HasListInPlace, RelatesSlot, Armed}
-use Rattle.refinement.specs.Relation.{StateRelation, port_at, IsDiskOf, SameSectors, HoldsReplugCandidates, HasReceivedArea}
-use Rattle.refinement.specs.Tape.{PutsInDisks}
+use Rattle.refinement.specs.Relation.{StateRelation, port_at, IsDiskOf, SameSectors, KnowsAllReplugCandidates, HasReceivedArea}
+use Rattle.refinement.specs.Tape.{PortPlugsPutInDisks}
 use Rattle.refinement.specs.Simulation.{SimulatesSteps}
 use Rattle.refinement.proofs.relation.SlotRelation.{SameSlot, SameSlot-refl, GainsNone, SameFixed, SameFixed-refl, NoPort, slot_on, slots_quiet, placed_on}
 use Rattle.refinement.proofs.relation.LastingSectors.{Gains, disk_of, gains_none, gains_quiet, lasting_on, lasting_put_in, lasting_put_elsewhere}
@@ -48,15 +48,15 @@ fixed_more uses memory tape e none = record {
 }
 
 -- no disk was put in
-pub none_put : (old new : Device) (steps : List machine.Step) → ((q : ℕ) → (new.port q).plug_history ≡ (old.port q).plug_history) → ((q : ℕ) → PutsInDisks q [] steps) →
-    (port : ℕ) → (disks : List device.Disk) × ((new.port port).plug_history ≡ (old.port port).plug_history ++ disks) × PutsInDisks port disks steps
+pub none_put : (old new : Device) (steps : List machine.Step) → ((q : ℕ) → (new.port q).plug_history ≡ (old.port q).plug_history) → ((q : ℕ) → PortPlugsPutInDisks q [] steps) →
+    (port : ℕ) → (disks : List device.Disk) × ((new.port port).plug_history ≡ (old.port port).plug_history ++ disks) × PortPlugsPutInDisks port disks steps
 none_put old new steps same puts port = ([], same port ∙ sym (append-nil (old.port port).plug_history), puts port)
 
 pub same_plugged : (d : Device) (port : ℕ) (new : DevicePort) → new.plug_history ≡ (d.port port).plug_history → (q : ℕ) → (changed d.port port new q).plug_history ≡ (d.port q).plug_history
 same_plugged d port new same = changed_at d.port port new (λ q p. p.plug_history ≡ (d.port q).plug_history) same (λ q _. refl)
 
-pub plugged_kept : (d : Device) (port : ℕ) (new : DevicePort) (steps : List machine.Step) → new.plug_history ≡ (d.port port).plug_history → ((q : ℕ) → PutsInDisks q [] steps) →
-    (q : ℕ) → (disks : List device.Disk) × ((changed d.port port new q).plug_history ≡ (d.port q).plug_history ++ disks) × PutsInDisks q disks steps
+pub plugged_kept : (d : Device) (port : ℕ) (new : DevicePort) (steps : List machine.Step) → new.plug_history ≡ (d.port port).plug_history → ((q : ℕ) → PortPlugsPutInDisks q [] steps) →
+    (q : ℕ) → (disks : List device.Disk) × ((changed d.port port new q).plug_history ≡ (d.port q).plug_history ++ disks) × PortPlugsPutInDisks q disks steps
 plugged_kept d port new steps same puts q = ([], same_plugged d port new same q ∙ sym (append-nil (d.port q).plug_history), puts q)
 
 -- a port that looks the same to its slots, with its disk
@@ -84,17 +84,17 @@ module _ (uses : SlotStates) (m : Machine) (d : Device) (a : StateRelation uses 
         (λ k _. a.disks_are_same k);
     client_frames_are_same = a.client_frames_are_same;
     sectors_are_same_if_disks_tell = λ t. changed_at d.port port new (λ k p. SameSectors m p.disk k) (subst (λ (x : device.Disk × DurableState). SameSectors m x.0 port) (sym q.disk) (a.sectors_are_same_if_disks_tell t port)) (λ k _. a.sectors_are_same_if_disks_tell t k);
-    holds_replug_candidates_if_disks_tell = λ t. changed_at d.port port new (λ k p. HoldsReplugCandidates m later p k)
-        (lasting_on m m d.tape later (d.port port) new port (ap (λ (x : device.Disk × DurableState). x.1) q.disk) (ap (λ (x : device.Disk × DurableState). x.0.sector_count) q.disk) (λ _ _ h. h) (gains port) (a.holds_replug_candidates_if_disks_tell t port))
-        (λ k _. lasting_on m m d.tape later (d.port k) (d.port k) k refl refl (λ _ _ h. h) (gains k) (a.holds_replug_candidates_if_disks_tell t k));
+    knows_replug_candidates_if_disks_tell = λ t. changed_at d.port port new (λ k p. KnowsAllReplugCandidates m later p k)
+        (lasting_on m m d.tape later (d.port port) new port (ap (λ (x : device.Disk × DurableState). x.1) q.disk) (ap (λ (x : device.Disk × DurableState). x.0.sector_count) q.disk) (λ _ _ h. h) (gains port) (a.knows_replug_candidates_if_disks_tell t port))
+        (λ k _. lasting_on m m d.tape later (d.port k) (d.port k) k refl refl (λ _ _ h. h) (gains k) (a.knows_replug_candidates_if_disks_tell t k));
   }
 
   -- no entry
-  pub silent : (new : Device) → new.telling ≡ d.telling → new.tape ≡ d.tape → ((q : ℕ) → (new.port q).plug_history ≡ (d.port q).plug_history) → StateRelation uses m new → SimulatesSteps uses m d new
-  silent new telling tape plugged agrees = record {
+  pub silent : (new : Device) → new.disks_tell_sectors ≡ d.disks_tell_sectors → new.tape ≡ d.tape → ((q : ℕ) → (new.port q).plug_history ≡ (d.port q).plug_history) → StateRelation uses m new → SimulatesSteps uses m d new
+  silent new disks_tell_sectors tape plugged agrees = record {
     steps = [];
     steps_are_enabled = tt;
-    telling_is_same = telling;
+    disks_tell_sectors_is_same = disks_tell_sectors;
     steps_are_faithful = λ _. tt;
     new_entries = [];
     tape_is = tape ∙ sym (append-nil d.tape);
@@ -107,7 +107,7 @@ module _ (uses : SlotStates) (m : Machine) (d : Device) (a : StateRelation uses 
   fault_follows port slot error kept_bits t = record {
     steps = [];
     steps_are_enabled = tt;
-    telling_is_same = refl;
+    disks_tell_sectors_is_same = refl;
     steps_are_faithful = λ _. tt;
     new_entries = _;
     tape_is = refl;
@@ -121,7 +121,7 @@ module _ (uses : SlotStates) (m : Machine) (d : Device) (a : StateRelation uses 
   fatal_follows port place = record {
     steps = [];
     steps_are_enabled = tt;
-    telling_is_same = refl;
+    disks_tell_sectors_is_same = refl;
     steps_are_faithful = λ _. tt;
     new_entries = _;
     tape_is = refl;
@@ -176,7 +176,7 @@ module _ (uses : SlotStates) (m : Machine) (d : Device) (a : StateRelation uses 
         disks_are_same = a.disks_are_same;
         client_frames_are_same = memory_low m d.memory at bytes may.1 a.client_frames_are_same;
         sectors_are_same_if_disks_tell = a.sectors_are_same_if_disks_tell;
-        holds_replug_candidates_if_disks_tell = a.holds_replug_candidates_if_disks_tell;
+        knows_replug_candidates_if_disks_tell = a.knows_replug_candidates_if_disks_tell;
       })
 
   -- ---- the engine stops
@@ -236,10 +236,10 @@ module _ (uses : SlotStates) (m : Machine) (d : Device) (a : StateRelation uses 
     disks_are_same = changed_at d.port port _ (λ k p. IsDiskOf m p k) (let x = a.disks_are_same port in record { present = x.present; id = x.id; sector_count = x.sector_count }) (λ k _. a.disks_are_same k);
     client_frames_are_same = a.client_frames_are_same;
     sectors_are_same_if_disks_tell = λ t. changed_at d.port port _ (λ k p. SameSectors m p.disk k) (a.sectors_are_same_if_disks_tell t port) (λ k _. a.sectors_are_same_if_disks_tell t k);
-    holds_replug_candidates_if_disks_tell = λ t. changed_at d.port port _ (λ k p. HoldsReplugCandidates m d.tape p k) (a.holds_replug_candidates_if_disks_tell t port) (λ k _. a.holds_replug_candidates_if_disks_tell t k);
+    knows_replug_candidates_if_disks_tell = λ t. changed_at d.port port _ (λ k p. KnowsAllReplugCandidates m d.tape p k) (a.knows_replug_candidates_if_disks_tell t port) (λ k _. a.knows_replug_candidates_if_disks_tell t k);
   })
 
-  reset_slot : (port k : ℕ) (u : SlotState) → RelatesSlot m d.memory d.tape (d.port port) port k u → RelatesSlot m d.memory d.tape (port_after_reset (d.port port)) port k u
+  reset_slot : (port k : ℕ) (u : SlotState) → RelatesSlot m d.memory d.tape (d.port port) port k u → RelatesSlot m d.memory d.tape (port_after_hba_reset (d.port port)) port k u
   reset_slot port k Free h = record { is_not_issued = refl; is_not_taken = refl; unarmed = refl }
   reset_slot port k Armed h = record { is_not_issued = refl; is_not_taken = refl; armed = refl }
   reset_slot port k (Own o) h = record {
@@ -266,11 +266,11 @@ module _ (uses : SlotStates) (m : Machine) (d : Device) (a : StateRelation uses 
     stage = ended h.stage;
   }
     where
-      dropped : h.pending.ended ≡ false → IsInSomeStage d.memory (port_after_reset (d.port port)) port k h.pending h.command h.places
+      dropped : h.pending.ended ≡ false → IsInSomeStage d.memory (port_after_hba_reset (d.port port)) port k h.pending h.command h.places
       dropped unended = inr (inr (inr (record { st_is_clear = refl; is_not_issued = refl; sact_is_clear = refl; is_not_taken = refl; unended = unended })))
 
       -- what had ended has ended still
-      ended : IsInSomeStage d.memory (d.port port) port k h.pending h.command h.places → IsInSomeStage d.memory (port_after_reset (d.port port)) port k h.pending h.command h.places
+      ended : IsInSomeStage d.memory (d.port port) port k h.pending h.command h.places → IsInSomeStage d.memory (port_after_hba_reset (d.port port)) port k h.pending h.command h.places
       ended (inl w) = dropped w.unended
       ended (inr (inl t)) = dropped t.unended
       ended (inr (inr (inl x))) = inr (inr (inl (record { is_not_issued = refl; sact_is_clear = refl; is_not_taken = refl; ended = x.ended; touched = x.touched })))
@@ -284,7 +284,7 @@ module _ (uses : SlotStates) (m : Machine) (d : Device) (a : StateRelation uses 
     disks_are_same = λ q. let x = a.disks_are_same q in record { present = x.present; id = x.id; sector_count = x.sector_count };
     client_frames_are_same = a.client_frames_are_same;
     sectors_are_same_if_disks_tell = λ t q. a.sectors_are_same_if_disks_tell t q;
-    holds_replug_candidates_if_disks_tell = λ t q. a.holds_replug_candidates_if_disks_tell t q;
+    knows_replug_candidates_if_disks_tell = λ t q. a.knows_replug_candidates_if_disks_tell t q;
   })
 
   -- ---- disks come and go
@@ -295,7 +295,7 @@ module _ (uses : SlotStates) (m : Machine) (d : Device) (a : StateRelation uses 
       record {
         steps = machine.Unplug (port_at port) ∷ [];
         steps_are_enabled = (tt, (a.disks_are_same port).present ∙ there);
-        telling_is_same = refl;
+        disks_tell_sectors_is_same = refl;
         steps_are_faithful = λ _. (tt, tt);
         new_entries = _;
         tape_is = refl;
@@ -318,9 +318,9 @@ module _ (uses : SlotStates) (m : Machine) (d : Device) (a : StateRelation uses 
               });
           client_frames_are_same = a.client_frames_are_same;
           sectors_are_same_if_disks_tell = λ t. changed_at d.port port _ (λ k p. SameSectors m' p.disk k) (sectors_on m m' (d.port port).disk port (λ k b lb. refl) (a.sectors_are_same_if_disks_tell t port)) (λ k _. sectors_on m m' (d.port k).disk k (λ s b lb. refl) (a.sectors_are_same_if_disks_tell t k));
-          holds_replug_candidates_if_disks_tell = λ t. changed_at d.port port _ (λ k p. HoldsReplugCandidates m' (d.tape ++ entry.Unplug (port_at port) ∷ []) p k)
-              (lasting_on m m' d.tape _ (d.port port) (d.port port) port refl refl (λ _ _ h. h) (gains_quiet d.tape _ m' port (λ _ _. refl)) (a.holds_replug_candidates_if_disks_tell t port))
-              (λ k _. lasting_on m m' d.tape _ (d.port k) (d.port k) k refl refl (λ _ _ h. h) (gains_quiet d.tape _ m' k (λ _ _. refl)) (a.holds_replug_candidates_if_disks_tell t k));
+          knows_replug_candidates_if_disks_tell = λ t. changed_at d.port port _ (λ k p. KnowsAllReplugCandidates m' (d.tape ++ entry.Unplug (port_at port) ∷ []) p k)
+              (lasting_on m m' d.tape _ (d.port port) (d.port port) port refl refl (λ _ _ h. h) (gains_quiet d.tape _ m' port (λ _ _. refl)) (a.knows_replug_candidates_if_disks_tell t port))
+              (λ k _. lasting_on m m' d.tape _ (d.port k) (d.port k) k refl refl (λ _ _ h. h) (gains_quiet d.tape _ m' k (λ _ _. refl)) (a.knows_replug_candidates_if_disks_tell t k));
         };
       }
 
@@ -329,35 +329,35 @@ module _ (uses : SlotStates) (m : Machine) (d : Device) (a : StateRelation uses 
   content_of (Some told) k b = slice_index (told k) b
   content_of None k b = 0
 
-  pub plug_follows : (port : ℕ) (disk : device.Disk) → (d.port port).present ≡ false → (d.telling ≡ true → HasKnownSectors disk) → (disk.name ≡ (d.port port).disk.name → IsReplugOf d port disk) → SimulatesSteps uses m d (device_after (Plug port disk) d)
+  pub plug_follows : (port : ℕ) (disk : device.Disk) → (d.port port).present ≡ false → (d.disks_tell_sectors ≡ true → HasKnownSectors disk) → (disk.name ≡ (d.port port).disk.name → IsReplugOf d port disk) → SimulatesSteps uses m d (device_after (Plug port disk) d)
   unfolding content_of
   plug_follows port disk gone tells known =
       let content : DiskBytes = content_of disk.sectors in
       let m' : Machine = after_step m (machine.PlugDisk (port_at port) disk.name disk.sector_count content) in
-      let come_in : (d.telling ≡ true → SameSectors m' disk port) = (λ t. record {
+      let come_in : (d.disks_tell_sectors ≡ true → SameSectors m' disk port) = (λ t. record {
         told_sectors = (tells t).0;
         disk_tells = (tells t).1;
         bytes_are_same = λ k b kl bl.
             ap (λ (o : Option (ℕ → List ℕ)). content_of o k b) (sym (tells t).1)
             ∙ ap (λ (f : DiskBytes). f k b) (sym (cond-true (port == port) content (m.disk_bytes (port_at port)) (eq-eqb port port refl)));
       }) in
-      let comes_back : (d.telling ≡ true → IsReplugOf d port disk → (k : ℕ) → k < disk.sector_count → HoldsOrHeldSinceFlush m (port_at port) k (content k)) = (λ t that k inside.
+      let comes_back : (d.disks_tell_sectors ≡ true → IsReplugOf d port disk → (k : ℕ) → k < disk.sector_count → HoldsOrHeldSinceFlush m (port_at port) k (content k)) = (λ t that k inside.
       let s = a.sectors_are_same_if_disks_tell t port in
       let told = tells t in
       subst (λ (o : Option (ℕ → List ℕ)). HoldsOrHeldSinceFlush m (port_at port) k (content_of o k)) (sym told.1)
       (⊎_elim
       (λ (now : told.0 k ≡ s.told_sectors k). inl (λ b lb. ap (λ (l : List ℕ). slice_index l b) now ∙ s.bytes_are_same k b (subst (λ (n : ℕ). k < n) that.size inside) lb))
-      (λ (was : WereHeldSinceFlush d.tape (d.port port).lasting port k (told.0 k)). a.holds_replug_candidates_if_disks_tell t port k (subst (λ (n : ℕ). k < n) that.size inside) (told.0 k) was)
+      (λ (was : WereHeldSinceFlush d.tape (d.port port).lasting port k (told.0 k)). a.knows_replug_candidates_if_disks_tell t port k (subst (λ (n : ℕ). k < n) that.size inside) (told.0 k) was)
       (that.holds s.told_sectors told.0 s.disk_tells told.1 k inside))) in
       record {
         steps = machine.PlugDisk (port_at port) disk.name disk.sector_count content ∷ [];
         steps_are_enabled = (tt, ((a.disks_are_same port).present ∙ gone, λ same. (known (same ∙ (a.disks_are_same port).id)).size ∙ sym (a.disks_are_same port).sector_count));
-        telling_is_same = refl;
+        disks_tell_sectors_is_same = refl;
         steps_are_faithful = λ t. (tt, λ same. comes_back t (known (same ∙ (a.disks_are_same port).id)));
         new_entries = _;
         tape_is = refl;
         tape_tells_steps = (machine.PlugDisk (port_at port) disk.name disk.sector_count content ∷ [], [], (disk.sector_count, content, refl), refl, refl);
-        plugged_disks_match_steps = changed_at d.port port _ (λ q p. (disks : List device.Disk) × (p.plug_history ≡ (d.port q).plug_history ++ disks) × PutsInDisks q disks (machine.PlugDisk (port_at port) disk.name disk.sector_count content ∷ []))
+        plugged_disks_match_steps = changed_at d.port port _ (λ q p. (disks : List device.Disk) × (p.plug_history ≡ (d.port q).plug_history ++ disks) × PortPlugsPutInDisks q disks (machine.PlugDisk (port_at port) disk.name disk.sector_count content ∷ []))
             (disk ∷ [], refl, inr (refl, ([], disk, refl, record { name_is = refl; size_is = refl; bytes_are_same = λ told is k b kl bl. ap (λ (o : Option (ℕ → List ℕ)). content_of o k b) (sym is) }, refl)))
             (λ q ne. ([], sym (append-nil (d.port q).plug_history), inl (λ e. ne (sym e), refl)));
         state_relation = record {
@@ -378,8 +378,8 @@ module _ (uses : SlotStates) (m : Machine) (d : Device) (a : StateRelation uses 
           client_frames_are_same = a.client_frames_are_same;
           sectors_are_same_if_disks_tell = λ t. changed_at d.port port _ (λ k p. SameSectors m' p.disk k) (come_in t)
               (λ k ne. sectors_on m m' (d.port k).disk k (λ s b lb. ap (λ (f : DiskBytes). f s b) (cond-false (k == port) content (m.disk_bytes (port_at k)) (ne_eqb k port ne))) (a.sectors_are_same_if_disks_tell t k));
-          holds_replug_candidates_if_disks_tell = λ t. changed_at d.port port _ (λ k p. HoldsReplugCandidates m' (d.tape ++ entry.Plug (port_at port) disk.name ∷ []) p k)
-              (lasting_put_in m port disk content d.tape _ (λ _ _. refl) (d.port port) (record (d.port port) { disk = disk; lasting = lasting_after_plug_or_replug (d.port port).lasting (d.port port).disk disk (length d.tape) }) (a.disks_are_same port).id refl refl (λ same. (known same).size) (come_in t) (a.holds_replug_candidates_if_disks_tell t port))
-              (λ k ne. lasting_put_elsewhere m port disk content d.tape _ (λ _ _. refl) (d.port k) k ne (a.holds_replug_candidates_if_disks_tell t k));
+          knows_replug_candidates_if_disks_tell = λ t. changed_at d.port port _ (λ k p. KnowsAllReplugCandidates m' (d.tape ++ entry.Plug (port_at port) disk.name ∷ []) p k)
+              (lasting_put_in m port disk content d.tape _ (λ _ _. refl) (d.port port) (record (d.port port) { disk = disk; lasting = lasting_after_plug_or_replug (d.port port).lasting (d.port port).disk disk (length d.tape) }) (a.disks_are_same port).id refl refl (λ same. (known same).size) (come_in t) (a.knows_replug_candidates_if_disks_tell t port))
+              (λ k ne. lasting_put_elsewhere m port disk content d.tape _ (λ _ _. refl) (d.port k) k ne (a.knows_replug_candidates_if_disks_tell t k));
         };
       }

@@ -7,7 +7,7 @@ use Rattle.block_machine.specs.Events.{AllEnabled}
 use Rattle.block_machine.specs.Expected.{after, IsInitial}
 use Rattle.block_machine.specs.Histories.{IsReachable}
 use Rattle.block_machine.proofs.Configured.{owners_stay}
-use Rattle.block_machine.proofs.Limits.{law_request_limits_hold_and_frames_are_lent}
+use Rattle.block_machine.proofs.Limits.{law_book_limits_hold_and_frames_are_lent}
 use Rattle.block_machine.proofs.Trace.{runs_lives}
 
 -- the frames of what may move are clients'
@@ -16,7 +16,7 @@ AreClients m = (e : Pending) → IsIssuedOrKept m e → (i : ℕ) → i < length
 
 clients_at : (start : Machine) (past : List Step) → IsInitial start → AllEnabled start past → AreClients (after start past)
 clients_at start past s enabled e r i lt =
-    let owner = (law_request_limits_hold_and_frames_are_lent start past s enabled).frames_are_owned e (runs_lives (after start past) e r) i lt in
+    let owner = (law_book_limits_hold_and_frames_are_lent start past s enabled).frames_are_owned e (runs_lives (after start past) e r) i lt in
     (s.owned_frames_are_clients (nth_frame e.request.asked.frames.items i) e.request.asked.client (sym (owners_stay start past (nth_frame e.request.asked.frames.items i)) ∙ owner)).2
 
 pub client_frame : (m : Machine) → IsReachable m → AreClients m

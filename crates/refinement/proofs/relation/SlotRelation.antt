@@ -20,7 +20,7 @@ use Rattle.block_machine.specs.State.{Accepted, Pending, Machine}
 use Rattle.block_machine.specs.Steps.{IsIssuedOrKept}
 use Rattle.refinement.specs.MemoryLayout.{command_list_address, scratch_frame_address, IsTableOrHeaderByteButPrdbc, IsScratchByte}
 use Rattle.adapter.specs.OneCommand.{SlotHasNoCommand}
-use Rattle.refinement.specs.Slots.{SlotState, Free, Own, Serves, SlotStates, SlotDecodesTo, HasListInPlace, MeansRange, HasBlockIfTrim, AwaitsFetch, TouchedAsMoved, IsTakenFor, IsInSomeStage, IsMove, PageCameSinceAndStandsInScratch, OwnAwaitsFetch, OwnIsTaken, OwnIsOverWithPageIfSt, RelatesSlot, Armed}
+use Rattle.refinement.specs.Slots.{SlotState, Free, Own, Serves, SlotStates, SlotDecodesTo, HasListInPlace, MeansRange, HasBlockIfTrim, AwaitsFetch, TouchedAsMovedOrCleared, IsTakenFor, IsInSomeStage, IsMove, PageCameSinceAndStandsInScratch, OwnAwaitsFetch, OwnIsTaken, OwnIsOverWithPageIfSt, RelatesSlot, Armed}
 use Rattle.refinement.specs.Relation.{StateRelation}
 
 -- a port as one slot sees it
@@ -74,7 +74,7 @@ block_on Read memory new port r same h = tt
 block_on Write memory new port r same h = tt
 block_on Flush memory new port r same h = tt
 
-progress_on : (op : Op) (memory new : ℕ → ℕ) (port : ℕ) (e : Pending) (t : FetchedCommand) → (op ≡ Trim → SameScratch memory new port) → TouchedAsMoved op memory port e t → TouchedAsMoved op new port e t
+progress_on : (op : Op) (memory new : ℕ → ℕ) (port : ℕ) (e : Pending) (t : FetchedCommand) → (op ≡ Trim → SameScratch memory new port) → TouchedAsMovedOrCleared op memory port e t → TouchedAsMovedOrCleared op new port e t
 progress_on Trim memory new port e t same h = (
   h.0,
   ⊎_elim

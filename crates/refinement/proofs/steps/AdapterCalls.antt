@@ -22,10 +22,10 @@ use Rattle.refinement.proofs.relation.WrittenBytes.{stored_fixed, stored_low}
 use Rattle.refinement.proofs.steps.FollowedSteps.{steps_follow}
 
 -- an effect that writes no tape and puts no disk in
-pub effect_on : (uses others : SlotStates) (m : Machine) (old mid new : Device) → (f : SimulatesSteps uses m old mid) → new.telling ≡ mid.telling → new.tape ≡ mid.tape → ((q : ℕ) → (new.port q).plug_history ≡ (mid.port q).plug_history) →
+pub effect_on : (uses others : SlotStates) (m : Machine) (old mid new : Device) → (f : SimulatesSteps uses m old mid) → new.disks_tell_sectors ≡ mid.disks_tell_sectors → new.tape ≡ mid.tape → ((q : ℕ) → (new.port q).plug_history ≡ (mid.port q).plug_history) →
     StateRelation others (left.after m f.steps) new → SimulatesSteps others m old new
-effect_on uses others m old mid new f telling tape plugged agrees = record {
-  telling_is_same = telling ∙ f.telling_is_same;
+effect_on uses others m old mid new f disks_tell_sectors tape plugged agrees = record {
+  disks_tell_sectors_is_same = disks_tell_sectors ∙ f.disks_tell_sectors_is_same;
   steps = f.steps;
   steps_are_enabled = f.steps_are_enabled;
   steps_are_faithful = f.steps_are_faithful;
@@ -65,7 +65,7 @@ noted_agrees uses m Vs v d a = a
 noted_agrees uses m Cap2 v d a = a
 noted_agrees uses m Bohc v d a = a
 
-pub noted_telling : (r : Reg) (v : ℕ) (d : Device) → (device_after_reading r v d).telling ≡ d.telling
+pub noted_telling : (r : Reg) (v : ℕ) (d : Device) → (device_after_reading r v d).disks_tell_sectors ≡ d.disks_tell_sectors
 noted_telling (Px port r) v d = refl
 noted_telling Cap v d = refl
 noted_telling Ghc v d = refl
@@ -113,7 +113,7 @@ stored_agrees uses m d at bytes a may = record {
   disks_are_same = a.disks_are_same;
   client_frames_are_same = memory_low m d.memory at bytes (stored_low uses at (length bytes) may) a.client_frames_are_same;
   sectors_are_same_if_disks_tell = a.sectors_are_same_if_disks_tell;
-  holds_replug_candidates_if_disks_tell = a.holds_replug_candidates_if_disks_tell;
+  knows_replug_candidates_if_disks_tell = a.knows_replug_candidates_if_disks_tell;
 }
 
 pub store_follows : (uses : SlotStates) (m : Machine) (at : ℕ) (bytes : List ℕ) (old new : Device) → IsReachable m → StateRelation uses m old → IsInMemoryOfFreeSlot uses at (length bytes) → Stores at bytes old new → SimulatesSteps uses m old new

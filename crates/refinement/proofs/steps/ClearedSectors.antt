@@ -22,9 +22,9 @@ use Rattle.block_machine.specs.Expected as left
 use Rattle.block_machine.specs.Expected.{AllStepsFaithful}
 use Rattle.block_machine.specs.Events.{AllEnabled}
 use Rattle.refinement.specs.MemoryLayout.{scratch_frame_address}
-use Rattle.refinement.specs.Slots.{SlotState, Free, Own, Serves, SlotStates, MeansRequest, MeansRange, AreRequestPlaces, TouchedUpTo, TouchedAsMoved, ServesRequest, OwnAwaitsFetch, OwnIsTaken, OwnIsOverWithPageIfSt, RelatesSlot, client_operation_of, Armed}
+use Rattle.refinement.specs.Slots.{SlotState, Free, Own, Serves, SlotStates, MeansRequest, MeansRange, AreRequestPlaces, TouchedUpTo, TouchedAsMovedOrCleared, ServesRequest, OwnAwaitsFetch, OwnIsTaken, OwnIsOverWithPageIfSt, RelatesSlot, client_operation_of, Armed}
 use Rattle.refinement.specs.Relation.{StateRelation, port_at, SameSectors}
-use Rattle.refinement.specs.Tape.{PutsInDisks, with_sectors_touched, touch_steps}
+use Rattle.refinement.specs.Tape.{PortPlugsPutInDisks, with_sectors_touched, touch_steps}
 use Rattle.refinement.specs.Simulation.{SimulatesSteps}
 use Rattle.refinement.proofs.relation.SlotRelation.{NoPort, placed_on}
 use Rattle.refinement.proofs.relation.TouchesAndEnds.{Goes, Goes-refl, Goes-trans, touch_goes, touch_moves}
@@ -102,7 +102,7 @@ touched_upto e from (suc n) h =
     (upto_more (with_sectors_touched e from n).touched (from + n) (touched_upto e from n h))
 
 -- touches put no disk in
-touches_put : (e : Pending) (from n q : ℕ) → PutsInDisks q [] (touch_steps e from n)
+touches_put : (e : Pending) (from n q : ℕ) → PortPlugsPutInDisks q [] (touch_steps e from n)
 touches_put e from zero q = refl
 touches_put e from (suc n) q = touches_put e from n q
 
@@ -199,8 +199,8 @@ module _ (uses : SlotStates) (m : Machine) (d : Device) (a : StateRelation uses 
     here_port : h.pending.request.port ≡ port_at port
     here_port = ap port_at h.port_is
 
-    was : TouchedAsMoved Trim d.memory port h.pending t
-    was = subst (λ (o : Op). TouchedAsMoved o d.memory port h.pending t) op x.progress
+    was : TouchedAsMovedOrCleared Trim d.memory port h.pending t
+    was = subst (λ (o : Op). TouchedAsMovedOrCleared o d.memory port h.pending t) op x.progress
 
     one_place : length t.places ≡ 1
     one_place = ap length (subst (λ (o : Op). AreRequestPlaces o port h.pending.request t.places) op means.places_are)
@@ -264,7 +264,7 @@ module _ (uses : SlotStates) (m : Machine) (d : Device) (a : StateRelation uses 
     clear_serves = record {
       steps = touch_steps h.pending t.cleared count;
       steps_are_enabled = done.may;
-      telling_is_same = refl;
+      disks_tell_sectors_is_same = refl;
       steps_are_faithful = λ _. done.told;
       new_entries = _;
       tape_is = refl;
@@ -302,7 +302,7 @@ module _ (uses : SlotStates) (m : Machine) (d : Device) (a : StateRelation uses 
                 running = x.running;
                 ci_is_set_iff_st_and_plain = x.issued;
                 sact = x.sact;
-                progress = subst (λ (o : Op). TouchedAsMoved o d.memory port (with_sectors_touched h.pending t.cleared count) (record t { cleared = t.cleared + count })) (sym (ap (λ (j : Accepted). j.asked.op) (touched_request h.pending t.cleared count) ∙ op))
+                progress = subst (λ (o : Op). TouchedAsMovedOrCleared o d.memory port (with_sectors_touched h.pending t.cleared count) (record t { cleared = t.cleared + count })) (sym (ap (λ (j : Accepted). j.asked.op) (touched_request h.pending t.cleared count) ∙ op))
                     (touched_upto h.pending t.cleared count was.0, inr ((let mv : t.moved ≡ length t.places = can.block_is_moved in let r : t.moved ≡ 1 = omega (arith, mv, one_place) in r), subst (λ (j : Accepted). MeansRange t.block j) (sym (touched_request h.pending t.cleared count)) range));
                 unended = touched_ended h.pending t.cleared count ∙ x.unended;
               }));
@@ -314,8 +314,8 @@ module _ (uses : SlotStates) (m : Machine) (d : Device) (a : StateRelation uses 
         size = refl;
         sectors = λ t'. cleared (a.sectors_are_same_if_disks_tell t' port);
         other_sectors = λ t' q ne. sectors_on m swept_machine (d.port q).disk q (λ k b lb. done.others (port_at q) k b (λ e _ _. ne (e ∙ h.port_is))) (a.sectors_are_same_if_disks_tell t' q);
-        lasting = λ t'. lasting_on m swept_machine d.tape _ (d.port port) (d.port port) port refl refl (lasting_swept m h.pending t.cleared count port) (gains_clear d.tape swept_machine port slot first count port zeroed) (a.holds_replug_candidates_if_disks_tell t' port);
-        other_lasting = λ t' q ne. lasting_on m swept_machine d.tape _ (d.port q) (d.port q) q refl refl (lasting_swept m h.pending t.cleared count q) (gains_clear d.tape swept_machine port slot first count q zeroed) (a.holds_replug_candidates_if_disks_tell t' q);
+        lasting = λ t'. lasting_on m swept_machine d.tape _ (d.port port) (d.port port) port refl refl (lasting_swept m h.pending t.cleared count port) (gains_clear d.tape swept_machine port slot first count port zeroed) (a.knows_replug_candidates_if_disks_tell t' port);
+        other_lasting = λ t' q ne. lasting_on m swept_machine d.tape _ (d.port q) (d.port q) q refl refl (lasting_swept m h.pending t.cleared count q) (gains_clear d.tape swept_machine port slot first count q zeroed) (a.knows_replug_candidates_if_disks_tell t' q);
         memory = λ f b from small. a.client_frames_are_same f b from small ∙ ap (λ (g : Memory). g f b) (sym done.memory);
       });
     }

@@ -19,7 +19,7 @@ use Rattle.block_machine.specs.Events.{IsByDevice, changes_disk}
 use Rattle.block_machine.proofs.Members.{contains_none, contains_here, contains_there, contains_cases}
 use Rattle.refinement.specs.PreservedParts.{IsPlugEvent}
 use Rattle.refinement.specs.Slots.{client_operation_of}
-use Rattle.refinement.specs.Tape.{TellsMove, TellsDone, TellsEntry, TellsDeviceSteps, NoneByDevice, touch_steps}
+use Rattle.refinement.specs.Tape.{TellsTouchOrIsScratchMove, TellsDone, TellsEntry, TellsDeviceSteps, NoneByDevice, touch_steps}
 
 module _ (port : Port) where
   abbrev Changes : List Step → Bool
@@ -50,7 +50,7 @@ module _ (port : Port) where
   none_of : (all steps : List Step) → steps ≡ all → Changes all ≡ false → Changes steps ≡ false
   none_of all steps e none = ap Changes e ∙ none
 
-  move_none : (o : Option Op) (m : Machine) (move : tape_move.Move) (steps : List Step) → TellsMove o m move steps → Changes steps ≡ false
+  move_none : (o : Option Op) (m : Machine) (move : tape_move.Move) (steps : List Step) → TellsTouchOrIsScratchMove o m move steps → Changes steps ≡ false
   move_none None m move steps t = none_of _ steps t.1 refl
   move_none (Some Read) m move steps t = none_of _ steps t.step_is refl
   move_none (Some Write) m move steps t = none_of _ steps t.step_is refl

@@ -18,7 +18,7 @@ use Rattle.block_machine.specs.Steps as machine
 use Rattle.block_machine.specs.Steps.{AllTouched, after_step, mark_ended}
 use Rattle.block_machine.proofs.Standing.{standing}
 use Rattle.refinement.specs.MemoryLayout.{scratch_frame_address}
-use Rattle.refinement.specs.Slots.{SlotState, Free, Own, Serves, SlotStates, MeansRequest, MeansRange, AreRequestPlaces, TouchedUpTo, TouchedAsMoved, ServesRequest, PageCameSinceAndStandsInScratch, OwnAwaitsFetch, OwnIsTaken, OwnIsOverWithPageIfSt, ServesOwn, RelatesSlot, client_operation_of, Armed}
+use Rattle.refinement.specs.Slots.{SlotState, Free, Own, Serves, SlotStates, MeansRequest, MeansRange, AreRequestPlaces, TouchedUpTo, TouchedAsMovedOrCleared, ServesRequest, PageCameSinceAndStandsInScratch, OwnAwaitsFetch, OwnIsTaken, OwnIsOverWithPageIfSt, ServesOwn, RelatesSlot, client_operation_of, Armed}
 use Rattle.refinement.specs.Relation.{StateRelation, port_at}
 use Rattle.refinement.specs.Tape.{TellsDone}
 use Rattle.refinement.specs.Simulation.{SimulatesSteps}
@@ -74,7 +74,7 @@ upto_all f n count h e i lt = h i ∙ lt-ltb i n (omega (arith, e, lt))
 
 -- all sectors of a finished command were touched
 all_touched : (op : Op) (memory : ℕ → ℕ) (port : ℕ) (e : Pending) (t : FetchedCommand) → IsFinished t → client_operation_of t.meaning.operation ≡ Some op → AreRequestPlaces op port e.request t.places →
-    (op ≡ Flush → e.request.asked.count ≡ 0) → TouchedAsMoved op memory port e t → AllTouched e
+    (op ≡ Flush → e.request.asked.count ≡ 0) → TouchedAsMovedOrCleared op memory port e t → AllTouched e
 all_touched Read memory port e t fin is places flush p = upto_all e.touched t.moved e.request.asked.count p (fin.all_is_moved ∙ places.0)
 all_touched Write memory port e t fin is places flush p = upto_all e.touched t.moved e.request.asked.count p (fin.all_is_moved ∙ places.0)
 all_touched Flush memory port e t fin is places flush p = λ i lt. absurd (let z : e.request.asked.count ≡ 0 = flush refl in omega (arith, z, lt))
@@ -105,7 +105,7 @@ module _ (uses : SlotStates) (m : Machine) (d : Device) (a : StateRelation uses 
   end_serves id u h x = record {
     steps = machine.End h.pending ∷ [];
     steps_are_enabled = (tt, (h.may_still_move, touched, ap m.present here_port ∙ (a.disks_are_same port).present ∙ can.works.working.present));
-    telling_is_same = refl;
+    disks_tell_sectors_is_same = refl;
     steps_are_faithful = λ _. (tt, tt);
     new_entries = _;
     tape_is = refl;
@@ -151,8 +151,8 @@ module _ (uses : SlotStates) (m : Machine) (d : Device) (a : StateRelation uses 
       size = refl;
       sectors = λ t'. sectors_on m (after_step m (machine.End h.pending)) (d.port port).disk port (λ k b lb. refl) (a.sectors_are_same_if_disks_tell t' port);
       other_sectors = λ t' q ne. sectors_on m (after_step m (machine.End h.pending)) (d.port q).disk q (λ k b lb. refl) (a.sectors_are_same_if_disks_tell t' q);
-      lasting = λ t'. lasting_ended m h.pending d.tape (done_entry port slot t.meaning.operation) (λ _ _. refl) (port_after_done_except_lasting (d.port port) slot flag t.meaning.operation) port t.meaning.operation means.op_is (a.sectors_are_same_if_disks_tell t' port) (a.holds_replug_candidates_if_disks_tell t' port);
-      other_lasting = λ t' q ne. lasting_ended_elsewhere m h.pending d.tape (done_entry port slot t.meaning.operation) (λ _ _. refl) (d.port q) port q h.port_is ne (a.holds_replug_candidates_if_disks_tell t' q);
+      lasting = λ t'. lasting_ended m h.pending d.tape (done_entry port slot t.meaning.operation) (λ _ _. refl) (port_after_done_except_lasting (d.port port) slot flag t.meaning.operation) port t.meaning.operation means.op_is (a.sectors_are_same_if_disks_tell t' port) (a.knows_replug_candidates_if_disks_tell t' port);
+      other_lasting = λ t' q ne. lasting_ended_elsewhere m h.pending d.tape (done_entry port slot t.meaning.operation) (λ _ _. refl) (d.port q) port q h.port_is ne (a.knows_replug_candidates_if_disks_tell t' q);
       memory = a.client_frames_are_same;
     });
   }
@@ -170,7 +170,7 @@ module _ (uses : SlotStates) (m : Machine) (d : Device) (a : StateRelation uses 
   end_own o u h x is = record {
     steps = [];
     steps_are_enabled = tt;
-    telling_is_same = refl;
+    disks_tell_sectors_is_same = refl;
     steps_are_faithful = λ _. tt;
     new_entries = _;
     tape_is = refl;
@@ -205,8 +205,8 @@ module _ (uses : SlotStates) (m : Machine) (d : Device) (a : StateRelation uses 
       size = refl;
       sectors = λ t'. a.sectors_are_same_if_disks_tell t' port;
       other_sectors = λ t' q ne. a.sectors_are_same_if_disks_tell t' q;
-      lasting = λ t'. lasting_read m d.tape (done_entry port slot t.meaning.operation) (port_after_done_except_lasting (d.port port) slot flag t.meaning.operation) port t.meaning.operation (λ _ _. refl) own (a.holds_replug_candidates_if_disks_tell t' port);
-      other_lasting = λ t' q ne. lasting_on m m d.tape _ (d.port q) (d.port q) q refl refl (λ _ _ held. held) (gains_quiet d.tape (done_entry port slot t.meaning.operation) m q (λ _ _. refl)) (a.holds_replug_candidates_if_disks_tell t' q);
+      lasting = λ t'. lasting_read m d.tape (done_entry port slot t.meaning.operation) (port_after_done_except_lasting (d.port port) slot flag t.meaning.operation) port t.meaning.operation (λ _ _. refl) own (a.knows_replug_candidates_if_disks_tell t' port);
+      other_lasting = λ t' q ne. lasting_on m m d.tape _ (d.port q) (d.port q) q refl refl (λ _ _ held. held) (gains_quiet d.tape (done_entry port slot t.meaning.operation) m q (λ _ _. refl)) (a.knows_replug_candidates_if_disks_tell t' q);
       memory = a.client_frames_are_same;
     });
   }

@@ -17,7 +17,7 @@ use Rattle.block_machine.proofs.EventLemmas.{enabled_histories_join}
 use Rattle.block_machine.proofs.HistoryLemmas.{reached_more}
 use Rattle.refinement.specs.Slots.{SlotStates}
 use Rattle.refinement.specs.Relation.{StateRelation}
-use Rattle.refinement.specs.Tape.{TapeTells, PutsInDisks, IsPutIn}
+use Rattle.refinement.specs.Tape.{TapeTells, PortPlugsPutInDisks, IsPutIn}
 use Rattle.refinement.specs.Simulation.{SimulatesSteps}
 use Rattle.refinement.proofs.relation.OtherSlots.{fault_follows, fatal_follows, fr_fall_follows, link_up_follows, scribble_follows, fall_follows, reset_follows, unplug_follows, plug_follows}
 use Rattle.refinement.proofs.steps.TakenCommand.{never_refused, fetch_follows}
@@ -64,11 +64,11 @@ told_append m [] early a b = a
 told_append m (step ∷ late) early a b = (told_append m late early a b.0, subst (λ (x : Machine). StepIsFaithful x step) (sym (after-append m late early)) b.1)
 
 -- the disks of the earlier steps come first
-pub puts_append : (q : ℕ) (first then : List device.Disk) (early late : List machine.Step) → PutsInDisks q first early → PutsInDisks q then late → PutsInDisks q (first ++ then) (late ++ early)
-puts_append q first then early [] a b = subst (λ (disks : List device.Disk). PutsInDisks q disks early) (sym (ap (λ (x : List device.Disk). first ++ x) b ∙ append-nil first)) a
+pub puts_append : (q : ℕ) (first then : List device.Disk) (early late : List machine.Step) → PortPlugsPutInDisks q first early → PortPlugsPutInDisks q then late → PortPlugsPutInDisks q (first ++ then) (late ++ early)
+puts_append q first then early [] a b = subst (λ (disks : List device.Disk). PortPlugsPutInDisks q disks early) (sym (ap (λ (x : List device.Disk). first ++ x) b ∙ append-nil first)) a
 puts_append q first then early (machine.PlugDisk p name size content ∷ late) a b = ⊎_elim
-    (λ (x : (p.0 ≢ q) × PutsInDisks q then late). inl (x.0, puts_append q first then early late a x.1))
-    (λ (x : (p.0 ≡ q) × ((earlier : List device.Disk) × (disk : device.Disk) × (then ≡ earlier ++ disk ∷ []) × IsPutIn disk name size content × PutsInDisks q earlier late)).
+    (λ (x : (p.0 ≢ q) × PortPlugsPutInDisks q then late). inl (x.0, puts_append q first then early late a x.1))
+    (λ (x : (p.0 ≡ q) × ((earlier : List device.Disk) × (disk : device.Disk) × (then ≡ earlier ++ disk ∷ []) × IsPutIn disk name size content × PortPlugsPutInDisks q earlier late)).
     inr (x.0, (first ++ x.1.0, x.1.1, ap (λ (l : List device.Disk). first ++ l) x.1.2 ∙ sym (append_assoc first x.1.0 (x.1.1 ∷ [])), x.1.3, puts_append q first x.1.0 early late a x.1.4)))
     b
 puts_append q first then early (machine.Accept r ∷ late) a b = puts_append q first then early late a b
@@ -88,7 +88,7 @@ pub Follows-refl : (uses : SlotStates) (m : Machine) (d : Device) → StateRelat
 Follows-refl uses m d a = record {
   steps = [];
   steps_are_enabled = tt;
-  telling_is_same = refl;
+  disks_tell_sectors_is_same = refl;
   steps_are_faithful = λ _. tt;
   new_entries = [];
   tape_is = sym (append-nil d.tape);
@@ -99,10 +99,10 @@ Follows-refl uses m d a = record {
 
 pub Follows-trans : (uses : SlotStates) (m : Machine) (old mid new : Device) → (a : SimulatesSteps uses m old mid) → SimulatesSteps uses (left.after m a.steps) mid new → SimulatesSteps uses m old new
 Follows-trans uses m old mid new a b = record {
-  telling_is_same = b.telling_is_same ∙ a.telling_is_same;
+  disks_tell_sectors_is_same = b.disks_tell_sectors_is_same ∙ a.disks_tell_sectors_is_same;
   steps = b.steps ++ a.steps;
   steps_are_enabled = enabled_histories_join m b.steps a.steps a.steps_are_enabled b.steps_are_enabled;
-  steps_are_faithful = λ t. told_append m b.steps a.steps (a.steps_are_faithful t) (b.steps_are_faithful (a.telling_is_same ∙ t));
+  steps_are_faithful = λ t. told_append m b.steps a.steps (a.steps_are_faithful t) (b.steps_are_faithful (a.disks_tell_sectors_is_same ∙ t));
   new_entries = a.new_entries ++ b.new_entries;
   tape_is = b.tape_is ∙ (ap (λ t. t ++ b.new_entries) a.tape_is ∙ append_assoc old.tape a.new_entries b.new_entries);
   tape_tells_steps = tells_append m a.new_entries b.new_entries a.steps b.steps a.tape_tells_steps b.tape_tells_steps;

@@ -25,9 +25,9 @@ use Rattle.block_machine.specs.Steps as machine
 use Rattle.block_machine.specs.Steps.{Touch, after_step, touch, put_sector, put_bytes}
 use Rattle.block_machine.proofs.Standing.{Standing, standing}
 use Rattle.refinement.specs.MemoryLayout.{scratch_frame_address, sector_address}
-use Rattle.refinement.specs.Slots.{SlotState, Free, Own, Serves, SlotStates, MeansRequest, MeansRange, AreRequestPlaces, TouchedUpTo, TouchedAsMoved, IsInSomeStage, ServesRequest, IsMove, ServesOwn, RelatesSlot, client_operation_of}
+use Rattle.refinement.specs.Slots.{SlotState, Free, Own, Serves, SlotStates, MeansRequest, MeansRange, AreRequestPlaces, TouchedUpTo, TouchedAsMovedOrCleared, IsInSomeStage, ServesRequest, IsMove, ServesOwn, RelatesSlot, client_operation_of}
 use Rattle.refinement.specs.Relation.{StateRelation, port_at, SameSectors}
-use Rattle.refinement.specs.Tape.{TellsMove, MovesSector}
+use Rattle.refinement.specs.Tape.{TellsTouchOrIsScratchMove, MovesSector}
 use Rattle.refinement.specs.Simulation.{SimulatesSteps}
 use Rattle.refinement.proofs.relation.SlotRelation.{SameSlot, SameFixed, SameTable, NoPort, told_on, placed_on}
 use Rattle.refinement.proofs.relation.TouchesAndEnds.{Goes, Goes-refl, touch_goes, touch_moves}
@@ -52,7 +52,7 @@ pub record TakenAs (memory : ℕ → ℕ) (p : DevicePort) (port slot : ℕ) (e 
   pub running : p.cr ≡ true
   pub issued : p.ci slot ≡ p.st && not (is_queued c.operation)
   pub sact : p.sact slot ≡ p.st && is_queued c.operation
-  pub progress : TouchedAsMoved e.request.asked.op memory port e t
+  pub progress : TouchedAsMovedOrCleared e.request.asked.op memory port e t
   pub unended : e.ended ≡ false
 
 pub taken_as : (memory : ℕ → ℕ) (p : DevicePort) (port slot : ℕ) (e : Pending) (c : Meaning) (places : List ℕ) (t : FetchedCommand) → p.taken slot ≡ Some t → IsInSomeStage memory p port slot e c places → TakenAs memory p port slot e c places t
@@ -112,7 +112,7 @@ module _ (uses : SlotStates) (m : Machine) (d : Device) (a : StateRelation uses 
 
     -- the slot after a sector of a read or write
     moved_slot : (m' : Machine) (memory' : ℕ → ℕ) (later : List Entry) (disk : Disk) (e' : Pending) (t' : FetchedCommand) → SameTable d.memory memory' port slot → machine.IsIssuedOrKept m' e' → e'.request ≡ h.pending.request → e'.ended ≡ h.pending.ended →
-        t'.meaning ≡ t.meaning → t'.places ≡ t.places → TouchedAsMoved e'.request.asked.op memory' port e' t' →
+        t'.meaning ≡ t.meaning → t'.places ≡ t.places → TouchedAsMovedOrCleared e'.request.asked.op memory' port e' t' →
         RelatesSlot m' memory' later (record (d.port port) { taken = changed (d.port port).taken slot (Some t'); disk = disk }) port slot (Serves id)
     moved_slot m' memory' later disk e' t' tables moves request ended meaning places progress = record {
       pending = e';
@@ -218,9 +218,9 @@ module _ (uses : SlotStates) (m : Machine) (d : Device) (a : StateRelation uses 
           (inr (inr (inr (let p = place Read reads tt refl sector inside in let c = client Read reads tt refl sector inside in omega (arith, p, c)))))
           (λ q w v out. gains_one d.tape (entry.Move (move_of port slot t bytes)) q w (clients_move uses m d a port slot t bytes Read o q w v))
 
-      progress : TouchedAsMoved h.pending.request.asked.op new_memory port (touch t.moved h.pending) (record t { moved = t.moved + 1 })
-      progress = subst (λ (w : Op). TouchedAsMoved w new_memory port (touch t.moved h.pending) (record t { moved = t.moved + 1 })) (sym reads)
-          (upto_more h.pending.touched t.moved (subst (λ (w : Op). TouchedAsMoved w d.memory port h.pending t) reads x.progress))
+      progress : TouchedAsMovedOrCleared h.pending.request.asked.op new_memory port (touch t.moved h.pending) (record t { moved = t.moved + 1 })
+      progress = subst (λ (w : Op). TouchedAsMovedOrCleared w new_memory port (touch t.moved h.pending) (record t { moved = t.moved + 1 })) (sym reads)
+          (upto_more h.pending.touched t.moved (subst (λ (w : Op). TouchedAsMovedOrCleared w d.memory port h.pending t) reads x.progress))
 
       pub read_follows : SimulatesSteps uses m d (record d {
         memory = patched d.memory (next_place t) bytes;
@@ -230,11 +230,11 @@ module _ (uses : SlotStates) (m : Machine) (d : Device) (a : StateRelation uses 
       read_follows = record {
         steps = Touch h.pending t.moved (slice_index bytes) ∷ [];
         steps_are_enabled = (tt, may Read reads tt refl sector inside (λ b w lb. read_is_no_write (sym reads ∙ w)));
-        telling_is_same = refl;
+        disks_tell_sectors_is_same = refl;
         steps_are_faithful = λ t'. (tt, λ _ b lb. told (a.sectors_are_same_if_disks_tell t' port) b lb);
         new_entries = _;
         tape_is = refl;
-        tape_tells_steps = (Touch h.pending t.moved (slice_index bytes) ∷ [], [], subst (λ (w : Option Op). TellsMove w m (move_of port slot t bytes) (Touch h.pending t.moved (slice_index bytes) ∷ [])) (sym o) (is_touch Read reads tt refl sector inside), refl, refl);
+        tape_tells_steps = (Touch h.pending t.moved (slice_index bytes) ∷ [], [], subst (λ (w : Option Op). TellsTouchOrIsScratchMove w m (move_of port slot t bytes) (Touch h.pending t.moved (slice_index bytes) ∷ [])) (sym o) (is_touch Read reads tt refl sector inside), refl, refl);
         plugged_disks_match_steps = plugged_kept d port _ (Touch h.pending t.moved (slice_index bytes) ∷ []) refl (λ _. refl);
         state_relation = acted NoPort uses m (after_step m (Touch h.pending t.moved (slice_index bytes))) d a new_memory later port slot _ (record {
           id = h.pending.request.id;
@@ -253,8 +253,8 @@ module _ (uses : SlotStates) (m : Machine) (d : Device) (a : StateRelation uses 
           size = refl;
           sectors = λ t'. sectors_on m (after_step m (Touch h.pending t.moved (slice_index bytes))) (d.port port).disk port (λ k b lb. disks_same (port_at port) k b) (a.sectors_are_same_if_disks_tell t' port);
           other_sectors = λ t' q ne. sectors_on m (after_step m (Touch h.pending t.moved (slice_index bytes))) (d.port q).disk q (λ k b lb. disks_same (port_at q) k b) (a.sectors_are_same_if_disks_tell t' q);
-          lasting = λ t'. lasting_on m (after_step m (Touch h.pending t.moved (slice_index bytes))) d.tape later (d.port port) (d.port port) port refl refl (lasting_touched m h.pending t.moved (slice_index bytes) port) (gains_quiet d.tape (entry.Move (move_of port slot t bytes)) (after_step m (Touch h.pending t.moved (slice_index bytes))) port (quiet_move port slot t bytes (no_write o))) (a.holds_replug_candidates_if_disks_tell t' port);
-          other_lasting = λ t' q ne. lasting_on m (after_step m (Touch h.pending t.moved (slice_index bytes))) d.tape later (d.port q) (d.port q) q refl refl (lasting_touched m h.pending t.moved (slice_index bytes) q) (gains_quiet d.tape (entry.Move (move_of port slot t bytes)) (after_step m (Touch h.pending t.moved (slice_index bytes))) q (quiet_move port slot t bytes (no_write o))) (a.holds_replug_candidates_if_disks_tell t' q);
+          lasting = λ t'. lasting_on m (after_step m (Touch h.pending t.moved (slice_index bytes))) d.tape later (d.port port) (d.port port) port refl refl (lasting_touched m h.pending t.moved (slice_index bytes) port) (gains_quiet d.tape (entry.Move (move_of port slot t bytes)) (after_step m (Touch h.pending t.moved (slice_index bytes))) port (quiet_move port slot t bytes (no_write o))) (a.knows_replug_candidates_if_disks_tell t' port);
+          other_lasting = λ t' q ne. lasting_on m (after_step m (Touch h.pending t.moved (slice_index bytes))) d.tape later (d.port q) (d.port q) q refl refl (lasting_touched m h.pending t.moved (slice_index bytes) q) (gains_quiet d.tape (entry.Move (move_of port slot t bytes)) (after_step m (Touch h.pending t.moved (slice_index bytes))) q (quiet_move port slot t bytes (no_write o))) (a.knows_replug_candidates_if_disks_tell t' q);
           memory = λ f b from small.
               memory_put m d.memory (next_place t) (nth_frame h.pending.request.asked.frames.items (t.moved / 8)) (512 * (t.moved % 8)) bytes
               (place Read reads tt refl sector inside) (omega (arith, size)) a.client_frames_are_same f b from small
@@ -294,9 +294,9 @@ module _ (uses : SlotStates) (m : Machine) (d : Device) (a : StateRelation uses 
       memory_kept : (after_step m (Touch h.pending t.moved (slice_index bytes))).memory ≡ m.memory
       memory_kept = cond-false (is_reader h.pending.request.asked.op) (put_bytes (nth_frame h.pending.request.asked.frames.items (t.moved / 8)) (512 * (t.moved % 8)) 512 (slice_index bytes) m.memory) m.memory (ap is_reader writes)
 
-      progressed : TouchedAsMoved h.pending.request.asked.op d.memory port (touch t.moved h.pending) (record t { moved = t.moved + 1 })
-      progressed = subst (λ (w : Op). TouchedAsMoved w d.memory port (touch t.moved h.pending) (record t { moved = t.moved + 1 })) (sym writes)
-          (upto_more h.pending.touched t.moved (subst (λ (w : Op). TouchedAsMoved w d.memory port h.pending t) writes x.progress))
+      progressed : TouchedAsMovedOrCleared h.pending.request.asked.op d.memory port (touch t.moved h.pending) (record t { moved = t.moved + 1 })
+      progressed = subst (λ (w : Op). TouchedAsMovedOrCleared w d.memory port (touch t.moved h.pending) (record t { moved = t.moved + 1 })) (sym writes)
+          (upto_more h.pending.touched t.moved (subst (λ (w : Op). TouchedAsMovedOrCleared w d.memory port h.pending t) writes x.progress))
 
       pub write_follows : SimulatesSteps uses m d (record d {
         port = changed d.port port (record (d.port port) { taken = changed (d.port port).taken slot (Some (record t { moved = t.moved + 1 })); disk = disk_with_sector (d.port port).disk (next_sector t) bytes });
@@ -305,11 +305,11 @@ module _ (uses : SlotStates) (m : Machine) (d : Device) (a : StateRelation uses 
       write_follows = record {
         steps = Touch h.pending t.moved (slice_index bytes) ∷ [];
         steps_are_enabled = (tt, may Write writes tt refl sector inside (λ b w lb. holds b lb));
-        telling_is_same = refl;
+        disks_tell_sectors_is_same = refl;
         steps_are_faithful = λ t'. (tt, λ reads. write_is_no_read (sym writes ∙ reads));
         new_entries = _;
         tape_is = refl;
-        tape_tells_steps = (Touch h.pending t.moved (slice_index bytes) ∷ [], [], subst (λ (w : Option Op). TellsMove w m (move_of port slot t bytes) (Touch h.pending t.moved (slice_index bytes) ∷ [])) (sym o) (is_touch Write writes tt refl sector inside), refl, refl);
+        tape_tells_steps = (Touch h.pending t.moved (slice_index bytes) ∷ [], [], subst (λ (w : Option Op). TellsTouchOrIsScratchMove w m (move_of port slot t bytes) (Touch h.pending t.moved (slice_index bytes) ∷ [])) (sym o) (is_touch Write writes tt refl sector inside), refl, refl);
         plugged_disks_match_steps = plugged_kept d port _ (Touch h.pending t.moved (slice_index bytes) ∷ []) refl (λ _. refl);
         state_relation = acted NoPort uses m (after_step m (Touch h.pending t.moved (slice_index bytes))) d a d.memory _ port slot _ (record {
           id = h.pending.request.id;
@@ -330,8 +330,8 @@ module _ (uses : SlotStates) (m : Machine) (d : Device) (a : StateRelation uses 
               (sector_written m (after_step m (Touch h.pending t.moved (slice_index bytes))) (d.port port).disk port (sector_of h.pending.request t.moved) bytes (h.pending.request.blocks_at_acceptance t.moved) (λ k b. now (port_at port) k b) holds (a.sectors_are_same_if_disks_tell t' port));
           other_sectors = λ t' q ne. sectors_on m (after_step m (Touch h.pending t.moved (slice_index bytes))) (d.port q).disk q
               (λ k b lb. now (port_at q) k b ∙ ap (λ (f : Block). f b) (put_elsewhere (port_at port) (sector_of h.pending.request t.moved) (h.pending.request.blocks_at_acceptance t.moved) m.disk_bytes (port_at q) k (λ z _. ne z))) (a.sectors_are_same_if_disks_tell t' q);
-          lasting = λ t'. lasting_on m (after_step m (Touch h.pending t.moved (slice_index bytes))) d.tape _ (d.port port) (d.port port) port refl refl (lasting_touched m h.pending t.moved (slice_index bytes) port) (gains_write d.tape (after_step m (Touch h.pending t.moved (slice_index bytes))) port slot t bytes port written) (a.holds_replug_candidates_if_disks_tell t' port);
-          other_lasting = λ t' q ne. lasting_on m (after_step m (Touch h.pending t.moved (slice_index bytes))) d.tape _ (d.port q) (d.port q) q refl refl (lasting_touched m h.pending t.moved (slice_index bytes) q) (gains_write d.tape (after_step m (Touch h.pending t.moved (slice_index bytes))) port slot t bytes q written) (a.holds_replug_candidates_if_disks_tell t' q);
+          lasting = λ t'. lasting_on m (after_step m (Touch h.pending t.moved (slice_index bytes))) d.tape _ (d.port port) (d.port port) port refl refl (lasting_touched m h.pending t.moved (slice_index bytes) port) (gains_write d.tape (after_step m (Touch h.pending t.moved (slice_index bytes))) port slot t bytes port written) (a.knows_replug_candidates_if_disks_tell t' port);
+          other_lasting = λ t' q ne. lasting_on m (after_step m (Touch h.pending t.moved (slice_index bytes))) d.tape _ (d.port q) (d.port q) q refl refl (lasting_touched m h.pending t.moved (slice_index bytes) q) (gains_write d.tape (after_step m (Touch h.pending t.moved (slice_index bytes))) port slot t bytes q written) (a.knows_replug_candidates_if_disks_tell t' q);
           memory = λ f b from small. a.client_frames_are_same f b from small ∙ ap (λ (g : state.Memory). g f b) (sym memory_kept);
         });
       }
@@ -356,8 +356,8 @@ module _ (uses : SlotStates) (m : Machine) (d : Device) (a : StateRelation uses 
           let one : t.moved ≡ 0 = let n : length t.places ≡ 1 = ap length is in omega (arith, left, n) in
           (is, one, ap (λ (k : ℕ). slice_index t.places k) one ∙ ap (λ (l : List ℕ). slice_index l 0) is)
 
-      was : TouchedAsMoved Trim d.memory port h.pending t
-      was = subst (λ (w : Op). TouchedAsMoved w d.memory port h.pending t) trims x.progress
+      was : TouchedAsMovedOrCleared Trim d.memory port h.pending t
+      was = subst (λ (w : Op). TouchedAsMovedOrCleared w d.memory port h.pending t) trims x.progress
 
       names : MeansRange bytes h.pending.request
       names = ⊎_elim
@@ -366,8 +366,8 @@ module _ (uses : SlotStates) (m : Machine) (d : Device) (a : StateRelation uses 
           (λ (y : (t.moved ≡ 1) × MeansRange t.block h.pending.request). absurd (let z : t.moved ≡ 0 = trim_place.1 in omega (arith, z, y.0)))
           was.1
 
-      fetched : TouchedAsMoved h.pending.request.asked.op d.memory port h.pending (record t { moved = t.moved + 1; block = bytes })
-      fetched = subst (λ (w : Op). TouchedAsMoved w d.memory port h.pending (record t { moved = t.moved + 1; block = bytes })) (sym trims)
+      fetched : TouchedAsMovedOrCleared h.pending.request.asked.op d.memory port h.pending (record t { moved = t.moved + 1; block = bytes })
+      fetched = subst (λ (w : Op). TouchedAsMovedOrCleared w d.memory port h.pending (record t { moved = t.moved + 1; block = bytes })) (sym trims)
           (was.0, inr ((let z : t.moved ≡ 0 = trim_place.1 in let r : t.moved + 1 ≡ 1 = omega (arith, z) in r), names))
 
       pub block_follows : SimulatesSteps uses m d (record d {
@@ -377,11 +377,11 @@ module _ (uses : SlotStates) (m : Machine) (d : Device) (a : StateRelation uses 
       block_follows = record {
         steps = [];
         steps_are_enabled = tt;
-        telling_is_same = refl;
+        disks_tell_sectors_is_same = refl;
         steps_are_faithful = λ _. tt;
         new_entries = _;
         tape_is = refl;
-        tape_tells_steps = ([], [], subst (λ (w : Option Op). TellsMove w m (move_of port slot t bytes) []) (sym o) (trim_place.2, refl), refl, refl);
+        tape_tells_steps = ([], [], subst (λ (w : Option Op). TellsTouchOrIsScratchMove w m (move_of port slot t bytes) []) (sym o) (trim_place.2, refl), refl, refl);
         plugged_disks_match_steps = plugged_kept d port _ [] refl (λ _. refl);
         state_relation = acted NoPort uses m m d a d.memory (d.tape ++ entry.Move (move_of port slot t bytes) ∷ []) port slot _ (record {
           id = record { 0 = 0 };
@@ -399,8 +399,8 @@ module _ (uses : SlotStates) (m : Machine) (d : Device) (a : StateRelation uses 
           size = refl;
           sectors = λ t'. a.sectors_are_same_if_disks_tell t' port;
           other_sectors = λ t' q ne. a.sectors_are_same_if_disks_tell t' q;
-          lasting = λ t'. lasting_on m m d.tape _ (d.port port) (d.port port) port refl refl (λ _ _ held. held) (gains_quiet d.tape _ m port (quiet_move port slot t bytes (no_write o))) (a.holds_replug_candidates_if_disks_tell t' port);
-          other_lasting = λ t' q ne. lasting_on m m d.tape _ (d.port q) (d.port q) q refl refl (λ _ _ held. held) (gains_quiet d.tape _ m q (quiet_move port slot t bytes (no_write o))) (a.holds_replug_candidates_if_disks_tell t' q);
+          lasting = λ t'. lasting_on m m d.tape _ (d.port port) (d.port port) port refl refl (λ _ _ held. held) (gains_quiet d.tape _ m port (quiet_move port slot t bytes (no_write o))) (a.knows_replug_candidates_if_disks_tell t' port);
+          other_lasting = λ t' q ne. lasting_on m m d.tape _ (d.port q) (d.port q) q refl refl (λ _ _ held. held) (gains_quiet d.tape _ m q (quiet_move port slot t bytes (no_write o))) (a.knows_replug_candidates_if_disks_tell t' q);
           memory = a.client_frames_are_same;
         });
       }

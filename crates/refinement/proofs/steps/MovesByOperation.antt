@@ -19,7 +19,7 @@ use Rattle.block_machine.specs.Histories.{IsReachable}
 use Rattle.refinement.specs.MemoryLayout.{scratch_frame_address}
 use Rattle.refinement.specs.Slots.{SlotState, Free, Own, Serves, SlotStates, AreRequestPlaces, ServesRequest, PageCameSinceAndStandsInScratch, OwnAwaitsFetch, OwnIsTaken, OwnIsOverWithPageIfSt, ServesOwn, RelatesSlot, client_operation_of, Armed}
 use Rattle.refinement.specs.Relation.{StateRelation}
-use Rattle.refinement.specs.Tape.{TellsMove}
+use Rattle.refinement.specs.Tape.{TellsTouchOrIsScratchMove}
 use Rattle.refinement.specs.Simulation.{SimulatesSteps}
 use Rattle.refinement.proofs.relation.SlotRelation.{known_on, SameFixed, told_on, placed_on}
 use Rattle.refinement.proofs.relation.TouchesAndEnds.{Goes-refl}
@@ -55,19 +55,19 @@ client_move uses m d a reached port slot id u h bytes operation.Flush first coun
 client_move uses m d a reached port slot id u h bytes operation.Read first count places moved block cleared can x =
     let w = means_taken port slot h.pending.request h.command (record { operation = operation.Read; first = first; count = count }) h.places places x.meaning x.places_are h.means in
     read_follows uses m d a reached port slot id u h (taken_of operation.Read first count places moved block cleared) x bytes can.bytes_are_sector.0 can.piece_is_left can.works.working.present
-    (sym (op_same w.op_is)) refl (ap (λ (k : ℕ). k + moved) (w.first_sector_is_if_ranged refl)) can.brings.0 can.brings.1
+    (sym (op_same w.op_is)) refl (ap (λ (k : ℕ). k + moved) (w.first_sector_is_if_it_moves_sectors refl)) can.brings.0 can.brings.1
 client_move uses m d a reached port slot id u h bytes operation.ReadQueued first count places moved block cleared can x =
     let w = means_taken port slot h.pending.request h.command (record { operation = operation.ReadQueued; first = first; count = count }) h.places places x.meaning x.places_are h.means in
     read_follows uses m d a reached port slot id u h (taken_of operation.ReadQueued first count places moved block cleared) x bytes can.bytes_are_sector.0 can.piece_is_left can.works.working.present
-    (sym (op_same w.op_is)) refl (ap (λ (k : ℕ). k + moved) (w.first_sector_is_if_ranged refl)) can.brings.0 can.brings.1
+    (sym (op_same w.op_is)) refl (ap (λ (k : ℕ). k + moved) (w.first_sector_is_if_it_moves_sectors refl)) can.brings.0 can.brings.1
 client_move uses m d a reached port slot id u h bytes operation.Write first count places moved block cleared can x =
     let w = means_taken port slot h.pending.request h.command (record { operation = operation.Write; first = first; count = count }) h.places places x.meaning x.places_are h.means in
     write_follows uses m d a reached port slot id u h (taken_of operation.Write first count places moved block cleared) x bytes can.bytes_are_sector.0 can.piece_is_left can.works.working.present
-    (sym (op_same w.op_is)) refl (ap (λ (k : ℕ). k + moved) (w.first_sector_is_if_ranged refl)) can.brings.0 can.brings.1
+    (sym (op_same w.op_is)) refl (ap (λ (k : ℕ). k + moved) (w.first_sector_is_if_it_moves_sectors refl)) can.brings.0 can.brings.1
 client_move uses m d a reached port slot id u h bytes operation.WriteQueued first count places moved block cleared can x =
     let w = means_taken port slot h.pending.request h.command (record { operation = operation.WriteQueued; first = first; count = count }) h.places places x.meaning x.places_are h.means in
     write_follows uses m d a reached port slot id u h (taken_of operation.WriteQueued first count places moved block cleared) x bytes can.bytes_are_sector.0 can.piece_is_left can.works.working.present
-    (sym (op_same w.op_is)) refl (ap (λ (k : ℕ). k + moved) (w.first_sector_is_if_ranged refl)) can.brings.0 can.brings.1
+    (sym (op_same w.op_is)) refl (ap (λ (k : ℕ). k + moved) (w.first_sector_is_if_it_moves_sectors refl)) can.brings.0 can.brings.1
 client_move uses m d a reached port slot id u h bytes operation.Trim first count places moved block cleared can x =
     let w = means_taken port slot h.pending.request h.command (record { operation = operation.Trim; first = first; count = count }) h.places places x.meaning x.places_are h.means in
     block_follows uses m d a reached port slot id u h (taken_of operation.Trim first count places moved block cleared) x bytes can.bytes_are_sector.0 can.piece_is_left can.works.working.present
@@ -131,11 +131,11 @@ module _ (uses : SlotStates) (m : Machine) (d : Device) (a : StateRelation uses 
     page_follows = record {
       steps = [];
       steps_are_enabled = tt;
-      telling_is_same = refl;
+      disks_tell_sectors_is_same = refl;
       steps_are_faithful = λ _. tt;
       new_entries = _;
       tape_is = refl;
-      tape_tells_steps = ([], [], subst (λ (w : Option Op). TellsMove w m (move_of port slot t bytes) []) (sym (ap client_operation_of operation_is ∙ h.operation_is_drivers_own)) (place, refl), refl, refl);
+      tape_tells_steps = ([], [], subst (λ (w : Option Op). TellsTouchOrIsScratchMove w m (move_of port slot t bytes) []) (sym (ap client_operation_of operation_is ∙ h.operation_is_drivers_own)) (place, refl), refl, refl);
       plugged_disks_match_steps = plugged_kept d port _ [] refl (λ _. refl);
       state_relation = acted Here uses m m d a (patched d.memory (next_place t) bytes) (d.tape ++ entry.Move (move_of port slot t bytes) ∷ []) port slot _ (record {
         id = record { 0 = 0 };
@@ -172,8 +172,8 @@ module _ (uses : SlotStates) (m : Machine) (d : Device) (a : StateRelation uses 
         size = refl;
         sectors = λ t'. a.sectors_are_same_if_disks_tell t' port;
         other_sectors = λ t' q ne. a.sectors_are_same_if_disks_tell t' q;
-        lasting = λ t'. lasting_on m m d.tape _ (d.port port) (d.port port) port refl refl (λ _ _ held. held) (gains_quiet d.tape _ m port quiet) (a.holds_replug_candidates_if_disks_tell t' port);
-        other_lasting = λ t' q ne. lasting_on m m d.tape _ (d.port q) (d.port q) q refl refl (λ _ _ held. held) (gains_quiet d.tape _ m q quiet) (a.holds_replug_candidates_if_disks_tell t' q);
+        lasting = λ t'. lasting_on m m d.tape _ (d.port port) (d.port port) port refl refl (λ _ _ held. held) (gains_quiet d.tape _ m port quiet) (a.knows_replug_candidates_if_disks_tell t' port);
+        other_lasting = λ t' q ne. lasting_on m m d.tape _ (d.port q) (d.port q) q refl refl (λ _ _ held. held) (gains_quiet d.tape _ m q quiet) (a.knows_replug_candidates_if_disks_tell t' q);
         memory = memory_low m d.memory (next_place t) bytes (let below = h.list_is_in_place.port_below in let p = place in omega (arith, p, size, below)) a.client_frames_are_same;
       });
     }

@@ -20,7 +20,7 @@ use Rattle.block_machine.specs.Expected as left
 use Rattle.block_machine.specs.Histories.{IsReachable}
 use Rattle.refinement.specs.MemoryLayout.{command_list_address, received_fis_address}
 use Rattle.refinement.specs.Slots.{SlotState, Free, Own, Serves, SlotStates, IsInSomeStage, OwnAwaitsFetch, OwnIsTaken, OwnIsOverWithPageIfSt, RelatesSlot, Armed, IsEmptySlot}
-use Rattle.refinement.specs.Relation.{StateRelation, IsDiskOf, SameSectors, HoldsReplugCandidates, HasReceivedArea}
+use Rattle.refinement.specs.Relation.{StateRelation, IsDiskOf, SameSectors, KnowsAllReplugCandidates, HasReceivedArea}
 use Rattle.refinement.specs.Driver.{AllFree, StAndFreBitsMayBeWritten, KeepsSlotStates}
 use Rattle.refinement.specs.Simulation.{SimulatesSteps}
 use Rattle.refinement.proofs.relation.SlotRelation.{SameSlot, SameSlot-refl, served_on, own_free, serves_free, GainsNone-refl, placed_on}
@@ -46,7 +46,7 @@ port_agrees uses m d a port new slots receives present disk = record {
       (λ k _. a.disks_are_same k);
   client_frames_are_same = a.client_frames_are_same;
   sectors_are_same_if_disks_tell = λ t. changed_at d.port port new (λ k p. SameSectors m p.disk k) (subst (λ (x : device.Disk × DurableState). SameSectors m x.0 port) (sym disk) (a.sectors_are_same_if_disks_tell t port)) (λ k _. a.sectors_are_same_if_disks_tell t k);
-  holds_replug_candidates_if_disks_tell = λ t. changed_at d.port port new (λ k p. HoldsReplugCandidates m d.tape p k) (lasting_same m d.tape (d.port port) new port disk (a.holds_replug_candidates_if_disks_tell t port)) (λ k _. a.holds_replug_candidates_if_disks_tell t k);
+  knows_replug_candidates_if_disks_tell = λ t. changed_at d.port port new (λ k p. KnowsAllReplugCandidates m d.tape p k) (lasting_same m d.tape (d.port port) new port disk (a.knows_replug_candidates_if_disks_tell t port)) (λ k _. a.knows_replug_candidates_if_disks_tell t k);
 }
 
 -- a slot that looks the same, in a memory that is the same
@@ -259,7 +259,7 @@ module _ (uses : SlotStates) (m : Machine) (d : Device) (a : StateRelation uses 
     };
     client_frames_are_same = a.client_frames_are_same;
     sectors_are_same_if_disks_tell = λ t q. subst (λ (x : device.Disk × DurableState). SameSectors m x.0 q) (sym (disk q)) (a.sectors_are_same_if_disks_tell t q);
-    holds_replug_candidates_if_disks_tell = λ t q. lasting_same m d.tape (d.port q) (new q) q (disk q) (a.holds_replug_candidates_if_disks_tell t q);
+    knows_replug_candidates_if_disks_tell = λ t q. lasting_same m d.tape (d.port q) (new q) q (disk q) (a.knows_replug_candidates_if_disks_tell t q);
   }
 
   told_on : (v : ℕ) → StateRelation uses m (device_after_write Is v d)
@@ -292,7 +292,7 @@ module _ (uses : SlotStates) (m : Machine) (d : Device) (a : StateRelation uses 
       -- PxFB is written with FRE clear
       off : (s : PortReg) → s ≡ px.Fb → MayWrite (Px port s) v d → (d.port port.0).fre ≡ true → ⊥
       off s is may on = let y = subst (λ (t : PortReg). MayWrite (Px port t) v d) is may in true_false on y.2.1
-  written_agrees Ghc v may x = record { relates_slots = a.relates_slots; serve_distinct_requests = a.serve_distinct_requests; received_areas_in_use_are_placed = a.received_areas_in_use_are_placed; disks_are_same = a.disks_are_same; client_frames_are_same = a.client_frames_are_same; sectors_are_same_if_disks_tell = a.sectors_are_same_if_disks_tell; holds_replug_candidates_if_disks_tell = a.holds_replug_candidates_if_disks_tell }
+  written_agrees Ghc v may x = record { relates_slots = a.relates_slots; serve_distinct_requests = a.serve_distinct_requests; received_areas_in_use_are_placed = a.received_areas_in_use_are_placed; disks_are_same = a.disks_are_same; client_frames_are_same = a.client_frames_are_same; sectors_are_same_if_disks_tell = a.sectors_are_same_if_disks_tell; knows_replug_candidates_if_disks_tell = a.knows_replug_candidates_if_disks_tell }
   written_agrees Is v may x = told_on v
   written_agrees Cap v may x = a
   written_agrees Pi v may x = a
@@ -342,7 +342,7 @@ written_tape Vs v d = refl
 written_tape Cap2 v d = refl
 written_tape Bohc v d = refl
 
-pub written_telling : (r : Reg) (v : ℕ) (d : Device) → (device_after_write r v d).telling ≡ d.telling
+pub written_telling : (r : Reg) (v : ℕ) (d : Device) → (device_after_write r v d).disks_tell_sectors ≡ d.disks_tell_sectors
 written_telling (Px port r) v d = refl
 written_telling Ghc v d = refl
 written_telling Is v d = refl

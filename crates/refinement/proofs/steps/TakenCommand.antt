@@ -14,7 +14,7 @@ use Rattle.adapter.proofs.Changed.{changed_same, changed_other}
 use Rattle.adapter.proofs.SaysLemmas.{says_meaning, says_places}
 use Rattle.block_machine.specs.State.{Pending, Machine}
 use Rattle.refinement.specs.MemoryLayout.{scratch_frame_address}
-use Rattle.refinement.specs.Slots.{SlotState, Free, Own, Serves, SlotStates, TouchedAsMoved, HasBlockIfTrim, TouchedUpTo, IsInSomeStage, OwnAwaitsFetch, OwnIsTaken, OwnIsOverWithPageIfSt, RelatesSlot, client_operation_of, Armed}
+use Rattle.refinement.specs.Slots.{SlotState, Free, Own, Serves, SlotStates, TouchedAsMovedOrCleared, HasBlockIfTrim, TouchedUpTo, IsInSomeStage, OwnAwaitsFetch, OwnIsTaken, OwnIsOverWithPageIfSt, RelatesSlot, client_operation_of, Armed}
 use Rattle.refinement.specs.Relation.{StateRelation}
 use Rattle.refinement.specs.Simulation.{SimulatesSteps}
 use Rattle.refinement.proofs.relation.SlotRelation.{SameFixed-refl, NoPort, placed_on}
@@ -47,7 +47,7 @@ other_if false f slot k ne = refl
 
 -- nothing moved yet
 started : (op : Op) (memory : ℕ → ℕ) (port : ℕ) (e : Pending) (c : Meaning) (places : List ℕ) → HasBlockIfTrim op memory port e.request → TouchedUpTo e.touched 0 →
-    TouchedAsMoved op memory port e (newly_fetched c places)
+    TouchedAsMovedOrCleared op memory port e (newly_fetched c places)
 started Read memory port e c places block none = none
 started Write memory port e c places block none = none
 started Trim memory port e c places block none = (none, inl (refl, refl, block))
@@ -142,7 +142,7 @@ module _ (uses : SlotStates) (m : Machine) (d : Device) (a : StateRelation uses 
     fetch_follows = record {
       steps = [];
       steps_are_enabled = tt;
-      telling_is_same = refl;
+      disks_tell_sectors_is_same = refl;
       steps_are_faithful = λ _. tt;
       new_entries = [];
       tape_is = sym (append-nil d.tape);
@@ -171,8 +171,8 @@ module _ (uses : SlotStates) (m : Machine) (d : Device) (a : StateRelation uses 
         size = refl;
         sectors = λ t. a.sectors_are_same_if_disks_tell t port;
         other_sectors = λ t q ne. a.sectors_are_same_if_disks_tell t q;
-        lasting = λ t. a.holds_replug_candidates_if_disks_tell t port;
-        other_lasting = λ t q ne. a.holds_replug_candidates_if_disks_tell t q;
+        lasting = λ t. a.knows_replug_candidates_if_disks_tell t port;
+        other_lasting = λ t q ne. a.knows_replug_candidates_if_disks_tell t q;
         memory = a.client_frames_are_same;
       });
     }

@@ -30,7 +30,7 @@ use Rattle.block_machine.proofs.HistoryLemmas.{reached_more}
 use Rattle.refinement.specs.Acts.{IsIssueStep}
 use Rattle.refinement.specs.Slots.{Serves, SlotStates, client_operation_of}
 use Rattle.refinement.specs.Relation.{HaveSlotsUnlessParked}
-use Rattle.refinement.specs.Tape.{TellsMove, TellsDone, TellsEntry, TapeTells, touch_steps}
+use Rattle.refinement.specs.Tape.{TellsTouchOrIsScratchMove, TellsDone, TellsEntry, TapeTells, touch_steps}
 use Rattle.refinement.specs.Simulation.{SimulatesSteps}
 use Rattle.refinement.proofs.relation.TouchesAndEnds.{Goes, touch_goes, end_goes}
 use Rattle.refinement.proofs.relation.OtherSlots.{true_false}
@@ -48,7 +48,7 @@ touches_device e from (suc n) = (touches_device e from n, tt)
 from_steps : {steps all : List Step} → steps ≡ all → AllByDevice all → AllByDevice steps
 from_steps e a = subst AllByDevice (sym e) a
 
-move_device : (o : Option Op) (m : Machine) (move : tape_move.Move) (steps : List Step) → TellsMove o m move steps → AllByDevice steps
+move_device : (o : Option Op) (m : Machine) (move : tape_move.Move) (steps : List Step) → TellsTouchOrIsScratchMove o m move steps → AllByDevice steps
 move_device None m move steps t = from_steps t.1 tt
 move_device (Some Read) m move steps t = from_steps t.step_is (tt, tt)
 move_device (Some Write) m move steps t = from_steps t.step_is (tt, tt)

@@ -29,7 +29,7 @@ use Rattle.block_machine.specs.Steps.{Accept, Issue, IsEnabled, MayAccept, IsIss
 use Rattle.block_machine.proofs.Setting.{empty, filled_starts}
 use Rattle.refinement.specs.StepLaws.{StepLaws}
 use Rattle.refinement.specs.Slots.{Free, Serves, SlotDecodesTo, IsEmptySlot}
-use Rattle.refinement.specs.Relation.{StateRelation, port_at, IsDiskOf, SameSectors, HoldsReplugCandidates, HasReceivedArea}
+use Rattle.refinement.specs.Relation.{StateRelation, port_at, IsDiskOf, SameSectors, KnowsAllReplugCandidates, HasReceivedArea}
 use Rattle.refinement.specs.Driver.{DriverRelation, IsRequestPreparedToIssue, idle_driver_state}
 use Rattle.refinement.specs.ReadWitness.{first_slot_states, first_driver_state, ready_port, ready_device, prepared_read, PreparedReadWitness, FirstReadWitness}
 use Rattle.refinement.proofs.relation.OneSlot.{changed_at}
@@ -129,7 +129,7 @@ ready_knows memory = record {
     sectors_are_same_if_disks_tell = λ _. changed_at (λ _. empty_port) 0 ready_port (λ n p. SameSectors (start_with memory) p.disk n)
         (record { told_sectors = first_disk_sector; disk_tells = refl; bytes_are_same = λ k b kl bl. tells k b bl })
         (λ n ne. record { told_sectors = λ k. []; disk_tells = refl; bytes_are_same = λ k b kl bl. absurd (omega (arith, kl)) });
-    holds_replug_candidates_if_disks_tell = λ _. changed_at (λ _. empty_port) 0 ready_port (λ n p. HoldsReplugCandidates (start_with memory) [] p n) (λ k inside bytes w. lasts memory k bytes w) (λ n ne k inside bytes w. absurd (omega (arith, inside)));
+    knows_replug_candidates_if_disks_tell = λ _. changed_at (λ _. empty_port) 0 ready_port (λ n p. KnowsAllReplugCandidates (start_with memory) [] p n) (λ k inside bytes w. lasts memory k bytes w) (λ n ne k inside bytes w. absurd (omega (arith, inside)));
   };
   have_slots_unless_parked = λ q e may at_port. ⊎_elim (λ z. absurd (All-contains (λ _. ⊥) [] e (All-nil (λ _. ⊥)) z.0)) (λ z. absurd (All-contains (λ _. ⊥) [] e (All-nil (λ _. ⊥)) z)) may;
 }
@@ -140,7 +140,7 @@ unfolding changed
 can_take memory c places says = record {
   fetchable = record { st_is_set = refl; issued = refl; free = refl };
   working = record { cr_is_set = refl; present = refl; fresh = refl; admitted = refl; is_not_broken = refl };
-  is_unmixed = λ slot t is. absurd (none-some _ is);
+  is_alone_or_all_are_queued = λ slot t is. absurd (none-some _ is);
   says = says;
 }
 
@@ -169,7 +169,7 @@ prepared = record {
   command = read_of 100 8;
   places = piece_addresses 0x64000 8;
   slot_decodes_to = told;
-  means = record { op_is = refl; first_sector_is_if_ranged = λ _. refl; places_are = (cut_length 0x64000 8, places_in 100); trim_is_in_slot_0 = λ e. absurd (read_no_trim e) };
+  means = record { op_is = refl; first_sector_is_if_it_moves_sectors = λ _. refl; places_are = (cut_length 0x64000 8, places_in 100); trim_is_in_slot_0 = λ e. absurd (read_no_trim e) };
   queued_as_request = refl;
   has_block_if_trim = tt;
   bit_is_set = refl;

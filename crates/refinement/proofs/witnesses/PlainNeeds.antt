@@ -109,7 +109,7 @@ queued_spelt memory slot first n small aligned even header fis prd = record {
   header = header;
   aligned = aligned;
   fis = fis;
-  meaning = record { ranged = λ _. (omega arith, omega arith, small); not_ranged = λ h. absurd (true≢false h) };
+  meaning = record { sectors_fit_if_it_moves_some = λ _. (omega arith, omega arith, small); sectors_are_zero_if_it_moves_none = λ h. absurd (true≢false h) };
   prd = prd;
   allowed = record { even_address = even; even_bytes = refl; is_not_empty = omega arith; is_at_most_4_mib = omega arith };
   whole = refl;
@@ -129,7 +129,7 @@ unfolding changed
 can_fetch = record {
   fetchable = record { st_is_set = refl; issued = refl; free = refl };
   working = record { cr_is_set = refl; present = refl; fresh = refl; admitted = refl; is_not_broken = refl };
-  is_unmixed = λ slot t is. absurd (none-some _ is);
+  is_alone_or_all_are_queued = λ slot t is. absurd (none-some _ is);
   says = first_told.decodes_to;
 }
 

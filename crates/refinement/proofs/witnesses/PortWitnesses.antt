@@ -3,7 +3,7 @@ use Rattle.std.proofs.Common.{◌≡◌, true, ◌∷◌, [], refl, arith}
 use Rattle.std.proofs.lemmas.Bool.{false≢true}
 use Rattle.std.proofs.lemmas.Option.{none-some}
 use Rattle.adapter.specs.Device.{FetchedCommand, Device}
-use Rattle.adapter.specs.Device.Halt.{HaltedPlain}
+use Rattle.adapter.specs.Device.Halt.{HaltedByPlain}
 use Rattle.adapter.specs.FirstRead.{first_read_device}
 use Rattle.adapter.specs.Memory.{changed}
 use Rattle.adapter.specs.ReadDone.{read_of}
@@ -43,7 +43,7 @@ unfolding changed
 first_fetch = record {
   fetchable = record { st_is_set = refl; issued = refl; free = refl };
   working = record { cr_is_set = refl; present = refl; fresh = refl; admitted = refl; is_not_broken = refl };
-  is_unmixed = λ slot t is. absurd (none-some _ is);
+  is_alone_or_all_are_queued = λ slot t is. absurd (none-some _ is);
   says = first_says;
 }
 
@@ -54,9 +54,9 @@ first_fault = record { taken = refl; cr_is_set = refl; is_byte = omega arith; ke
 failing : Steps first_read_device failed
 failing = record { steps = Fetch 0 0 (read_of 100 8) (piece_addresses 0x64000 8) ∷ Fault 0 0 0x40 0 taken_read ∷ []; lead = (first_fetch, (first_fault, refl)) }
 
-failed_halted : ((failed.port 0).halt ≡ HaltedPlain) × ((failed.port 0).st ≡ true)
+failed_halted : ((failed.port 0).halt ≡ HaltedByPlain) × ((failed.port 0).st ≡ true)
 unfolding changed
 failed_halted = (refl, refl)
 
-pub first_failed : (new : Device) × Steps first_read_device new × ((new.port 0).halt ≡ HaltedPlain) × RecordsFaults new.tape (new.port 0) 0
+pub first_failed : (new : Device) × Steps first_read_device new × ((new.port 0).halt ≡ HaltedByPlain) × RecordsFaults new.tape (new.port 0) 0
 first_failed = (failed, failing, failed_halted.0, steps_recorded 0 first_read_device failed failing (λ st. first_recorded) failed_halted.1)

@@ -56,7 +56,7 @@ queued_spelt memory slot first n small aligned even header fis prd = record {
   header = header;
   aligned = aligned;
   fis = fis;
-  meaning = record { ranged = λ _. (omega arith, omega arith, small); not_ranged = λ h. absurd (true≢false h) };
+  meaning = record { sectors_fit_if_it_moves_some = λ _. (omega arith, omega arith, small); sectors_are_zero_if_it_moves_none = λ h. absurd (true≢false h) };
   prd = prd;
   allowed = record { even_address = even; even_bytes = refl; is_not_empty = omega arith; is_at_most_4_mib = omega arith };
   whole = refl;
@@ -150,7 +150,7 @@ read_prepared uses m was d slot first n may free small started list told = recor
   command = queued_read first;
   places = piece_addresses (4096 * n) 8;
   slot_decodes_to = subst (λ (at : ℕ). SlotDecodesTo d.memory at 0 slot (queued_read first) (piece_addresses (4096 * n) 8)) (sym list) told;
-  means = record { op_is = refl; first_sector_is_if_ranged = λ _. refl; places_are = (cut_length (4096 * n) 8, places_in n); trim_is_in_slot_0 = λ e. absurd (read_no_trim e) };
+  means = record { op_is = refl; first_sector_is_if_it_moves_sectors = λ _. refl; places_are = (cut_length (4096 * n) 8, places_in n); trim_is_in_slot_0 = λ e. absurd (read_no_trim e) };
   queued_as_request = refl;
   has_block_if_trim = tt;
   bit_is_set = ap (λ (b : ℕ). b == 1) (bit_at-pow_same slot);
@@ -223,7 +223,7 @@ unfolding changed
 can_fetch = record {
   fetchable = record { st_is_set = refl; issued = refl; free = refl };
   working = record { cr_is_set = refl; present = refl; fresh = refl; admitted = refl; is_not_broken = refl };
-  is_unmixed = λ slot t is. absurd (none-some _ is);
+  is_alone_or_all_are_queued = λ slot t is. absurd (none-some _ is);
   says = first_told.decodes_to;
 }
 

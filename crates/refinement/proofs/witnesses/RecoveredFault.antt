@@ -13,7 +13,7 @@ use Rattle.hba_regs.specs.declared.reg.PortReg.{PortReg}
 use Rattle.hba_regs.specs.declared.reg.PortReg.TheVariants.{Is, Cmd, Tfd, Ssts, Serr, Ci}
 use Rattle.adapter.specs.Access.{Reads, Writes, device_after_reading, device_after_write, shown_interrupt}
 use Rattle.adapter.specs.Device.{FetchedCommand, DevicePort, Device}
-use Rattle.adapter.specs.Device.Halt.{HaltedPlain, HaltedQueued}
+use Rattle.adapter.specs.Device.Halt.{HaltedByPlain, HaltedByQueued}
 use Rattle.adapter.specs.FirstRead.{first_read_device}
 use Rattle.adapter.specs.Memory.{changed}
 use Rattle.adapter.specs.ReadDone.{read_of}
@@ -78,7 +78,7 @@ unfolding changed
 first_fetch = record {
   fetchable = record { st_is_set = refl; issued = refl; free = refl };
   working = record { cr_is_set = refl; present = refl; fresh = refl; admitted = refl; is_not_broken = refl };
-  is_unmixed = λ slot t is. absurd (none-some _ is);
+  is_alone_or_all_are_queued = λ slot t is. absurd (none-some _ is);
   says = first_says;
 }
 
@@ -191,7 +191,7 @@ ready_linked : IsLinked (ready.port 0)
 unfolding changed
 ready_linked = record { det_is_3 = refl; present = refl; fresh = refl; no_link_is_due = refl; comreset_is_over = λ (e : 0 ≡ 1). omega (arith, e) }
 
-states : ((failed.port 0).halt ≡ HaltedPlain) × ((ready.port 0).st ≡ false) × ((ready.port 0).cr ≡ false)
+states : ((failed.port 0).halt ≡ HaltedByPlain) × ((ready.port 0).st ≡ false) × ((ready.port 0).cr ≡ false)
 unfolding changed
 states = (refl, refl, refl)
 
@@ -235,7 +235,7 @@ recovery_is_found laws = record {
 
 -- ---- the fault is seen
 
-pub fault_is_seen : CommandMayHaveFailedBySstsRead first_read_device 0 HaltedPlain
+pub fault_is_seen : CommandMayHaveFailedBySstsRead first_read_device 0 HaltedByPlain
 unfolding changed
 fault_is_seen = record {
   seen = device_after_reading (port_reg Ssts) 3 failed;
@@ -261,7 +261,7 @@ unfolding changed
 second_fetch = record {
   fetchable = record { st_is_set = refl; issued = refl; free = refl };
   working = record { cr_is_set = refl; present = refl; fresh = refl; admitted = refl; is_not_broken = refl };
-  is_unmixed = λ slot t is. absurd (none-some _ is);
+  is_alone_or_all_are_queued = λ slot t is. absurd (none-some _ is);
   says = second_told.decodes_to;
 }
 
@@ -272,7 +272,7 @@ second_fault = record { taken = refl; cr_is_set = refl; is_byte = omega arith; k
 second_fails : Steps two_issued second_failed
 second_fails = record { steps = Fetch 0 1 (queued_read 108) (piece_addresses 0x65000 8) ∷ Fault 0 1 0x40 0 second_read ∷ []; lead = (second_fetch, (second_fault, refl)) }
 
-pub queued_fault_is_seen : CommandMayHaveFailedBySstsRead two_issued 1 HaltedQueued
+pub queued_fault_is_seen : CommandMayHaveFailedBySstsRead two_issued 1 HaltedByQueued
 unfolding changed
 queued_fault_is_seen = record {
   seen = device_after_reading (port_reg Ssts) 3 second_failed;

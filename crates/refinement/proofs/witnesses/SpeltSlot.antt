@@ -4,7 +4,7 @@ use Rattle.std.specs.Prelude.{if◌then◌else◌, nat_eq}
 use Rattle.std.proofs.lemmas.Bool.{and_parts, both_ways}
 use Rattle.byteorder.specs.Endian.{little_from}
 use Rattle.adapter.specs.declared.command.Operation.{Operation}
-use Rattle.adapter.specs.Commands.{Meaning, IsValidMeaning, is_ranged, command_of, transfer_sector_count, reads_memory}
+use Rattle.adapter.specs.Commands.{Meaning, IsValidMeaning, moves_disk_sectors, command_of, transfer_sector_count, reads_memory}
 use Rattle.adapter.specs.Memory.{bytes_at}
 use Rattle.adapter.specs.Decoding.{DecodesTo, IsWholePieces, piece_addresses}
 use Rattle.adapter.specs.Encoding.{IsAllowedPrd}
@@ -102,13 +102,13 @@ module _ (memory : ℕ → ℕ) (slot : ℕ) (c : Meaning) (e : Prd) (s : IsSpel
 abbrev page_prd : Prd
 page_prd = record { address = scratch_frame_address 0; bytes = 512 }
 
-pub page_told : (memory : ℕ → ℕ) (o : Operation) → is_ranged o ≡ false → transfer_sector_count o 0 ≡ 1 → IsSpeltHeader (bytes_at memory 0 32) (reads_memory o) 0x1000 →
+pub page_told : (memory : ℕ → ℕ) (o : Operation) → moves_disk_sectors o ≡ false → transfer_sector_count o 0 ≡ 1 → IsSpeltHeader (bytes_at memory 0 32) (reads_memory o) 0x1000 →
     IsSpeltCommand (bytes_at memory 0x1000 20) (command_of o 0 0 0) → IsSpeltPrd (bytes_at memory 0x1080 16) page_prd → SlotDecodesTo memory 0 0 0 (record { operation = o; first = 0; count = 0 }) (scratch_frame_address 0 ∷ [])
 page_told memory o unranged one header fis prd = spelt_told memory 0 (record { operation = o; first = 0; count = 0 }) page_prd (record {
   header = header;
   aligned = refl;
   fis = fis;
-  meaning = record { ranged = λ h. absurd (both_ways _ unranged h); not_ranged = λ _. (refl, refl) };
+  meaning = record { sectors_fit_if_it_moves_some = λ h. absurd (both_ways _ unranged h); sectors_are_zero_if_it_moves_none = λ _. (refl, refl) };
   prd = prd;
   allowed = record { even_address = refl; even_bytes = refl; is_not_empty = omega arith; is_at_most_4_mib = omega arith };
   whole = refl;

@@ -99,7 +99,7 @@ prepared = record {
   command = trim_meaning_without_range;
   places = scratch_frame_address 0 ∷ [];
   slot_decodes_to = told;
-  means = record { op_is = refl; first_sector_is_if_ranged = λ h. absurd (false≢true h); places_are = refl; trim_is_in_slot_0 = λ _. refl };
+  means = record { op_is = refl; first_sector_is_if_it_moves_sectors = λ h. absurd (false≢true h); places_are = refl; trim_is_in_slot_0 = λ _. refl };
   queued_as_request = refl;
   has_block_if_trim = ap trim_sectors block_is ∙ block_means;
   bit_is_set = refl;

@@ -1,6 +1,6 @@
 // A disk in memory of which one call fails, as one of a file may.
 ghost use Rattle.std.specs.Prelude.{◌≡◌, Some, true, false};
-ghost use Rattle.sector_store.specs.Stores.{RecordsOneMoreFailure};
+ghost use Rattle.sector_store.specs.Stores.{HasRecordAndNotesOneMoreFailure};
 
 use sector_store::{Failures, MemStore, SectorStore};
 
@@ -30,7 +30,7 @@ impl FailingCall {
     pub fn fails(&mut self, is_write: bool, sector: u64) -> bool
         ensures none_is_noted { result ≡ false → self.new.failed ≡ self.old.failed }
         ensures failure_is_noted { result ≡ true
-            → RecordsOneMoreFailure is_write sector (Some self.old.failed) (Some self.new.failed) }
+            → HasRecordAndNotesOneMoreFailure is_write sector (Some self.old.failed) (Some self.new.failed) }
     {
         let fails = self.before == 0;
         // No other one fails.
@@ -43,7 +43,7 @@ impl FailingCall {
 
     /// Notes that this call on a sector that is there fails.
     pub fn fail(&mut self, is_write: bool, sector: u64)
-        ensures { RecordsOneMoreFailure is_write sector (Some self.old.failed) (Some self.new.failed) }
+        ensures { HasRecordAndNotesOneMoreFailure is_write sector (Some self.old.failed) (Some self.new.failed) }
     {
         self.failed = Failures {
             failed_calls: self.failed.failed_calls.wrapping_add(1),

@@ -82,7 +82,8 @@ pub fn config(alloc: Global, text: &str) -> Result<Config, Fail>
 pub fn model_of(alloc: Global, config: &Config, sectors: u32) -> Result<Model<MemStore>, Fail>
     requires { LacksEveryFault config.now }
     ensures ready { IfOk result (λ m. IsReadyFor config.now (⟦<Model<MemStore> as Adapter>⟧.device m)) }
-    ensures telling { IfOk result (λ m. (⟦<Model<MemStore> as Adapter>⟧.device m).telling ≡ true) }
+    ensures disks_tell_sectors { IfOk result (λ m.
+        (⟦<Model<MemStore> as Adapter>⟧.device m).disks_tell_sectors ≡ true) }
 {
     let image = MemStore::new(alloc, sectors)?;
     Ok(new_model(alloc, config, image, MemStore::new(alloc, 0)?)?)
@@ -91,7 +92,8 @@ pub fn model_of(alloc: Global, config: &Config, sectors: u32) -> Result<Model<Me
 /// A server of which nothing was asked, over the model that the text asks for, with a disk of 356 sectors in memory.
 pub fn new_server(alloc: Global, text: &str) -> Result<Server<Model<MemStore>>, Fail>
     ensures begun { IfOk result (λ s. StartsHistory (server_of ⟦<Model<MemStore> as Adapter>⟧.device s)) }
-    ensures telling { IfOk result (λ s. (⟦<Model<MemStore> as Adapter>⟧.device s.adapter).telling ≡ true) }
+    ensures disks_tell_sectors { IfOk result (λ s.
+        (⟦<Model<MemStore> as Adapter>⟧.device s.adapter).disks_tell_sectors ≡ true) }
 {
     let config = config(alloc, text)?;
     let model = model_of(alloc, &config, 356)?;

@@ -15,7 +15,7 @@ use Rattle.ata_types.specs.declared.request.Outcome.TheVariants.{Aborted, Device
 use Rattle.ata_types.specs.declared.request.Reply.{Reply}
 use Rattle.refinement.specs.Relation.{port_at}
 use Rattle.block_machine.specs.Events.{IsLawfulAnswer, IsLowerByPortThenId, AbstractState, RepliesMatch, IsIssuedInBook, answers_of, reply_of}
-use Rattle.block_machine.specs.Ports.{Evidence, RequestFault, ChangesOnlyIfStoppedOrStuck, Ports, SameSerialAndSize, SamePort}
+use Rattle.block_machine.specs.Ports.{Evidence, RequestFault, MayBecomeInService, Ports, SameSerialAndSize, SamePort}
 use Rattle.block_machine.specs.State.{Pending}
 use Rattle.block_machine.specs.Steps.{Step, Answer}
 use Rattle.host_boot.specs.TakeOver.{probe_result_of}
@@ -199,7 +199,7 @@ pub same_disk : (a b c d : Ports) (q : Port) → SamePort a b q → SamePort c d
 same_disk a b c d q x y z = (y.2 ∙ z.0 ∙ x.2, y.3 ∙ z.1 ∙ x.3)
 
 -- what a service made of the port it made of it too where the port was the same before and is the same after, and the evidence names it alike
-pub serviced_lift : (a b c d : Ports) (one other : Evidence) (q : Port) → SamePort a b q → SamePort c d q → EvidenceAgreesOn q one other → ChangesOnlyIfStoppedOrStuck b one c q → ChangesOnlyIfStoppedOrStuck a other d q
+pub serviced_lift : (a b c d : Ports) (one other : Evidence) (q : Port) → SamePort a b q → SamePort c d q → EvidenceAgreesOn q one other → MayBecomeInService b one c q → MayBecomeInService a other d q
 serviced_lift a b c d one other q x y alike i = (
   (λ dead. same_then a c d q (same_then a b c q x (i.0 (x.1 ∙ dead))) y),
   (λ lives. let w = i.1 (λ dead. lives (sym x.1 ∙ dead)) in (

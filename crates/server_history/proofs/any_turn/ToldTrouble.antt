@@ -27,7 +27,7 @@ use Rattle.port_control.specs.PortEvents.{TakesEvent, port_event_of}
 use Rattle.port_control.specs.declared.events.PortEvent.{PortEvent}
 use Rattle.port_control.specs.declared.events.PortEvent.TheVariants.{FatalError, TaskFileError, LinkChanged, NoEvent}
 use Rattle.server_history.specs.Prerequisites.{PrerequisiteLaws}
-use Rattle.server_history.specs.ErrorHandling.{NamesNoneAndIsNotRunning, ErrorHandlingIsBacked}
+use Rattle.server_history.specs.ErrorHandling.{NamesNoneAndIsNotRunning, TellsRecoveryIfTaskFileErrorElseNamesNone}
 use Rattle.port_control.specs.declared.events.PortError.{PortError}
 use Rattle.port_control.specs.declared.events.PortError.TheVariants as kinds
 use Rattle.server_history.proofs.state.CallEvidence.{fatal_shows}
@@ -87,7 +87,7 @@ gains_more Such old mid new grows g = record {
 
 -- no command is named, and the port doesn't run, unless a command had failed
 pub given_up : (port_error : PortError) (port : Port) (outstanding : ℕ) (queued : Bool) (result : Recovered) (accesses : List Access) (old new : Device)
-    → ErrorHandlingIsBacked port_error port outstanding queued result accesses old new → port_error ≢ kinds.TaskFileError → NamesNoneAndIsNotRunning result
+    → TellsRecoveryIfTaskFileErrorElseNamesNone port_error port outstanding queued result accesses old new → port_error ≢ kinds.TaskFileError → NamesNoneAndIsNotRunning result
 given_up kinds.TaskFileError port outstanding queued result accesses old new t other = absurd (other refl)
 given_up kinds.FatalError port outstanding queued result accesses old new t other = t
 given_up kinds.LinkChanged port outstanding queued result accesses old new t other = t

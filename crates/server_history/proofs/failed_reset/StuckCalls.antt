@@ -134,7 +134,7 @@ module _ (laws : PrerequisiteLaws) (s : ServerState) (t : StuckInvariant s) wher
         then_stalled new same (access_idle laws (Storing (4096 * frame.0 + offset) bytes) tt s.device new stores) off (Store client frame offset bytes ∷ x.0.steps) x.0.steps_are_enabled x.1
       where
         same : SameAdapter s.device new
-        same = subst (SameAdapter s.device) (sym stores.effect) (let was = steps_same laws s.device stores.at_access stores.steps in record { telling = was.telling; memory_size = was.memory_size; cap = was.cap; pi = was.pi })
+        same = subst (SameAdapter s.device) (sym stores.effect) (let was = steps_same laws s.device stores.at_access stores.steps in record { disks_tell_sectors = was.disks_tell_sectors; memory_size = was.memory_size; cap = was.cap; pi = was.pi })
 
         off : IsOn new → ⊥
         off on = let then_on = subst IsOn stores.effect on in never_on stores.at_access stores.steps (record { ae_is_set = then_on.ae_is_set; no_reset = then_on.no_reset })

@@ -164,7 +164,7 @@ module _ (laws : PrerequisiteLaws) where
       accesses_idle accesses (All-tail OnlyDeviceChangesPorts access accesses its) mid new more port (access_idle access (All-head OnlyDeviceChangesPorts access accesses its) old mid does port idle)
 
   pub steps_same : (old new : Device) → Steps old new → SameAdapter old new
-  steps_same old new steps = let keeps = laws.steps_and_accesses.steps_keep_adapter_and_notes old new steps in record { telling = keeps.telling_is_kept; memory_size = keeps.memory_size_is_kept; cap = keeps.cap_is_kept; pi = keeps.pi_is_kept }
+  steps_same old new steps = let keeps = laws.steps_and_accesses.steps_keep_adapter_and_notes old new steps in record { disks_tell_sectors = keeps.disks_tell_sectors_is_kept; memory_size = keeps.memory_size_is_kept; cap = keeps.cap_is_kept; pi = keeps.pi_is_kept }
 
 -- ---- the server with another device
 

@@ -17,7 +17,7 @@ use Rattle.server_history.proofs.state.FollowedAccesses.{followed_adds}
 use Rattle.block_machine.specs.Events.{AllByDevice, AllEnabled, Reset, WasReset}
 use Rattle.block_machine.specs.Histories.{JointEvent, JointState, IsReachable, joint_state_after}
 use Rattle.block_machine.specs.Expected.{after}
-use Rattle.block_machine.specs.Ports.{PortsWellFormed, Evidence, RequestFault, IsAfterStuckReset, Ports, SameSerialAndSize}
+use Rattle.block_machine.specs.Ports.{PortsWellFormed, Evidence, RequestFault, IsDeadAfterStuckResetIfServed, Ports, SameSerialAndSize}
 use Rattle.block_machine.specs.State.{Machine}
 use Rattle.block_machine.specs.Steps.{Step}
 use Rattle.driver_history.specs.Evidence.{IsEvidencedOf}
@@ -219,7 +219,7 @@ module _ (laws : PrerequisiteLaws) (s new : ServerState) (b : ServerInvariant s)
     same_disk : (port : Port) → SameSerialAndSize old.abstract.ports (ports_of n) port
     same_disk port = subst (λ (p : Ports). SameSerialAndSize p (ports_of n) port) (sym ports_are) (ap last_serial_of (disk_same port), ap last_sectors_of (disk_same port))
 
-    gets_stuck : (port : Port) → IsAfterStuckReset old.abstract.ports evidence (ports_of n) port
+    gets_stuck : (port : Port) → IsDeadAfterStuckResetIfServed old.abstract.ports evidence (ports_of n) port
     unfolding evidence
     gets_stuck port = (
       served_same port.0 ∙ ap (λ (p : Ports). p.served port) (sym ports_are),

@@ -34,7 +34,7 @@ use Rattle.request_queue.specs.declared.disposition.Disposition.TheVariants.{Com
 use Rattle.request_queue.specs.declared.disposition.Revalidation.{Revalidation}
 use Rattle.request_queue.specs.declared.disposition.Revalidation.TheVariants.{SameDisk, DiskLost, Dead as NoEnd}
 use Rattle.server_history.specs.Histories.{ExtendsToStuck, LeadsToServer}
-use Rattle.block_machine.specs.Ports.{ChangesOnlyIfStoppedOrStuck, Ports, SamePort}
+use Rattle.block_machine.specs.Ports.{MayBecomeInService, Ports, SamePort}
 use Rattle.driver_history.specs.Histories.{IsForeignOrUnfit, IsServedAndNotDead, ProbesDisk}
 use Rattle.driver_history.specs.AccessTrace.{UsesPortsAndNotGhc, WritesNeitherCmdNorSctl}
 use Rattle.server_history.proofs.state.HistorySteps.{lead_by, ports_same}
@@ -437,7 +437,7 @@ module _ (laws : PrerequisiteLaws) (s : ServerState) (t : StuckInvariant s) wher
       was_never : (port : Port) → old.ports.state port ≢ ReadyState
       was_never port ready = never_ready s t.served_ports_are_dead port.0 (ap (λ (p : Ports). p.state port) (sym leads.state_is_at_history_end.ports_are) ∙ ready)
 
-      becomes : (port : Port) → ChangesOnlyIfStoppedOrStuck old.ports (told_by s.device old.ports) (ports_of s) port
+      becomes : (port : Port) → MayBecomeInService old.ports (told_by s.device old.ports) (ports_of s) port
       becomes port =
           let same = same_ports port in (
             (λ dead. same),

@@ -20,7 +20,7 @@ use Rattle.refinement.specs.Driver.{TapeBacksSteps}
 use Rattle.block_machine.specs.Events.{AllByDevice, AnswersLawfulAndWaitsOnStoppedPorts, AllEnabled, AreStepsOfCall, IsByDevice, IsLawfulAnswer, IssueIsLastOfRequest, IsLowerByPortThenId, AbstractState, Replied, Service, RepliesMatch, answers_of, issues_id}
 use Rattle.block_machine.specs.Histories.{IsReachable}
 use Rattle.block_machine.specs.Expected.{after}
-use Rattle.block_machine.specs.Ports.{Evidence, ChangesOnlyIfStoppedOrStuck, Ports, SamePort}
+use Rattle.block_machine.specs.Ports.{Evidence, MayBecomeInService, Ports, SamePort}
 use Rattle.block_machine.specs.State.{Machine, Pending}
 use Rattle.block_machine.specs.Steps.{Step, WaitAgain, Answer, Issue}
 use Rattle.block_machine.specs.declared.due.QueueMode.{QueueMode}
@@ -270,7 +270,7 @@ module _ (laws : PrerequisiteLaws) (port : Port) (replies : List Reply) (old new
       replies_are_of_answers = b.replies_are ∙ told_so port b.requests b.ended b.each_has_ended;
     }
 
-    becomes : ChangesOnlyIfStoppedOrStuck (ports_of old) its (ports_of new) port
+    becomes : MayBecomeInService (ports_of old) its (ports_of new) port
     becomes = (
       λ dead. port_same,
       λ lives. (

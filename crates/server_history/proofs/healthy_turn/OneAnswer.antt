@@ -181,7 +181,7 @@ module _ (laws : PrerequisiteLaws) (s new : ServerState) (port : Port) (e : Book
       let a = answer_one k.machine k.reached k.machine_relation in
       subst InCallInvariant (sym one.server_is)
       (kept_then s s.device s.grants new.table (with_slot s.slots port.0 slot None) (without_entry id s.book) s.last_id k k.rows_are_valid
-      k.adapter_is_on (record { telling = refl; memory_size = refl; cap = refl; pi = refl }) k.port_invariant one.lends_only.owners_are_kept
+      k.adapter_is_on (record { disks_tell_sectors = refl; memory_size = refl; cap = refl; pi = refl }) k.port_invariant one.lends_only.owners_are_kept
       (placed_four s.probe_results s.modes s.slots port.0 slot None k.slots_are_of_four_ports low slot_low few k.slots_invariant)
       (placed_has s.probe_results s.modes s.slots port.0 slot None k.slots_are_of_four_ports low slot_low few k.slots_invariant)
       (λ q n used h is there same. k.slots_queue_as_asked q n used h (freed_was s.slots port.0 slot in_list in_places q.0 n used is) ((laws.removal_keeps_other_entries s.book id h).0 there).0 same)

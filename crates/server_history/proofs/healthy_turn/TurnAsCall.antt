@@ -38,7 +38,7 @@ use Rattle.server_history.specs.Prerequisites.{PrerequisiteLaws}
 use Rattle.server_history.specs.IssuingAndAnswering.{StepsAnswer, PollsSlots, HasEnded, PollsInTurnWithoutEvent, IsAnsweredIn, IsMaskOf, ok_answers_newest_first, done_reply, is_used}
 use Rattle.server_history.proofs.any_turn.TurnSteps.{counts_none}
 use Rattle.server_history.proofs.any_turn.UnusedSlotBits.{unused_clear}
-use Rattle.server_history.specs.Turns.{FindsDoneInTurn, ServingReady, CorrespondsOrHandlesErrorsByTurn, joint_state_of, abstract_state_of}
+use Rattle.server_history.specs.Turns.{FindsDoneInTurn, ServingReady, CorrespondsInServiceLosesNoErrorInRestart, joint_state_of, abstract_state_of}
 use Rattle.server_history.specs.ServerState.{ServerState, InCallInvariant, MachineRelation, InvariantWithNoneDue, mode_in, ports_of, slots_at, state_of, used_for}
 use Rattle.server_history.proofs.state.AnswerSteps.{answered_in, ended_stood, in_answered, may_parts, no_answer, no_answer_issuing}
 use Rattle.server_history.proofs.state.TurnAccesses.{TurnList, look_does, look_list}
@@ -300,7 +300,7 @@ module _ (laws : PrerequisiteLaws) (port : Port) (replies : List Reply) (old new
       is_left_alone_if_calm = inr (record { port_is_same = same; only_ok_is_told = λ e o here own. inl (turn_ended e o here).1; is_neither_stopped_nor_stuck = uninterrupted });
     }
 
-    pub ties : CorrespondsOrHandlesErrorsByTurn ServingReady port replies list.driven.accesses old new m its steps
+    pub ties : CorrespondsInServiceLosesNoErrorInRestart ServingReady port replies list.driven.accesses old new m its steps
     ties = record {
       finds_done = λ is e own. finding turn.look_is_no_event e own;
       lone_plain_faults_are_told_unless_dead = λ alone. absurd (unfailing (inr alone.shows_only_tfes.tfes_is_set));

@@ -7,7 +7,7 @@ use Rattle.std.proofs.lemmas.List.Elements.{All-contains}
 use Rattle.std.proofs.lemmas.Option.{slice_get-get_or}
 use Rattle.ata_types.specs.declared.Port.{Port}
 use Rattle.ata_types.specs.declared.PortState.{PortState}
-use Rattle.ata_types.specs.declared.limits.TheConstants.{MOST_REQUEST_SECTORS}
+use Rattle.ata_types.specs.declared.limits.TheConstants.{MOST_READ_OR_WRITE_SECTORS}
 use Rattle.ata_types.specs.declared.PortState.TheVariants.{Absent, Ready as ReadyState, Foreign, Unfit, Dead}
 use Rattle.ata_types.specs.declared.grant.GrantRow.{GrantRow}
 use Rattle.ata_types.specs.declared.refusal.FrameFault.TheVariants.{FrameTwice, FrameLent}
@@ -48,8 +48,8 @@ between n top twice = (
 )
 
 count_is : (op : Op) (n : ℕ) → ((IsAllowedCount op n → ⊥) → ⊥) → IsAllowedCount op n
-count_is Read n twice = between n MOST_REQUEST_SECTORS twice
-count_is Write n twice = between n MOST_REQUEST_SECTORS twice
+count_is Read n twice = between n MOST_READ_OR_WRITE_SECTORS twice
+count_is Write n twice = between n MOST_READ_OR_WRITE_SECTORS twice
 count_is Trim n twice = between n 4194240 twice
 count_is Flush n twice = ⊎_elim (λ (same : n ≡ 0). same) (λ (other : n ≢ 0). absurd (twice other)) (cases_eq n 0)
 

@@ -175,7 +175,7 @@ module _ (laws : PrerequisiteLaws) (s : ServerState) (k : InCallInvariant s) (r 
   its_mark = record { revoked_mark_agrees = (λ plain. (row, named.0, named.1), λ has. refl); waiting_is_unmarked = λ waits. refl }
 
   pub accept_kept : InCallInvariant more
-  accept_kept = kept_then s s.device s.grants table s.slots (s.book ++ e ∷ []) (s.last_id + 1) k k.rows_are_valid k.adapter_is_on (record { telling = refl; memory_size = refl; cap = refl; pi = refl }) k.port_invariant lends.owners_are_kept k.slots_are_of_four_ports k.slots_invariant kinds_then k.slots_store_commands k.plain_is_alone_in_slot_0 accepted
+  accept_kept = kept_then s s.device s.grants table s.slots (s.book ++ e ∷ []) (s.last_id + 1) k k.rows_are_valid k.adapter_is_on (record { disks_tell_sectors = refl; memory_size = refl; cap = refl; pi = refl }) k.port_invariant lends.owners_are_kept k.slots_are_of_four_ports k.slots_invariant kinds_then k.slots_store_commands k.plain_is_alone_in_slot_0 accepted
       (laws.appending_keeps_book_well_formed s.book e k.book_is_well_formed earlier (refl, refl, refl, refl) its.client_is_at_least_1 its.client_is_at_most_8 (has_room s r acc row named port port_is))
       (All-push (RevokedMarkInvariant s.grants) s.book e k.revoked_marks_agree its_mark)
       (All-push (λ (x : BookEntry). x.request.id.0 ≤ s.last_id + 1) s.book e (All-weaker (λ (x : BookEntry). x.request.id.0 ≤ s.last_id) (λ (x : BookEntry). x.request.id.0 ≤ s.last_id + 1) (λ x low. omega (arith, low)) s.book k.ids_were_handed_out) (omega (arith, id_is)))

@@ -25,7 +25,7 @@ use Rattle.block_machine.specs.Steps.{Step, Issue, IsEnabled, after_step}
 use Rattle.block_machine.specs.declared.due.QueueMode.{QueueMode}
 use Rattle.block_machine.specs.declared.due.Unanswered.{Unanswered}
 use Rattle.commands.specs.Batches.{IsCommandIssueAccess, IssuesBatchAtEnd, MayServeBatch, PlacedTask, issues_newest_first, with_serving_batch}
-use Rattle.commands.specs.Tasks.{IsTaskOf, piece_addresses_of, meaning_of, task_operation, with_serving}
+use Rattle.commands.specs.Tasks.{IsTaskOf, task_places, meaning_of, task_operation, with_serving}
 use Rattle.commands.specs.declared.ncq.Task.{Task}
 use Rattle.host_boot.specs.TakeOver.{probe_result_of}
 use Rattle.host_boot.specs.declared.ProbeResult.{ProbeResult}
@@ -371,7 +371,7 @@ module _ (laws : PrerequisiteLaws) (s new : ServerState) (port : Port) (first : 
       })
       (λ (its : (q ≡ port.0) × ((t : PlacedTask) × Contains tasks t × (t.slot ≡ n) × (t.task.queued ≡ used.queued))).
       let t = its.1.0 in
-      let stored = All-contains (λ (x : PlacedTask). IsStoredOnPortWithStSet new.device port.0 x.slot (meaning_of x.task) (piece_addresses_of port.0 x.task.op x.task.range.count x.frames)) tasks t i.issued.stored its.1.1 in
+      let stored = All-contains (λ (x : PlacedTask). IsStoredOnPortWithStSet new.device port.0 x.slot (meaning_of x.task) (task_places port.0 x.task.op x.task.range.count x.frames)) tasks t i.issued.stored its.1.1 in
       subst (λ (queued : Bool). HasStoredCommand queued new.device q n) its.1.3
       (subst (λ (p : ℕ). HasStoredCommand t.task.queued new.device p n) (sym its.0) (subst (λ (slot : ℕ). HasStoredCommand t.task.queued new.device port.0 slot) its.1.2
       (record { command = _; places = _; stored = stored; is_queued_as_given = kind_of t its.1.1 }))))

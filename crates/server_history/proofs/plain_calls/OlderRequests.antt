@@ -10,7 +10,7 @@ use Rattle.ata_types.specs.declared.request.RequestId.{RequestId}
 use Rattle.adapter.specs.Commands.{Meaning}
 use Rattle.adapter.specs.Device.{DevicePort, FetchedCommand}
 use Rattle.refinement.specs.Fragments.{driver_state_of}
-use Rattle.refinement.specs.Slots.{MeansRequest, TouchedAsMoved, ServesRequest, IsInSomeStage}
+use Rattle.refinement.specs.Slots.{MeansRequest, TouchedAsMovedOrCleared, ServesRequest, IsInSomeStage}
 use Rattle.block_machine.specs.DueRequests.{NoneDue, is_plain}
 use Rattle.block_machine.specs.State.{Machine, Pending}
 use Rattle.block_machine.specs.Steps.{Age, after_step, aged_pending}
@@ -55,7 +55,7 @@ entry_by P ready r same other = by (r.issued && ready r.port)
 -- ---- its slot
 
 module _ (memory : ℕ → ℕ) (p : DevicePort) (port slot : ℕ) where
-  progress_on : (op : Op) (e : Pending) (age : ℕ) (t : FetchedCommand) → TouchedAsMoved op memory port e t → TouchedAsMoved op memory port (record e { age = age }) t
+  progress_on : (op : Op) (e : Pending) (age : ℕ) (t : FetchedCommand) → TouchedAsMovedOrCleared op memory port e t → TouchedAsMovedOrCleared op memory port (record e { age = age }) t
   progress_on Read e age t x = x
   progress_on Write e age t x = x
   progress_on Trim e age t x = x

@@ -26,7 +26,7 @@ use Rattle.server_history.specs.Prerequisites.{PrerequisiteLaws}
 use Rattle.server_history.specs.ErrorHandling.{HasResolved, HandlesPortError}
 use Rattle.port_control.specs.declared.events.PortError.TheVariants.{TimedOut}
 use Rattle.server_history.specs.ServerState.{InCallInvariant, MachineRelation, InvariantWithNoneDue, ServerState, mode_in, ports_of, state_of}
-use Rattle.server_history.specs.Turns.{IsPortTurn, InRestart, ServingReady, SimulatesTurn, RequeuesAndAbortsFitTurn, ServicesPort, CorrespondsOrHandlesErrorsByTurn, Turn, ask_of_turn}
+use Rattle.server_history.specs.Turns.{IsPortTurn, InRestart, ServingReady, SimulatesTurn, RequeuesAndAbortsFitTurn, ServicesPort, CorrespondsInServiceLosesNoErrorInRestart, Turn, ask_of_turn}
 use Rattle.server_history.proofs.recovery_turn.TurnAsCall.{heeds_trouble, ties_recovered}
 use Rattle.server_history.proofs.recovery_turn.DecidedSteps.{DecidesTurn, recovered_decides}
 use Rattle.server_history.proofs.recovery_turn.TurnEvidence.{IsEvident, evident}
@@ -88,7 +88,7 @@ module _ (laws : PrerequisiteLaws) (port : Port) (replies : List Reply) (old new
     d = recovered_decides laws port replies old new k ready r looks kept m reached is
 
     makes : (turn : Turn) → AreStepsOfCall {D = DeviceStep} (ask_of_turn turn) (ports_of new) d.steps → RequeuesAndAbortsFitTurn turn port e.accesses old new m (evidence_by r.has_resolved) d.steps
-        → CorrespondsOrHandlesErrorsByTurn turn port replies e.accesses old new m (evidence_by r.has_resolved) d.steps → SimulatesTurn turn port replies e.accesses old new m
+        → CorrespondsInServiceLosesNoErrorInRestart turn port replies e.accesses old new m (evidence_by r.has_resolved) d.steps → SimulatesTurn turn port replies e.accesses old new m
     makes turn belong owes ties = record {
       steps = d.steps;
       evidence = evidence_by r.has_resolved;

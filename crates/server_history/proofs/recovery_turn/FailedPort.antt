@@ -9,7 +9,7 @@ use Rattle.adapter.specs.Access.Access.{Reading}
 use Rattle.adapter.specs.Device.{Device}
 use Rattle.adapter.specs.Rules.{IsOn}
 use Rattle.refinement.specs.Fragments.{SomeMachineAgreesWith, AnySlotStates, IsSimulated}
-use Rattle.refinement.specs.PortFacts.{IsHaltedPlainOrQueued}
+use Rattle.refinement.specs.PortFacts.{IsHaltedByPlainOrQueued}
 use Rattle.error_recovery.specs.Recovery.{PlainUsesSlot0, PlainIsSlot0, PortMayRecover}
 use Rattle.driver_history.specs.PortInvariants.{EngineRuns}
 use Rattle.host_boot.specs.TakeOver.{StillBacksProbeResult, probe_result_of, wanted_of}
@@ -53,10 +53,10 @@ module _ (laws : PrerequisiteLaws) (s : ServerState) (seen found : Device) (port
   runs : EngineRuns port.0 found
   runs = (found_kept.port_invariant port.0 low).ready_engine_runs ready
 
-  first : IsHaltedPlainOrQueued (seen.port port.0).halt × ((seen.port port.0).notes.last_ssts % 16 ≡ 3)
+  first : IsHaltedByPlainOrQueued (seen.port port.0).halt × ((seen.port port.0).notes.last_ssts % 16 ≡ 3)
   first = laws.look_laws.look_finds_fault_halted port s.device seen k.adapter_is_on l was.st_is_set (λ _. was.faults_are_recorded)
 
-  halted : IsHaltedPlainOrQueued (found.port port.0).halt × ((found.port port.0).notes.last_ssts % 16 ≡ 3)
+  halted : IsHaltedByPlainOrQueued (found.port port.0).halt × ((found.port port.0).notes.last_ssts % 16 ≡ 3)
   halted =
       let r = both_read port mask done seen found finds in
       let mid = r.0 in

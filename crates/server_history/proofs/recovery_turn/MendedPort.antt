@@ -9,7 +9,7 @@ use Rattle.ata_types.specs.declared.PortState.TheVariants.{Dead as DeadState, Re
 use Rattle.ata_types.specs.declared.request.Reply.{Reply}
 use Rattle.adapter.specs.Device.{Device, DevicePort}
 use Rattle.refinement.specs.Fragments.{AnySlotStates, IsSimulated}
-use Rattle.block_machine.specs.Ports.{Evidence, IsStoppedOrStuck, ChangesOnlyIfStoppedOrStuck, SameSerialAndSize}
+use Rattle.block_machine.specs.Ports.{Evidence, IsStoppedOrStuck, MayBecomeInService, SameSerialAndSize}
 use Rattle.error_recovery.specs.declared.Next.{Next}
 use Rattle.error_recovery.specs.declared.Next.TheVariants as next
 use Rattle.host_boot.specs.Reboots.{RebootsPort, EndsReadyOrUnready}
@@ -214,7 +214,7 @@ module _ (laws : PrerequisiteLaws) (port : Port) (replies : List Reply) (old new
   pub interrupted : IsStoppedOrStuck its port
   interrupted = interrupted_by port x.port_error (old.device.port port.0) a.failed a.revalidation x.result.next (λ is. found_prospect (next_dead is))
 
-  pub becomes : ChangesOnlyIfStoppedOrStuck (ports_of old) its (ports_of new) port
+  pub becomes : MayBecomeInService (ports_of old) its (ports_of new) port
   becomes = (
     λ dead. (let z : ReadyState ≡ DeadState = sym ready ∙ dead in absurd cc),
     λ lives. (

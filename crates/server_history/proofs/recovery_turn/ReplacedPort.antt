@@ -137,7 +137,7 @@ module _ (laws : PrerequisiteLaws) (wanted : Wanted) (port : Port) (d new : Devi
 
     halts_as : (f : ProbeResult) → EndsReadyOrUnready wanted port f b.device_after_survey new → state_of f ≡ ReadyState → HaltFitsTakenCommands (new.port port.0)
     halts_as Unserved none is = absurd none
-    halts_as (Ready info) e is = e.halt_is_of_taken
+    halts_as (Ready info) e is = e.halt_fits_taken_commands
     halts_as (Unready state) e is = absurd (subst (λ (s : PortState). BacksState (serial_of wanted) s port.0 new) is e.state_is_backed)
 
     shown_as : (f : ProbeResult) → booted.found ≡ f → FoundUnusableDevice (state_of f) → HasDet3IfDiskPresent (new.port port.0)

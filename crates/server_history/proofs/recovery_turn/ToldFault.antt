@@ -41,7 +41,7 @@ use Rattle.request_queue.specs.declared.disposition.Disposition.TheVariants.{Com
 use Rattle.request_queue.specs.declared.disposition.Revalidation.{Revalidation}
 use Rattle.slots.specs.declared.SlotUse.{SlotUse}
 use Rattle.server_history.specs.Prerequisites.{PrerequisiteLaws}
-use Rattle.server_history.specs.ErrorHandling.{IsFailedRequest, LookTellsErrorUnlessTimedOut, IsErrorHandled, HasResolved, HandlesPortError, book_and_loans_of, requests_of, ErrorHandlingIsBacked}
+use Rattle.server_history.specs.ErrorHandling.{IsFailedRequest, LookTellsErrorUnlessTimedOut, IsErrorHandled, HasResolved, HandlesPortError, book_and_loans_of, requests_of, TellsRecoveryIfTaskFileErrorElseNamesNone}
 use Rattle.server_history.specs.IssuingAndAnswering.{AnswersEach, is_used}
 use Rattle.server_history.specs.ServerState.{ServerState, InCallInvariant, MachineRelation, ports_of, slots_at, state_of, used_for}
 use Rattle.server_history.specs.Turns.{IsTurnOrDeviceStep}
@@ -137,7 +137,7 @@ module _ (laws : PrerequisiteLaws) (port : Port) (replies : List Reply) (old new
   -- the port's last fault was of a slot that is in use still
   module _ (failing : x.port_error ≡ TaskFileError) (slot : ℕ) (used : SlotUse) (its : used_for old.slots port.0 slot ≡ Some used) (plain : used.queued ≡ false) where
     healed : TellsRecovery port x.outstanding x.queued x.result x.recovers_or_stops.accesses a.server_after_handling.device a.device_after_handling
-    healed = subst (λ (t : PortError). ErrorHandlingIsBacked t port x.outstanding x.queued x.result x.recovers_or_stops.accesses a.server_after_handling.device a.device_after_handling) failing x.tells_error_handling
+    healed = subst (λ (t : PortError). TellsRecoveryIfTaskFileErrorElseNamesNone t port x.outstanding x.queued x.result x.recovers_or_stops.accesses a.server_after_handling.device a.device_after_handling) failing x.tells_error_handling
 
     is_zero : slot ≡ 0
     is_zero = (k.plain_is_alone_in_slot_0 port.0 slot used its plain).0

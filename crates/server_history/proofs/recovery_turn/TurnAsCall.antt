@@ -19,7 +19,7 @@ use Rattle.port_control.specs.declared.events.PortError.TheVariants.{FatalError,
 use Rattle.server_history.specs.Prerequisites.{PrerequisiteLaws}
 use Rattle.server_history.specs.ErrorHandling.{AreAllQueuedAs, HandlesPortError}
 use Rattle.server_history.specs.ServerState.{ServerState, InCallInvariant, MachineRelation, ports_of, slots_at, state_of}
-use Rattle.server_history.specs.Turns.{HandlesShownErrors, ServingReady, CorrespondsOrHandlesErrorsByTurn, joint_state_of}
+use Rattle.server_history.specs.Turns.{LosesNoErrorAndRunsWellAnew, ServingReady, CorrespondsInServiceLosesNoErrorInRestart, joint_state_of}
 use Rattle.server_history.proofs.recovery_turn.DecidedSteps.{DecidesTurn}
 use Rattle.server_history.proofs.recovery_turn.TurnEvidence.{IsEvident}
 use Rattle.server_history.proofs.recovery_turn.ToldFault.{faulting}
@@ -77,13 +77,13 @@ module _ (laws : PrerequisiteLaws) (port : Port) (replies : List Reply) (old new
       by TimedOut is = absurd (unhung is)
 
   -- what a call does of trouble
-  pub heeds_trouble : HandlesShownErrors port evident.accesses (joint_state_of old m) (evidence_by r.has_resolved) (ports_of new) new.device
+  pub heeds_trouble : LosesNoErrorAndRunsWellAnew port evident.accesses (joint_state_of old m) (evidence_by r.has_resolved) (ports_of new) new.device
   heeds_trouble = record {
     loses_no_error = lasting laws port replies old new k ready r looks kept evident.parts m;
     runs_well_anew = going_well laws port replies old new k ready r looks kept evident plainly m;
   }
 
-  pub ties_recovered : r.has_resolved.error_handled.port_error ≢ TimedOut → CorrespondsOrHandlesErrorsByTurn ServingReady port replies evident.accesses old new m (evidence_by r.has_resolved) d.steps
+  pub ties_recovered : r.has_resolved.error_handled.port_error ≢ TimedOut → CorrespondsInServiceLosesNoErrorInRestart ServingReady port replies evident.accesses old new m (evidence_by r.has_resolved) d.steps
   ties_recovered unhung = record {
     finds_done = λ _ e issued. finding laws port replies old new k ready r looks kept evident m reached is d;
     lone_plain_faults_are_told_unless_dead = λ alone e slot issued unended says plain. faulting laws port replies old new k ready r looks kept m reached is d (failing unhung alone) e slot issued unended says plain;

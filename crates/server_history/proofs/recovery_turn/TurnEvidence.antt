@@ -19,7 +19,7 @@ use Rattle.refinement.specs.PreservedParts.{DoesNotWrite}
 use Rattle.block_machine.specs.Events.{AbstractCall, ShownDiskWasInOrCame, Replied, ShowsDisk, changes_disk}
 use Rattle.adapter.specs.declared.access.DeviceStep.{DeviceStep}
 use Rattle.block_machine.specs.Expected.{after}
-use Rattle.block_machine.specs.Ports.{RequestFault, ChangesOnlyIfStoppedOrStuck}
+use Rattle.block_machine.specs.Ports.{RequestFault, MayBecomeInService}
 use Rattle.block_machine.specs.State.{Machine}
 use Rattle.block_machine.specs.Steps.{Step}
 use Rattle.server_history.proofs.state.ListMembers.{contains_cases}
@@ -115,7 +115,7 @@ pub record IsEvident (port : Port) (replies : List Reply) (old new : ServerState
   pub others : LeavesOtherPortsGrantsAndLastId port old new
   pub silent : (q : ℕ) → q ≢ port.0 → state_of (probe_result_of old.probe_results q) ≢ DeadState → GainsNoMove q ReadLog old.device new.device
   pub names : PortListsNameOnly port (evidence_by r.has_resolved)
-  pub becomes : ChangesOnlyIfStoppedOrStuck (ports_of old) (evidence_by r.has_resolved) (ports_of new) port
+  pub becomes : MayBecomeInService (ports_of old) (evidence_by r.has_resolved) (ports_of new) port
   pub evidenced : (ask : AbstractCall DeviceStep) (m : Machine) → IsEvidencedOf ask (Replied replies) accesses (joint_state_of old m) (ports_of new) new.device (evidence_by r.has_resolved) port
   pub faults : (told : RequestFault) → Contains (evidence_by r.has_resolved).faults told → IsFaultOfUsedSlot port accesses old new told
   pub had : (m : Machine) → MachineRelation old m → (steps : List Step) → TapeBacksSteps old.device new.device m steps

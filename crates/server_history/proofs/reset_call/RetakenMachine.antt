@@ -96,7 +96,7 @@ gives_up k m knows rest = record {
     disks_are_same = knows.state_relation.disks_are_same;
     client_frames_are_same = knows.state_relation.client_frames_are_same;
     sectors_are_same_if_disks_tell = knows.state_relation.sectors_are_same_if_disks_tell;
-    holds_replug_candidates_if_disks_tell = knows.state_relation.holds_replug_candidates_if_disks_tell;
+    knows_replug_candidates_if_disks_tell = knows.state_relation.knows_replug_candidates_if_disks_tell;
   };
   have_slots_unless_parked = λ port e moves own. inl (⊎_elim
       (λ booked. Contains-append_left (map (λ (x : Pending). x.request.id) m.book) (map (λ (x : Pending). x.request.id) m.kept) e.request.id (into_map (λ (x : Pending). x.request.id) m.book e booked.0))

@@ -51,7 +51,7 @@ module _ (laws : PrerequisiteLaws) (s : ServerState) (client : ClientId) (number
     before = revoked.before laws s client number replies mid r k.machine may_revoke
 
     pub revoked_kept : InCallInvariant (with_revoked client number mid.table r.now.book s)
-    revoked_kept = kept_then s s.device (without_row client number s.grants) mid.table s.slots r.now.book s.last_id k (rows_then k.rows_are_valid) k.adapter_is_on (record { telling = refl; memory_size = refl; cap = refl; pi = refl }) k.port_invariant (r.lends.owners_are_kept ∙ left.owners) k.slots_are_of_four_ports k.slots_invariant
+    revoked_kept = kept_then s s.device (without_row client number s.grants) mid.table s.slots r.now.book s.last_id k (rows_then k.rows_are_valid) k.adapter_is_on (record { disks_tell_sectors = refl; memory_size = refl; cap = refl; pi = refl }) k.port_invariant (r.lends.owners_are_kept ∙ left.owners) k.slots_are_of_four_ports k.slots_invariant
         (λ q slot used e its here same.
         let b = before e here in
         k.slots_queue_as_asked q slot used b.0 its b.1 (sym b.2 ∙ same) ∙ ap (λ (o : Op). not (is_plain (mode_in s q) o)) (sym b.4))

@@ -11,7 +11,7 @@ use Rattle.ata_types.specs.declared.request.ClientId.{ClientId}
 use Rattle.ata_types.specs.declared.request.Frame.{Frame}
 use Rattle.ata_types.specs.declared.request.RequestId.{RequestId}
 use Rattle.adapter.specs.Device.{Device}
-use Rattle.adapter.specs.Idle.{IsIdle, DisksAreKnownIfTelling}
+use Rattle.adapter.specs.Idle.{IsIdle, DisksAreKnownIfTheyTell}
 use Rattle.refinement.specs.Relation.{SameSectors}
 use Rattle.refinement.specs.Replug.{replug_candidates}
 use Rattle.refinement.specs.Fragments.{driver_state_of}
@@ -75,11 +75,11 @@ machine_of d rows owner = record {
 }
 
 machine_knows : PrerequisiteLaws → (d : Device) (rows : List GrantRow) (owner : Frame → Option ClientId) → IsInitial (machine_of d rows owner) → IsIdle d
-    → DisksAreKnownIfTelling d → DriverRelation (machine_of d rows owner) (idle_driver_state d)
+    → DisksAreKnownIfTheyTell d → DriverRelation (machine_of d rows owner) (idle_driver_state d)
 machine_knows laws d rows owner start is told =
     laws.idle_device_is_related (machine_of d rows owner) d start is (λ q. record { present = refl; id = refl; sector_count = refl }) (λ f b low small. refl) sectors (λ _ port k. refl)
   where
-    sectors : d.telling ≡ true → (port : ℕ) → SameSectors (machine_of d rows owner) (d.port port).disk port
+    sectors : d.disks_tell_sectors ≡ true → (port : ℕ) → SameSectors (machine_of d rows owner) (d.port port).disk port
     sectors tells q =
         let t = told tells q in
         record { told_sectors = t.0; disk_tells = t.1; bytes_are_same = λ k b inside small. sym (ap (λ (s : Option (ℕ → List ℕ)). told_bytes s k b) t.1) }
@@ -174,7 +174,7 @@ none_in_order = record {
 
 -- ---- the whole
 
-module _ (below : PrerequisiteLaws) (laws : TakeOverLaws) (s : ServerState) (host : Host) (d : Device) (is : IsIdle d) (told : DisksAreKnownIfTelling d) (taken : TakesOver s.wanted host d s.device) (n : IsNewServer host s) where
+module _ (below : PrerequisiteLaws) (laws : TakeOverLaws) (s : ServerState) (host : Host) (d : Device) (is : IsIdle d) (told : DisksAreKnownIfTheyTell d) (taken : TakesOver s.wanted host d s.device) (n : IsNewServer host s) where
   ports_as : (port : ℕ) → port < 4 → PortInvariant s.wanted s.probe_results port s.device
   ports_as port low = ports_on laws s host d is taken n.probe_results_are_of_host n.host_has_four_ports below port low
 

@@ -82,7 +82,7 @@ module _ (laws : TakeOverLaws) (s : ServerState) (host : Host) (d : Device) (is 
 
   halts_as : (port : ℕ) → port < 4 → (f : ProbeResult) → probe_result_of s.probe_results port ≡ f → state_of f ≡ ReadyState → HaltFitsTakenCommands (s.device.port port)
   halts_as port below Unserved e ready = let z : Absent ≡ ReadyState = ready in absurd cc
-  halts_as port below (Ready info) e ready = taken.halt_is_of_taken port below info (sym (found_is port) ∙ e)
+  halts_as port below (Ready info) e ready = taken.halt_fits_taken_commands port below info (sym (found_is port) ∙ e)
   halts_as port below (Unready state) e ready = absurd (not_ready state ready (subst (λ (f : ProbeResult). BacksProbeResult (wanted_of s.wanted port) f port s.device) e (behind port below)))
     where
       not_ready : (state : PortState) → state ≡ ReadyState → BacksProbeResult (wanted_of s.wanted port) (Unready state) port s.device → ⊥

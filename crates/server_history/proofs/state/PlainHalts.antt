@@ -10,7 +10,7 @@ use Rattle.hba_regs.specs.declared.reg.Reg.TheVariants.{Px}
 use Rattle.adapter.specs.Commands.{Meaning, is_queued}
 use Rattle.adapter.specs.Access.{Access}
 use Rattle.adapter.specs.Device.{Device, Halt, DevicePort, FetchedCommand}
-use Rattle.adapter.specs.Device.Halt.{HaltedPlain, HaltedQueued, LogOnly, NotHalted}
+use Rattle.adapter.specs.Device.Halt.{HaltedByPlain, HaltedByQueued, LogOnly, NotHalted}
 use Rattle.adapter.specs.Steps.{halt_after_start}
 use Rattle.refinement.specs.Acts.{DriverSlots, driver_state_of_slots}
 use Rattle.refinement.specs.Fragments.{AnySlotStates, IsSimulated}
@@ -66,8 +66,8 @@ module _ (laws : PrerequisiteLaws) (s : ServerState) (k : InCallInvariant s) (po
     where
       by : (halt : Halt) → (s.device.port port.0).halt ≡ halt → halt_after_start (s.device.port port.0).halt ≡ NotHalted
       by NotHalted is = ap halt_after_start is
-      by HaltedPlain is = ap halt_after_start is
-      by HaltedQueued is = let q = h.queued_is_taken is in absurd (false≢true (sym ((each q.0).1 q.1 q.2) ∙ q.3))
+      by HaltedByPlain is = ap halt_after_start is
+      by HaltedByQueued is = let q = h.queued_is_taken is in absurd (false≢true (sym ((each q.0).1 q.1 q.2) ∙ q.3))
       by LogOnly is = absurd (h.is_not_log_only is)
 
 -- ---- where a halt is of a taken command

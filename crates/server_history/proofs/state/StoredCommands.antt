@@ -27,12 +27,12 @@ abbrev pub AreApart : (port slot other k : ℕ) → Type 0
 AreApart port slot other k = other ≡ port → k ≡ slot → ⊥
 
 -- a byte of the slot's header or table
-abbrev pub IsWithin : (port slot place : ℕ) → Type 0
-IsWithin port slot place =
+abbrev pub IsSubsetOf : (port slot place : ℕ) → Type 0
+IsSubsetOf port slot place =
     ((DRIVER_BYTES_PER_PORT * port + 32 * slot ≤ place) × (place < DRIVER_BYTES_PER_PORT * port + 32 * slot + 32))
     ⊎ ((DRIVER_BYTES_PER_PORT * port + TABLES_OFFSET + TABLE_BYTES * slot ≤ place) × (place < DRIVER_BYTES_PER_PORT * port + TABLES_OFFSET + TABLE_BYTES * slot + TABLE_BYTES))
 
-pub of_table : (port slot place : ℕ) → IsTableOrHeaderByteButPrdbc port slot place → IsWithin port slot place
+pub of_table : (port slot place : ℕ) → IsTableOrHeaderByteButPrdbc port slot place → IsSubsetOf port slot place
 of_table port slot place (inl t) = inl (omega (arith, t.0), omega (arith, t.1))
 of_table port slot place (inr (inl t)) = inl (omega (arith, t.0), omega (arith, t.1))
 of_table port slot place (inr (inr t)) = inr (omega (arith, t.0), omega (arith, t.1))
@@ -41,24 +41,24 @@ of_table port slot place (inr (inr t)) = inr (omega (arith, t.0), omega (arith, 
 abbrev IsBeyond : (port place : ℕ) → Type 0
 IsBeyond port place = (DRIVER_BYTES_PER_PORT * port + SCRATCH_OFFSET ≤ place) × (place < DRIVER_BYTES_PER_PORT * port + SCRATCH_OFFSET + 512)
 
-pub of_store : (port slot at place : ℕ) (bytes : List ℕ) → IsHeaderOrTableStore port slot (Storing at bytes) → at ≤ place → place < at + length bytes → IsWithin port slot place
+pub of_store : (port slot at place : ℕ) (bytes : List ℕ) → IsHeaderOrTableStore port slot (Storing at bytes) → at ≤ place → place < at + length bytes → IsSubsetOf port slot place
 of_store port slot at place bytes (inl h) from to = inl (omega (arith, h.0, from), omega (arith, h.0, h.1, to))
 of_store port slot at place bytes (inr t) from to = inr (omega (arith, t.0, from), omega (arith, t.1, to))
 
 -- of two slots none is the other's
-pub never_both : (port slot other k place : ℕ) → port < 4 → slot < 32 → other < 4 → k < 32 → AreApart port slot other k → IsWithin port slot place → IsWithin other k place → ⊥
+pub never_both : (port slot other k place : ℕ) → port < 4 → slot < 32 → other < 4 → k < 32 → AreApart port slot other k → IsSubsetOf port slot place → IsSubsetOf other k place → ⊥
 never_both port slot other k place a b c d apart x y = ⊎_elim
     (λ (same : other ≡ port). ⊎_elim (λ (its : k ≡ slot). apart same its) (λ (ne : k ≢ slot). same_port same ne x y) (cases_eq k slot))
     (λ (ne : other ≢ port). other_port ne x y)
     (cases_eq other port)
   where
-    same_port : other ≡ port → k ≢ slot → IsWithin port slot place → IsWithin other k place → ⊥
+    same_port : other ≡ port → k ≢ slot → IsSubsetOf port slot place → IsSubsetOf other k place → ⊥
     same_port same ne (inl h) (inl i) = omega (arith, a, b, c, d, same, ne, h.0, h.1, i.0, i.1)
     same_port same ne (inl h) (inr i) = omega (arith, a, b, c, d, same, ne, h.0, h.1, i.0, i.1)
     same_port same ne (inr h) (inl i) = omega (arith, a, b, c, d, same, ne, h.0, h.1, i.0, i.1)
     same_port same ne (inr h) (inr i) = omega (arith, a, b, c, d, same, ne, h.0, h.1, i.0, i.1)
 
-    other_port : other ≢ port → IsWithin port slot place → IsWithin other k place → ⊥
+    other_port : other ≢ port → IsSubsetOf port slot place → IsSubsetOf other k place → ⊥
     other_port ne (inl h) (inl i) = omega (arith, a, b, c, d, ne, h.0, h.1, i.0, i.1)
     other_port ne (inl h) (inr i) = omega (arith, a, b, c, d, ne, h.0, h.1, i.0, i.1)
     other_port ne (inr h) (inl i) = omega (arith, a, b, c, d, ne, h.0, h.1, i.0, i.1)
@@ -75,7 +75,7 @@ service_leaves_stored laws other k access is misses = record {
 }
 
 -- the block of a trim is no byte of a header or table
-never_beyond : (port other k place : ℕ) → port < 4 → other < 4 → k < 32 → IsBeyond port place → IsWithin other k place → ⊥
+never_beyond : (port other k place : ℕ) → port < 4 → other < 4 → k < 32 → IsBeyond port place → IsSubsetOf other k place → ⊥
 never_beyond port other k place a b c block (inl h) = ⊎_elim
     (λ (less : other < port). omega (arith, a, b, c, less, block.0, block.1, h.0, h.1))
     (λ (most : port ≤ other). omega (arith, a, b, c, most, block.0, block.1, h.0, h.1))

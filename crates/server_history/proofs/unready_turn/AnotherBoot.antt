@@ -15,7 +15,7 @@ use Rattle.adapter.specs.Rules.{HasPort, IsOn}
 use Rattle.adapter.specs.declared.command.Operation.TheVariants.{ReadLog}
 use Rattle.refinement.specs.Acts.{DriverSlots}
 use Rattle.refinement.specs.Fragments.{SomeMachineAgreesWith, AnySlotStates, IsSimulated, AccessesNoOtherPort, GainsNoMove}
-use Rattle.block_machine.specs.Ports.{IsStoppedOrStuck, ChangesOnlyIfStoppedOrStuck}
+use Rattle.block_machine.specs.Ports.{IsStoppedOrStuck, MayBecomeInService}
 use Rattle.driver_history.specs.AccessTrace.{StaysInDriverFrames}
 use Rattle.error_recovery.specs.Recovery.{EndsAsNext, StopsOrSticksForReset, IsRecoveryAccess}
 use Rattle.error_recovery.specs.declared.Next.{Next}
@@ -237,7 +237,7 @@ module _ (laws : PrerequisiteLaws) (s new : ServerState) (seen : Device) (port :
 
   -- ---- what is told
 
-  becomes : ChangesOnlyIfStoppedOrStuck (ports_of s) (evidence_tried (stopped_of port b.probes_anew.result.next) (stuck_if port b.found)) (ports_of then_is) port
+  becomes : MayBecomeInService (ports_of s) (evidence_tried (stopped_of port b.probes_anew.result.next) (stuck_if port b.found)) (ports_of then_is) port
   becomes = (
     λ dead. absurd (lives (sym (ap state_of is) ∙ dead)),
     λ _. (

@@ -142,7 +142,7 @@ module _ (laws : PrerequisiteLaws) (wanted : Wanted) (port : Port) (first old ne
 
   stands : (state : Shown) → state ≢ Dead → ShowsAsBefore state v → StillBacksProbeResult wanted (Unready state) port.0 first → StillBacksProbeResult wanted (Unready state) port.0 new
   stands state lives shows s =
-      let x = left_on laws wanted (Unready state) port.0 first before (record { telling = same.telling; memory_size = same.memory_size; cap = same.cap; pi = same.pi }) left_before (λ _. silent) s in
+      let x = left_on laws wanted (Unready state) port.0 first before (record { disks_tell_sectors = same.disks_tell_sectors; memory_size = same.memory_size; cap = same.cap; pi = same.pi }) left_before (λ _. silent) s in
       (x.0, ends state lives shows x.1)
 
 -- ---- a look

@@ -14,7 +14,7 @@ use Rattle.refinement.specs.Driver.{TapeBacksSteps}
 use Rattle.refinement.specs.Errors.{NoDiskComes}
 use Rattle.block_machine.specs.Events.{AllByDevice, AllEnabled, ShownDiskWasInOrCame, Replied, Service, RepliesMatch, UnpluggedOutcomeEmptiesPort}
 use Rattle.block_machine.specs.Expected.{after}
-use Rattle.block_machine.specs.Ports.{Evidence, IsStoppedOrStuck, ChangesOnlyIfStoppedOrStuck, SamePort}
+use Rattle.block_machine.specs.Ports.{Evidence, IsStoppedOrStuck, MayBecomeInService, SamePort}
 use Rattle.block_machine.specs.State.{Machine}
 use Rattle.block_machine.specs.Steps.{Step}
 use Rattle.driver_history.specs.EvidenceHandling.{OnlyPortsShowingErrorRequeueAbortRevokeFault}
@@ -22,14 +22,14 @@ use Rattle.driver_history.specs.Evidence.{IsEvidencedOf}
 use Rattle.driver_history.specs.Histories.{LosesNoPortError, RunsWellAnew, ProbesDisk}
 use Rattle.driver_history.specs.PortInvariants.{HasNoUnanswered}
 use Rattle.driver_history.specs.AccessTrace.{WritesNeitherCmdNorSctl, LastSctlWritesResetLink}
-use Rattle.driver_history.specs.PortTurn.{UnusableWithXEndsNotDueAbsentOrDeadIfNoneComes}
+use Rattle.driver_history.specs.PortTurn.{NoLinkDueAfterXUnlessAbsentDeadOrDiskComes}
 use Rattle.host_boot.specs.TakeOver.{probe_result_of}
 use Rattle.port_control.specs.Engines.{EngineSticks, Stops}
 use Rattle.request_queue.specs.BookEntries.{BookEntry}
 use Rattle.request_queue.specs.BookRelation.{EntryRelation}
 use Rattle.server_history.specs.Prerequisites.{PrerequisiteLaws}
 use Rattle.server_history.specs.ServerState.{InCallInvariant, MachineRelation, InvariantWithNoneDue, ServerState, mode_in, ports_of, state_of}
-use Rattle.server_history.specs.Turns.{ServingReady, InProbe, IsTurnOrDeviceStep, SimulatesTurn, PortListsNameOnly, RequeuesAndAbortsFitTurn, CorrespondsOrHandlesErrorsByTurn, joint_state_of, abstract_state_of}
+use Rattle.server_history.specs.Turns.{ServingReady, InProbe, IsTurnOrDeviceStep, SimulatesTurn, PortListsNameOnly, RequeuesAndAbortsFitTurn, CorrespondsInServiceLosesNoErrorInRestart, joint_state_of, abstract_state_of}
 use Rattle.server_history.proofs.state.AnswerSteps.{no_answer}
 use Rattle.server_history.proofs.state.DueRequests.{none_issued}
 use Rattle.server_history.proofs.state.DeviceSteps.{devices_belong, devices_last, devices_lawful}
@@ -47,7 +47,7 @@ evidence_tried stopped stuck = record { faults = []; lost = []; link_changed = [
 pub record TellsTried (port : Port) (stopped stuck : List Port) (accesses : List Access) (old new : ServerState) : Type 0 where
   pub its_stopped : All (λ q. q ≡ port) stopped
   pub its_stuck : All (λ q. q ≡ port) stuck
-  pub becomes : ChangesOnlyIfStoppedOrStuck (ports_of old) (evidence_tried stopped stuck) (ports_of new) port
+  pub becomes : MayBecomeInService (ports_of old) (evidence_tried stopped stuck) (ports_of new) port
   pub engine : All (WritesNeitherCmdNorSctl port) accesses ⊎ IsStoppedOrStuck (evidence_tried stopped stuck) port
   pub stops : Contains stopped port → Stops port accesses
   pub sticks : Contains stuck port → EngineSticks port accesses × ((new.device.port port.0).notes.engine_wait_count ≡ MOST_READINGS)
@@ -65,7 +65,7 @@ pub record AddsTried (port : Port) (old new : ServerState) (m : Machine) : Type 
 -- absent; and no trouble of it is lost.
 pub record DoesTried (port : Port) (evidence : Evidence) (accesses : List Access) (old new : ServerState) : Type 0 where
   pub probes : (m : Machine) → NoDiskComes port.0 old.device new.device → ProbesDisk accesses (joint_state_of old m) (ports_of new) new.device port
-  pub linked : (m : Machine) → UnusableWithXEndsNotDueAbsentOrDeadIfNoneComes port (joint_state_of old m) (ports_of new) new.device
+  pub linked : (m : Machine) → NoLinkDueAfterXUnlessAbsentDeadOrDiskComes port (joint_state_of old m) (ports_of new) new.device
   pub boots : SamePort (ports_of old) (ports_of new) port ⊎ (((ports_of new).state port ≡ Dead) ⊎ (((ports_of new).state port ≡ Absent) ⊎ LastSctlWritesResetLink port accesses))
   pub port_error : (m : Machine) → LosesNoPortError evidence (joint_state_of old m) (ports_of new) new.device port
   pub well : (m : Machine) → RunsWellAnew evidence accesses (joint_state_of old m) (ports_of new) new.device port
@@ -128,7 +128,7 @@ module _ (laws : PrerequisiteLaws) (port : Port) (old : ServerState) (k : InCall
       owes : RequeuesAndAbortsFitTurn InProbe port accesses old new m its x.steps
       owes = (devices_all (OnlyPortsShowingErrorRequeueAbortRevokeFault its) (device_grounded its) tt x.steps x.only, refl, refl)
 
-      ties : CorrespondsOrHandlesErrorsByTurn InProbe port [] accesses old new m its x.steps
+      ties : CorrespondsInServiceLosesNoErrorInRestart InProbe port [] accesses old new m its x.steps
       ties = (
         record {
           finds_done = λ ready. absurd (unready ready);

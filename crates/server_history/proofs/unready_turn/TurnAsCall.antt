@@ -22,7 +22,7 @@ use Rattle.block_machine.specs.Ports.{Evidence, IsStoppedOrStuck}
 use Rattle.block_machine.specs.State.{Machine}
 use Rattle.driver_history.specs.Histories.{IsForeignOrUnfit, HasFirstFisOrNoDevice, ProbesDisk}
 use Rattle.driver_history.specs.AccessTrace.{LastSctlWritesResetLink}
-use Rattle.driver_history.specs.PortTurn.{UnusableWithXEndsNotDueAbsentOrDeadIfNoneComes}
+use Rattle.driver_history.specs.PortTurn.{NoLinkDueAfterXUnlessAbsentDeadOrDiskComes}
 use Rattle.error_recovery.specs.Evidence.{GainsSinceStart, HidesNoTrouble}
 use Rattle.error_recovery.specs.declared.Next.{Next}
 use Rattle.error_recovery.specs.declared.Next.TheVariants as next
@@ -204,7 +204,7 @@ module _ (laws : PrerequisiteLaws) (s new : ServerState) (seen : Device) (port :
   since : (f : FindsSome) → ShowsDisk (state_of f.booted.found) → NoDiskComes port.0 s.device new.device → NoDiskComes port.0 f.boots.device_after_survey new.device
   since f shows comes = let x = sees f shows in (none_parts laws port s.device f.boots.device_after_survey new.device x.before x.since comes).1
 
-  boot_linked : (m : Machine) → UnusableWithXEndsNotDueAbsentOrDeadIfNoneComes port (joint_state_of s m) (ports_of then) new.device
+  boot_linked : (m : Machine) → NoLinkDueAfterXUnlessAbsentDeadOrDiskComes port (joint_state_of s m) (ports_of then) new.device
   boot_linked m bad came comes = ⊎_elim
       (λ dead. inr (inl dead))
       (λ f. ⊎_elim (λ shows. inr (inr ((clear f shows).undue (since f shows comes)))) (λ absent. inl absent) f.shows)

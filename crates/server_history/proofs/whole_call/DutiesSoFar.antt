@@ -29,7 +29,7 @@ use Rattle.host_boot.specs.TakeOver.{probe_result_of}
 use Rattle.host_boot.specs.declared.ProbeResult.{ProbeResult}
 use Rattle.server_history.specs.Prerequisites.{PrerequisiteLaws}
 use Rattle.server_history.specs.ServerState.{ServerState, MachineRelation, InvariantWithNoneDue, is_served, ports_of, state_of}
-use Rattle.server_history.specs.Turns.{RestingInTick, IsPortTurn, InRestart, SimulatesTurn, RequeuesAndAbortsFitTurn, RestartsPort, CorrespondsOrHandlesErrorsByTurn}
+use Rattle.server_history.specs.Turns.{RestingInTick, IsPortTurn, InRestart, SimulatesTurn, RequeuesAndAbortsFitTurn, RestartsPort, CorrespondsInServiceLosesNoErrorInRestart}
 use Rattle.server_history.proofs.whole_call.EarlierResults as carrying
 use Rattle.server_history.proofs.any_turn.JoinedParts.{ready_or_not, same_then}
 use Rattle.server_history.proofs.whole_call.TurnResults as lifting
@@ -160,8 +160,8 @@ module _ (hung : ℕ → Bool) (laws : PrerequisiteLaws) (s : ServerState) (star
           r : RestartsPort (port_at n) part.accesses c mid m x.evidence x.steps
           r = (subst (λ (b : Bool). RequeuesAndAbortsFitTurn (if b then InRestart else RestingInTick) (port_at n) part.accesses c mid m x.evidence x.steps) so x.requeues_and_aborts_fit_turn).0
 
-          ties : CorrespondsOrHandlesErrorsByTurn InRestart (port_at n) its part.accesses c mid m x.evidence x.steps
-          ties = subst (λ (b : Bool). CorrespondsOrHandlesErrorsByTurn (if b then InRestart else RestingInTick) (port_at n) its part.accesses c mid m x.evidence x.steps) so x.turn_corresponds
+          ties : CorrespondsInServiceLosesNoErrorInRestart InRestart (port_at n) its part.accesses c mid m x.evidence x.steps
+          ties = subst (λ (b : Bool). CorrespondsInServiceLosesNoErrorInRestart (if b then InRestart else RestingInTick) (port_at n) its part.accesses c mid m x.evidence x.steps) so x.turn_corresponds
 
       rested : hung n ≡ false → HasRested old (port_at n) accesses mid evidence all
       rested not_so = record {

@@ -23,7 +23,7 @@ use Rattle.driver_history.specs.Evidence.{ShowsLinkChange, ShowsFailure}
 use Rattle.driver_history.specs.Histories.{IsForeignOrUnfit, HasOnlyTaskFileError, IsAnsweredFaulty, PortCorresponds}
 use Rattle.driver_history.specs.PortTurn.{HasTurnIn, EvidenceAgreesOn}
 use Rattle.server_history.specs.Prerequisites.{PrerequisiteLaws}
-use Rattle.server_history.specs.Turns.{IsPortTurn, HandlesShownErrors, ServingReady, SimulatesTurn, joint_event_of_turn}
+use Rattle.server_history.specs.Turns.{IsPortTurn, LosesNoErrorAndRunsWellAnew, ServingReady, SimulatesTurn, joint_event_of_turn}
 use Rattle.server_history.specs.ServerState.{ServerState, InCallInvariant, MachineRelation, InvariantWithNoneDue, ports_of}
 use Rattle.server_history.proofs.any_turn.JoinedParts.{same_then}
 use Rattle.server_history.proofs.any_turn.TurnSteps.{stood}
@@ -132,7 +132,7 @@ module _ (laws : PrerequisiteLaws) (s : ServerState) (start : InvariantWithNoneD
       not_absent : old.ports.state q ≡ Absent → ⊥
       not_absent absent = let z : Absent ≡ ReadyState = sym absent ∙ asked in absurd cc
 
-      heeds_trouble : HandlesShownErrors q accesses began evidence (ports_of mid) mid.device
+      heeds_trouble : LosesNoErrorAndRunsWellAnew q accesses began evidence (ports_of mid) mid.device
       heeds_trouble = carrying.trouble_still AService laws s start old reached at ports_are n c mid before its p part m_reached q apart d evidence alike same (λ _. stops_troubled) (λ _. inl undue) (record { loses_no_error = did.loses_no_error; runs_well_anew = did.runs_well_anew })
 
       pub ties_still : PortCorresponds began (joint_event_of_turn ServingReady [] mid evidence all) accesses q

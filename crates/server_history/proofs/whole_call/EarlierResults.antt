@@ -30,7 +30,7 @@ use Rattle.driver_history.specs.PortTurn.{HasTurnIn, KeepsToAnotherPort, Evidenc
 use Rattle.driver_history.specs.AccessTrace.{UsesPortsAndNotGhc, LastSctlWritesResetLink}
 use Rattle.driver_history.specs.PortInvariants.{EngineRuns}
 use Rattle.server_history.specs.Prerequisites.{PrerequisiteLaws}
-use Rattle.server_history.specs.Turns.{IsPortTurn, HandlesShownErrors, SimulatesTurn, abstract_state_of}
+use Rattle.server_history.specs.Turns.{IsPortTurn, LosesNoErrorAndRunsWellAnew, SimulatesTurn, abstract_state_of}
 use Rattle.server_history.specs.ServerState.{ServerState, InCallInvariant, MachineRelation, InvariantWithNoneDue, ports_of, state_of}
 use Rattle.server_history.proofs.any_turn.TurnSteps.{others_were}
 use Rattle.server_history.proofs.whole_call.ServiceAndTick.{Plan, Uses, no_reset, turn_at}
@@ -179,7 +179,7 @@ module _ (plan : Plan) (laws : PrerequisiteLaws) (s : ServerState) (start : Inva
         pub trouble_still : (evidence : Evidence) → EvidenceAgreesOn q p.evidence evidence → SamePort (ports_of c) (ports_of mid) q
             → ((old.ports.state q ≡ ReadyState) ⊎ (state_of (probe_result_of c.probe_results q.0) ≡ ReadyState) → ShowsFailure (s.device.port q.0) ⊎ ShowsLinkChange (s.device.port q.0) → IsStoppedOrStuck p.evidence q)
             → (state_of (probe_result_of c.probe_results q.0) ≡ ReadyState → ((s.device.port q.0).link_due ≡ false) ⊎ LastSctlWritesResetLink q p.accesses)
-            → HandlesShownErrors q p.accesses began p.evidence (ports_of c) c.device → HandlesShownErrors q accesses began evidence (ports_of mid) mid.device
+            → LosesNoErrorAndRunsWellAnew q p.accesses began p.evidence (ports_of c) c.device → LosesNoErrorAndRunsWellAnew q accesses began evidence (ports_of mid) mid.device
         trouble_still evidence alike same stops_troubled linked did = record {
           loses_no_error = laws.calls.turn_trouble_is_calls q began old (ports_of c) (ports_of mid) mid.device p.evidence evidence kept.adapter_is_on t p.adapter_is_on same alike same_self set_since stops_troubled did.loses_no_error;
           runs_well_anew = laws.calls.turn_running_well_is_calls q began old (ports_of c) (ports_of mid) mid.device p.evidence evidence kept.adapter_is_on t p.adapter_is_on linked same alike (λ ready_c. (runs_so_far ready_c).faults_are_recorded.st_set_is_on_tape) did.runs_well_anew;

@@ -20,17 +20,17 @@ use Rattle.refinement.specs.Driver.{TapeBacksSteps}
 use Rattle.block_machine.specs.Events.{AnswersLawfulAndWaitsOnStoppedPorts, AnswersOkWhatHadEnded, AreStepsOfCall, ShownDiskWasInOrCame, IsLowerByPortThenId, AbstractState, IssuedOnPortAreIssuedInSteps, Replied, UnpluggedOutcomeEmptiesPort, answers_of, reply_of}
 use Rattle.block_machine.specs.Histories.{JointState, IsReachable}
 use Rattle.block_machine.specs.Expected.{after}
-use Rattle.block_machine.specs.Ports.{Evidence, RequestFault, IsStoppedOrStuck, ChangesOnlyIfStoppedOrStuck, Ports, SameSerialAndSize, SamePort}
+use Rattle.block_machine.specs.Ports.{Evidence, RequestFault, IsStoppedOrStuck, MayBecomeInService, Ports, SameSerialAndSize, SamePort}
 use Rattle.block_machine.specs.State.{Pending}
 use Rattle.block_machine.specs.Steps.{Step, WaitAgain, Answer}
 use Rattle.host_boot.specs.TakeOver.{probe_result_of}
 use Rattle.driver_history.specs.Evidence.{IsEvidencedOf, IsFaultTold}
 use Rattle.driver_history.specs.Histories.{FindsDone, IsForeignOrUnfit, IssuesDue, PortCorresponds}
 use Rattle.driver_history.specs.PortInvariants.{HasNoUnanswered}
-use Rattle.driver_history.specs.PortTurn.{UnusableWithXEndsNotDueAbsentOrDeadIfNoneComes, KeepsToAnotherPort}
+use Rattle.driver_history.specs.PortTurn.{NoLinkDueAfterXUnlessAbsentDeadOrDiskComes, KeepsToAnotherPort}
 use Rattle.driver_history.specs.AccessTrace.{UsesPortsAndNotGhc, WritesNeitherCmdNorSctl, LastSctlWritesResetLink}
 use Rattle.server_history.specs.Prerequisites.{PrerequisiteLaws}
-use Rattle.server_history.specs.Turns.{HandlesShownErrors, ServingReady, IsByDeviceOrOnSuchPort, abstract_state_of, joint_event_of_turn}
+use Rattle.server_history.specs.Turns.{LosesNoErrorAndRunsWellAnew, ServingReady, IsByDeviceOrOnSuchPort, abstract_state_of, joint_event_of_turn}
 use Rattle.server_history.proofs.whole_call.ServiceAndTick.{AService, ATick, OwesBy, Plan, TakesTurn, Uses, asks_for, owes_nothing, ready_takes}
 use Rattle.server_history.specs.ServerState.{ServerState, InCallInvariant, MachineRelation, InvariantWithNoneDue, mode_at, mode_in, ports_of, remembered_at, slots_at, state_of}
 use Rattle.server_history.proofs.state.DueRequests.{none_issued}
@@ -52,7 +52,7 @@ pub record IsRestarted (old : JointState Device) (port : Port) (accesses : List 
   pub another : (e : Pending) → Contains steps (Answer e Unplugged) → e.request.port ≡ port
       → (state_of (probe_result_of c.probe_results port.0) ≢ Dead) × (state_of (probe_result_of c.probe_results port.0) ≡ ReadyState → SameSerialAndSize old.abstract.ports (ports_of c) port → ⊥)
   pub disk : ShownDiskWasInOrCame old.abstract steps (abstract_state_of c (after old.abstract.machine steps)) port
-  pub heeds : HandlesShownErrors port accesses old evidence (ports_of c) c.device
+  pub heeds : LosesNoErrorAndRunsWellAnew port accesses old evidence (ports_of c) c.device
 
 -- It has let the port rest.
 pub record HasRested (old : AbstractState) (port : Port) (accesses : List Access) (c : ServerState) (evidence : Evidence) (steps : List Step) : Type 0 where
@@ -69,7 +69,7 @@ pub record HasTicked (hung : ℕ → Bool) (s : ServerState) (old : AbstractStat
 
 abbrev pub TiesSoFar : Plan → ServerState → AbstractState → Port → List Access → ServerState → Evidence → List Step → Type 0
 TiesSoFar AService s old port accesses c evidence steps =
-    PortCorresponds (record { device = s.device; abstract = old }) (joint_event_of_turn ServingReady [] c evidence steps) accesses port × UnusableWithXEndsNotDueAbsentOrDeadIfNoneComes port (record { device = s.device; abstract = old }) (ports_of c) c.device
+    PortCorresponds (record { device = s.device; abstract = old }) (joint_event_of_turn ServingReady [] c evidence steps) accesses port × NoLinkDueAfterXUnlessAbsentDeadOrDiskComes port (record { device = s.device; abstract = old }) (ports_of c) c.device
 TiesSoFar (ATick hung) s old port accesses c evidence steps = HasTicked hung s old port accesses c evidence steps
 
 -- nothing is done of a port that had no turn
@@ -133,7 +133,7 @@ module _ (plan : Plan) (laws : PrerequisiteLaws) (s : ServerState) (start : Inva
 
   -- What is so of a port that had its turn, or none, at the end of what was done so far.
   pub record IsDone (c : ServerState) (accesses : List Access) (steps : List Step) (evidence : Evidence) (q : Port) : Type 0 where
-    pub becomes : ChangesOnlyIfStoppedOrStuck old.ports evidence (ports_of c) q
+    pub becomes : MayBecomeInService old.ports evidence (ports_of c) q
     pub disk : SamePort old.ports (ports_of c) q ⊎ ShownDiskWasInOrCame old steps (abstract_state_of c (after old.machine steps)) q
     pub keeps : SameSerialAndSize old.ports (ports_of c) q ⊎ HasNoUnanswered (after old.machine steps) q
     pub evidenced : IsEvidencedOf (asks_for plan) (Replied []) accesses began (ports_of c) c.device evidence q

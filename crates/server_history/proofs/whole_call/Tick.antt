@@ -45,7 +45,7 @@ use Rattle.request_queue.specs.BookRelation.{EntryRelation}
 use Rattle.server_history.specs.Prerequisites.{PrerequisiteLaws}
 use Rattle.server_history.specs.Histories.{ExtendsToNoneDue, LeadsToServer}
 use Rattle.server_history.specs.ServerState.{ServerState, InCallInvariant, MachineRelation, InvariantWithNoneDue, mode_in, ports_of, state_of}
-use Rattle.server_history.specs.Turns.{RestingInTick, IsPortTurn, HandlesShownErrors, InRestart, ServingReady, IsByDeviceOrOnSuchPort, Ticks, TakesTickTurn, a_tick_older, joint_state_of, is_ready}
+use Rattle.server_history.specs.Turns.{RestingInTick, IsPortTurn, LosesNoErrorAndRunsWellAnew, InRestart, ServingReady, IsByDeviceOrOnSuchPort, Ticks, TakesTickTurn, a_tick_older, joint_state_of, is_ready}
 use Rattle.server_history.proofs.plain_calls.OlderRequests.{older_by, older_ended, older_issued, older_request, older_settled, older_stands, serves_on}
 use Rattle.server_history.proofs.plain_calls.Acceptances.{any_in}
 use Rattle.server_history.proofs.state.DueRequests.{none_due, none_issued}
@@ -485,7 +485,7 @@ module _ (laws : PrerequisiteLaws) (s new : ServerState) (replies : List Reply) 
 
   -- ---- what it has done of each port
 
-  trouble_of : (port : Port) → HandlesShownErrors port p.accesses (record { device = s.device; abstract = old }) p.evidence (ports_of new) new.device
+  trouble_of : (port : Port) → LosesNoErrorAndRunsWellAnew port p.accesses (record { device = s.device; abstract = old }) p.evidence (ports_of new) new.device
   trouble_of port = ⊎_elim
       (λ r. r.1.heeds)
       (λ r. record {

@@ -29,7 +29,7 @@ use Rattle.driver_history.specs.Evidence.{ShowsLinkChange, ShowsFailure}
 use Rattle.driver_history.specs.Histories.{BootsAnewWhereRequired, FindsDone, IsForeignOrUnfit, HasOnlyTaskFileError, IsAnsweredFaulty, IsIssuedOn, PortCorresponds}
 use Rattle.driver_history.specs.PortTurn.{HasTurnIn, EvidenceAgreesOn}
 use Rattle.server_history.specs.Prerequisites.{PrerequisiteLaws}
-use Rattle.server_history.specs.Turns.{IsPortTurn, HandlesShownErrors, ServingReady, SimulatesTurn, CorrespondsOrHandlesErrorsByTurn, Turn, joint_state_of, abstract_state_of, joint_event_of_turn}
+use Rattle.server_history.specs.Turns.{IsPortTurn, LosesNoErrorAndRunsWellAnew, ServingReady, SimulatesTurn, CorrespondsInServiceLosesNoErrorInRestart, Turn, joint_state_of, abstract_state_of, joint_event_of_turn}
 use Rattle.server_history.specs.ServerState.{HasStoredCommand, ServerState, InCallInvariant, MachineRelation, InvariantWithNoneDue, ports_of, state_of}
 use Rattle.server_history.proofs.any_turn.JoinedParts.{same_then}
 use Rattle.server_history.proofs.whole_call.TurnResults as lifting
@@ -70,8 +70,8 @@ module _ (laws : PrerequisiteLaws) (s : ServerState) (start : InvariantWithNoneD
     is_service : turn_at AService (probe_result_of s.probe_results n) n ≡ ServingReady
     is_service = ap (λ (found : ProbeResult). turn_at AService found n) (ready_found s n kept ready).1.1
 
-    its_ties : CorrespondsOrHandlesErrorsByTurn ServingReady (port_at n) its part.accesses c mid m x.evidence x.steps
-    its_ties = subst (λ (turn : Turn). CorrespondsOrHandlesErrorsByTurn turn (port_at n) its part.accesses c mid m x.evidence x.steps) is_service x.turn_corresponds
+    its_ties : CorrespondsInServiceLosesNoErrorInRestart ServingReady (port_at n) its part.accesses c mid m x.evidence x.steps
+    its_ties = subst (λ (turn : Turn). CorrespondsInServiceLosesNoErrorInRestart turn (port_at n) its part.accesses c mid m x.evidence x.steps) is_service x.turn_corresponds
 
     low : n < 4
     low = lifting.low AService laws s start old reached at ports_are n c mid before its p next part m_reached on_mid ready
@@ -228,7 +228,7 @@ module _ (laws : PrerequisiteLaws) (s : ServerState) (start : InvariantWithNoneD
       not_absent : old.ports.state (port_at n) ≡ Absent → ⊥
       not_absent absent = let z : Absent ≡ ReadyState = sym absent ∙ was_ready in absurd cc
 
-      heeds_trouble : HandlesShownErrors (port_at n) accesses began evidence (ports_of mid) mid.device
+      heeds_trouble : LosesNoErrorAndRunsWellAnew (port_at n) accesses began evidence (ports_of mid) mid.device
       heeds_trouble = lifting.trouble_whole AService laws s start old reached at ports_are n c mid before its p next part m_reached on_mid evidence alike same_n (λ _. stops_troubled) (λ _. inl undue) (record { loses_no_error = did.loses_no_error; runs_well_anew = did.runs_well_anew })
 
       pub ties_whole : PortCorresponds began (joint_event_of_turn ServingReady [] mid evidence all) accesses (port_at n)

@@ -36,7 +36,7 @@ use Rattle.driver_history.specs.PortTurn.{HasTurnIn, KeepsToAnotherPort, Evidenc
 use Rattle.driver_history.specs.AccessTrace.{DoesNotWriteCmd, WritesNeitherCmdNorSctl, LastSctlWritesResetLink}
 use Rattle.driver_history.specs.PortInvariants.{EngineRuns}
 use Rattle.server_history.specs.Prerequisites.{PrerequisiteLaws}
-use Rattle.server_history.specs.Turns.{FindsDoneInTurn, IsPortTurn, HandlesShownErrors, SimulatesTurn, joint_state_of, abstract_state_of}
+use Rattle.server_history.specs.Turns.{FindsDoneInTurn, IsPortTurn, LosesNoErrorAndRunsWellAnew, SimulatesTurn, joint_state_of, abstract_state_of}
 use Rattle.server_history.proofs.whole_call.ServiceAndTick.{Plan, TakesTurn, not_reset, turn_at}
 use Rattle.server_history.specs.ServerState.{ServerState, InCallInvariant, MachineRelation, InvariantWithNoneDue, ports_of, state_of, used_for}
 use Rattle.server_history.proofs.any_turn.TurnSteps.{IsSame, counts_none}
@@ -166,11 +166,11 @@ module _ (plan : Plan) (laws : PrerequisiteLaws) (s : ServerState) (start : Inva
     -- what it did of trouble the call did so far
     module _ (evidence : Evidence) (alike : EvidenceAgreesOn (port_at n) x.evidence evidence) (same_n : SamePort old.ports (ports_of c) (port_at n))
         (stops_troubled : (state_of (probe_result_of c.probe_results n) ≡ ReadyState) ⊎ (state_of (probe_result_of mid.probe_results n) ≡ ReadyState) → ShowsFailure (c.device.port n) ⊎ ShowsLinkChange (c.device.port n) → IsStoppedOrStuck x.evidence (port_at n))
-        (linked : state_of (probe_result_of mid.probe_results n) ≡ ReadyState → ((s.device.port n).link_due ≡ false) ⊎ LastSctlWritesResetLink (port_at n) part.accesses) (did : HandlesShownErrors (port_at n) part.accesses (joint_state_of c m) x.evidence (ports_of mid) mid.device) where
+        (linked : state_of (probe_result_of mid.probe_results n) ≡ ReadyState → ((s.device.port n).link_due ≡ false) ⊎ LastSctlWritesResetLink (port_at n) part.accesses) (did : LosesNoErrorAndRunsWellAnew (port_at n) part.accesses (joint_state_of c m) x.evidence (ports_of mid) mid.device) where
       same_self : SamePort (ports_of mid) (ports_of mid) (port_at n)
       same_self = (refl, refl, refl, refl, refl, refl)
 
-      pub trouble_whole : HandlesShownErrors (port_at n) accesses began evidence (ports_of mid) mid.device
+      pub trouble_whole : LosesNoErrorAndRunsWellAnew (port_at n) accesses began evidence (ports_of mid) mid.device
       trouble_whole = record {
         loses_no_error = laws.calls.turn_trouble_is_calls (port_at n) began (abstract_state_of c m) (ports_of mid) (ports_of mid) mid.device x.evidence evidence kept.adapter_is_on t on_mid same_self alike same_n set_since stops_troubled did.loses_no_error;
         runs_well_anew = subst (λ (list : List Access). RunsWellAnew evidence (p.accesses ++ list) began (ports_of mid) mid.device (port_at n)) (append-nil part.accesses)

@@ -15,14 +15,14 @@ use Rattle.block_machine.specs.Ports.{Evidence, IsStoppedOrStuck, Ports, SamePor
 use Rattle.block_machine.specs.State.{Machine}
 use Rattle.block_machine.specs.Steps.{Step}
 use Rattle.driver_history.specs.Histories.{BootsAnewWhereRequired, IsForeignOrUnfit, ProbesDisk, PortCorresponds}
-use Rattle.driver_history.specs.PortTurn.{UnusableWithXEndsNotDueAbsentOrDeadIfNoneComes, HasTurnIn, EvidenceAgreesOn}
+use Rattle.driver_history.specs.PortTurn.{NoLinkDueAfterXUnlessAbsentDeadOrDiskComes, HasTurnIn, EvidenceAgreesOn}
 use Rattle.driver_history.specs.AccessTrace.{LastSctlWritesResetLink}
 use Rattle.host_boot.specs.TakeOver.{probe_result_of}
 use Rattle.host_boot.specs.declared.ProbeResult.{ProbeResult}
 use Rattle.host_boot.specs.declared.ProbeResult.TheVariants.{Ready, Unready, Unserved}
 use Rattle.server_history.specs.Prerequisites.{PrerequisiteLaws}
 use Rattle.server_history.specs.ServerState.{ServerState, InCallInvariant, MachineRelation, InvariantWithNoneDue, ports_of, state_of}
-use Rattle.server_history.specs.Turns.{IsPortTurn, HandlesShownErrors, ServingReady, InProbe, SimulatesTurn, CorrespondsOrHandlesErrorsByTurn, Turn, joint_state_of, abstract_state_of, joint_event_of_turn}
+use Rattle.server_history.specs.Turns.{IsPortTurn, LosesNoErrorAndRunsWellAnew, ServingReady, InProbe, SimulatesTurn, CorrespondsInServiceLosesNoErrorInRestart, Turn, joint_state_of, abstract_state_of, joint_event_of_turn}
 use Rattle.server_history.proofs.whole_call.EarlierResults as carrying
 use Rattle.server_history.proofs.any_turn.JoinedParts.{dead_or_not}
 use Rattle.server_history.proofs.whole_call.TurnResults as lifting
@@ -75,8 +75,8 @@ module _ (laws : PrerequisiteLaws) (s : ServerState) (start : InvariantWithNoneD
     abbrev accesses : List Access
     accesses = p.accesses ++ part.accesses
 
-    its_ties : CorrespondsOrHandlesErrorsByTurn InProbe (port_at n) its part.accesses c mid m x.evidence x.steps
-    its_ties = subst (λ (turn : Turn). CorrespondsOrHandlesErrorsByTurn turn (port_at n) its part.accesses c mid m x.evidence x.steps) (is_tried (probe_result_of s.probe_results n) n unready) x.turn_corresponds
+    its_ties : CorrespondsInServiceLosesNoErrorInRestart InProbe (port_at n) its part.accesses c mid m x.evidence x.steps
+    its_ties = subst (λ (turn : Turn). CorrespondsInServiceLosesNoErrorInRestart turn (port_at n) its part.accesses c mid m x.evidence x.steps) (is_tried (probe_result_of s.probe_results n) n unready) x.turn_corresponds
 
     abbrev did : PortCorresponds (joint_state_of c m) (joint_event_of_turn InProbe its mid x.evidence x.steps) part.accesses (port_at n)
     did = its_ties.0
@@ -111,11 +111,11 @@ module _ (laws : PrerequisiteLaws) (s : ServerState) (start : InvariantWithNoneD
           (λ anew. ⊎_elim (λ dead. let z : Dead ≡ ReadyState = sym dead ∙ ready in absurd cc) (λ rest. ⊎_elim (λ absent. let z : Absent ≡ ReadyState = sym absent ∙ ready in absurd cc) (λ r. r) rest) anew)
           did.boots_anew.1
 
-      heeds : HandlesShownErrors (port_at n) accesses began evidence (ports_of mid) mid.device
+      heeds : LosesNoErrorAndRunsWellAnew (port_at n) accesses began evidence (ports_of mid) mid.device
       heeds = lifting.trouble_whole AService laws s start old reached at ports_are n c mid before its p next part m_reached on_mid evidence alike same_n
           (λ ready port_error. ⊎_elim (λ before. absurd (never_then before)) stopped ready) (λ ready. inr (resets ready)) (record { loses_no_error = did.loses_no_error; runs_well_anew = did.runs_well_anew })
 
-      pub tried_whole : PortCorresponds began (joint_event_of_turn ServingReady [] mid evidence all) accesses (port_at n) × UnusableWithXEndsNotDueAbsentOrDeadIfNoneComes (port_at n) began (ports_of mid) mid.device
+      pub tried_whole : PortCorresponds began (joint_event_of_turn ServingReady [] mid evidence all) accesses (port_at n) × NoLinkDueAfterXUnlessAbsentDeadOrDiskComes (port_at n) began (ports_of mid) mid.device
       tried_whole = (
         record {
           finds_done = λ ready. absurd (never ready);
@@ -171,11 +171,11 @@ module _ (laws : PrerequisiteLaws) (s : ServerState) (start : InvariantWithNoneD
         (λ anew. ⊎_elim (λ dead. let z : Dead ≡ ReadyState = sym dead ∙ ready in absurd cc) (λ rest. ⊎_elim (λ absent. let z : Absent ≡ ReadyState = sym absent ∙ ready in absurd cc) (λ r. r) rest) anew)
         so_far.boots_anew.1
 
-    heeds_still : HandlesShownErrors q accesses_then began evidence (ports_of mid) mid.device
+    heeds_still : LosesNoErrorAndRunsWellAnew q accesses_then began evidence (ports_of mid) mid.device
     heeds_still = carrying.trouble_still AService laws s start old reached at ports_are n c mid before its p part m_reached q apart d evidence alike same
         (λ ready port_error. ⊎_elim (λ before. absurd (unready before)) stopped_so_far ready) (λ ready. inr (reset_so_far ready)) (record { loses_no_error = so_far.loses_no_error; runs_well_anew = so_far.runs_well_anew })
 
-    pub tried_still : PortCorresponds began (joint_event_of_turn ServingReady [] mid evidence steps_then) accesses_then q × UnusableWithXEndsNotDueAbsentOrDeadIfNoneComes q began (ports_of mid) mid.device
+    pub tried_still : PortCorresponds began (joint_event_of_turn ServingReady [] mid evidence steps_then) accesses_then q × NoLinkDueAfterXUnlessAbsentDeadOrDiskComes q began (ports_of mid) mid.device
     tried_still = (
       record {
         finds_done = λ ready. absurd (unready ready);

@@ -32,7 +32,7 @@ disk_port = record empty_port { disk = first_disk; plug_history = first_disk ∷
 -- Ports 0 and 1 have a disk; the memory has the commands.
 abbrev pub first : Device
 first = record {
-  telling = true;
+  disks_tell_sectors = true;
   memory_size = 4096 * 256;
   memory = memory;
   cap = 0x1f03;

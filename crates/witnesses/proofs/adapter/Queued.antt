@@ -150,7 +150,7 @@ unfolding changed
 may_fetch = record {
   fetchable = record { st_is_set = refl; issued = refl; free = refl };
   working = record { cr_is_set = refl; present = refl; fresh = refl; admitted = refl; is_not_broken = refl };
-  is_unmixed = λ slot t is. absurd (let e : None ≡ Some t = is in (cc));
+  is_alone_or_all_are_queued = λ slot t is. absurd (let e : None ≡ Some t = is in (cc));
   says = first_says;
 }
 
@@ -162,7 +162,7 @@ unfolding changed
 may_fetch_other = record {
   fetchable = record { st_is_set = refl; issued = refl; free = refl };
   working = record { cr_is_set = refl; present = refl; fresh = refl; admitted = refl; is_not_broken = refl };
-  is_unmixed = λ slot t is. only_one slot t is;
+  is_alone_or_all_are_queued = λ slot t is. only_one slot t is;
   says = second_says;
 }
 

@@ -13,8 +13,8 @@ use Rattle.witnesses.proofs.adapter.Sets.{true-false, are_bytes, bytes_patched, 
 -- ---- bytes
 
 -- a header: its first byte, one PRD, and a table at 256 times this address
-abbrev header_bytes : ℕ → ℕ → List ℕ
-header_bytes first table = first ∷ 0 ∷ 1 ∷ 0 ∷ 0 ∷ 0 ∷ 0 ∷ 0 ∷ 0 ∷ table ∷ replicate 22 0
+abbrev header_up_to_ctba : ℕ → ℕ → List ℕ
+header_up_to_ctba first table = first ∷ 0 ∷ 1 ∷ 0 ∷ 0 ∷ 0 ∷ 0 ∷ 0 ∷ 0 ∷ table ∷ replicate 22 0
 
 -- a table: a FIS of 20 bytes, and a PRD of 512 bytes at 256 times this address
 abbrev table_bytes : List ℕ → ℕ → ℕ → List ℕ
@@ -34,7 +34,7 @@ trim_block = 0x64 ∷ 0 ∷ 0 ∷ 0 ∷ 0 ∷ 0 ∷ 8 ∷ replicate 505 0
 -- Port 0's command list is at 0, with queued reads in slots 0 and 1 and a trim in slot 2; port 1's is at 800h, with a queued read in slot 0.
 unfoldable pub memory : ℕ → ℕ
 memory =
-    patched (patched (patched (patched (patched (patched (patched (λ _. 0) 0 (header_bytes 5 0x10 ++ header_bytes 5 0x14 ++ header_bytes 0x45 0x18)) 0x800 (header_bytes 5 0x1c))
+    patched (patched (patched (patched (patched (patched (patched (λ _. 0) 0 (header_up_to_ctba 5 0x10 ++ header_up_to_ctba 5 0x14 ++ header_up_to_ctba 0x45 0x18)) 0x800 (header_up_to_ctba 5 0x1c))
     0x1000 (table_bytes (queued_fis 0) 0x80 2)) 0x1400 (table_bytes (queued_fis 8) 0x90 2)) 0x1800 (table_bytes trim_fis 0x90 0)) 0x1c00 (table_bytes (queued_fis 0) 0xa0 2))
     0x9000 trim_block
 
@@ -88,7 +88,7 @@ pub first_says : DecodesTo memory 0 0 queued_read (0x28000 ∷ [])
 unfolding memory patched bytes_at zero_run
 first_says = says_by 0 0 0x1000 queued_read 0x28000 refl refl refl refl refl
     (record { size = refl; fis_type = refl; c_bit = refl; code = refl; features = refl; lba = refl; device = refl; count = refl; zeros = zeros_are (bytes_at memory 0x1000 20) 14 6 refl })
-    (record { ranged = λ _. (omega arith, omega arith, omega arith); not_ranged = λ h. absurd (true-false refl h) })
+    (record { sectors_fit_if_it_moves_some = λ _. (omega arith, omega arith, omega arith); sectors_are_zero_if_it_moves_none = λ h. absurd (true-false refl h) })
     (record { size = refl; allowed = record { even_address = refl; even_bytes = refl; is_not_empty = omega arith; is_at_most_4_mib = omega arith }; address = refl; upper_is_zero = refl; byte_count_is = refl })
     refl
 
@@ -96,7 +96,7 @@ pub second_says : DecodesTo memory 0 1 queued_read (0x29000 ∷ [])
 unfolding memory patched bytes_at zero_run
 second_says = says_by 0 1 0x1400 queued_read 0x29000 refl refl refl refl refl
     (record { size = refl; fis_type = refl; c_bit = refl; code = refl; features = refl; lba = refl; device = refl; count = refl; zeros = zeros_are (bytes_at memory 0x1400 20) 14 6 refl })
-    (record { ranged = λ _. (omega arith, omega arith, omega arith); not_ranged = λ h. absurd (true-false refl h) })
+    (record { sectors_fit_if_it_moves_some = λ _. (omega arith, omega arith, omega arith); sectors_are_zero_if_it_moves_none = λ h. absurd (true-false refl h) })
     (record { size = refl; allowed = record { even_address = refl; even_bytes = refl; is_not_empty = omega arith; is_at_most_4_mib = omega arith }; address = refl; upper_is_zero = refl; byte_count_is = refl })
     refl
 
@@ -104,7 +104,7 @@ pub trim_says : DecodesTo memory 0 2 a_trim (0x9000 ∷ [])
 unfolding memory patched bytes_at zero_run
 trim_says = says_by 0 2 0x1800 a_trim 0x9000 refl refl refl refl refl
     (record { size = refl; fis_type = refl; c_bit = refl; code = refl; features = refl; lba = refl; device = refl; count = refl; zeros = zeros_are (bytes_at memory 0x1800 20) 14 6 refl })
-    (record { ranged = λ h. absurd (true-false h refl); not_ranged = λ _. (refl, refl) })
+    (record { sectors_fit_if_it_moves_some = λ h. absurd (true-false h refl); sectors_are_zero_if_it_moves_none = λ _. (refl, refl) })
     (record { size = refl; allowed = record { even_address = refl; even_bytes = refl; is_not_empty = omega arith; is_at_most_4_mib = omega arith }; address = refl; upper_is_zero = refl; byte_count_is = refl })
     refl
 
@@ -112,7 +112,7 @@ pub other_port_says : DecodesTo memory 0x800 0 queued_read (0x2a000 ∷ [])
 unfolding memory patched bytes_at zero_run
 other_port_says = says_by 0x800 0 0x1c00 queued_read 0x2a000 refl refl refl refl refl
     (record { size = refl; fis_type = refl; c_bit = refl; code = refl; features = refl; lba = refl; device = refl; count = refl; zeros = zeros_are (bytes_at memory 0x1c00 20) 14 6 refl })
-    (record { ranged = λ _. (omega arith, omega arith, omega arith); not_ranged = λ h. absurd (true-false refl h) })
+    (record { sectors_fit_if_it_moves_some = λ _. (omega arith, omega arith, omega arith); sectors_are_zero_if_it_moves_none = λ h. absurd (true-false refl h) })
     (record { size = refl; allowed = record { even_address = refl; even_bytes = refl; is_not_empty = omega arith; is_at_most_4_mib = omega arith }; address = refl; upper_is_zero = refl; byte_count_is = refl })
     refl
 

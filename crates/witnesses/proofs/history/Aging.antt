@@ -90,7 +90,7 @@ module _ (age : ℕ) where
 
   pub backed : TapeBacksSteps submitted submitted (issued_for age) (ages ∷ [])
   backed = record {
-    telling_is_same = refl;
+    disks_tell_sectors_is_same = refl;
     new_entries = [];
     tape_is = refl;
     tells_device_steps = (tt, λ d. d);

@@ -17,7 +17,7 @@ use Rattle.refinement.specs.Driver.{TapeBacksSteps}
 use Rattle.refinement.specs.ReadWitness.{first_id}
 use Rattle.block_machine.specs.Histories.{JointEvent}
 use Rattle.block_machine.specs.Events.{ShownDiskWasInOrCame, Happens, Service, Replied}
-use Rattle.block_machine.specs.Ports.{PortsWellFormed, IsStoppedOrStuck, ChangesOnlyIfStoppedOrStuck, SamePort}
+use Rattle.block_machine.specs.Ports.{PortsWellFormed, IsStoppedOrStuck, MayBecomeInService, SamePort}
 use Rattle.block_machine.specs.State.{Pending}
 use Rattle.block_machine.specs.Steps.{Step, End, Answer, Unplug}
 use Rattle.identify.specs.declared.wanted.Wanted.TheVariants.{Any}
@@ -107,7 +107,7 @@ only_ok e o here =
 not_unplugged : (e : Pending) → Contains service_steps (Answer e outcome.Unplugged) → ⊥
 not_unplugged e here = let x : outcome.Unplugged ≡ outcome.Ok = only_ok e outcome.Unplugged here in cc
 
-becomes : (n : ℕ) → ChangesOnlyIfStoppedOrStuck both port_1_loss_evidence one (port_at n)
+becomes : (n : ℕ) → MayBecomeInService both port_1_loss_evidence one (port_at n)
 becomes n = (
   λ is. absurd (not_dead n is),
   λ _. (
@@ -132,7 +132,7 @@ had_disk (suc (suc n)) = inl (refl, refl, refl, refl, refl, refl)
 
 service_backed : TapeBacksSteps submitted lost issuing service_steps
 service_backed = record {
-  telling_is_same = refl;
+  disks_tell_sectors_is_same = refl;
   new_entries = gained;
   tape_is = refl;
   tells_device_steps = (

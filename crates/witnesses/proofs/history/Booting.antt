@@ -7,7 +7,7 @@ use Rattle.hba_regs.specs.declared.reg.PortReg.TheVariants.{Clb, Clbu, Fb, Fbu, 
 use Rattle.adapter.specs.Access.{Access, DoesAll, PortShows, Reads, Writes, notes_after_reading, port_after_write}
 use Rattle.adapter.specs.Device.{DevicePort, Device}
 use Rattle.adapter.specs.Rules.{MayWriteCmd}
-use Rattle.adapter.specs.Steps.{MayLinkUp, device_after, port_after_link_up, port_after_reset}
+use Rattle.adapter.specs.Steps.{MayLinkUp, device_after, port_after_link_up, port_after_hba_reset}
 use Rattle.adapter.specs.Steps.DeviceTransition.{LinkUp, ResetEnds}
 use Rattle.refinement.specs.Relation.{port_at}
 use Rattle.refinement.specs.MemoryLayout.{command_list_address, received_fis_address}
@@ -22,7 +22,7 @@ use Rattle.witnesses.proofs.history.Submitting.{pages, submitted}
 
 -- a port as it is after a reset
 abbrev pub quieted : ℕ → DevicePort
-quieted port = port_after_reset (running_port port)
+quieted port = port_after_hba_reset (running_port port)
 
 -- the link is up, and the device isn't an ATA disk
 abbrev up : DevicePort → DevicePort

@@ -10,7 +10,7 @@ use Rattle.adapter.specs.declared.access.DeviceStep.{DeviceStep}
 use Rattle.refinement.specs.Relation.{port_at}
 use Rattle.block_machine.specs.Events.{ShownDiskWasInOrCame, Happens, Replied, Service}
 use Rattle.block_machine.specs.Histories.{JointEvent}
-use Rattle.block_machine.specs.Ports.{IsStoppedOrStuck, ChangesOnlyIfStoppedOrStuck, SamePort}
+use Rattle.block_machine.specs.Ports.{IsStoppedOrStuck, MayBecomeInService, SamePort}
 use Rattle.block_machine.specs.State.{Pending}
 use Rattle.block_machine.specs.Steps.{Step, Answer}
 use Rattle.identify.specs.declared.wanted.Wanted.TheVariants.{Any}
@@ -65,7 +65,7 @@ is_restart = record {
 
 -- ---- the call
 
-becomes : (n : ℕ) → ChangesOnlyIfStoppedOrStuck both fatal_evidence one (port_at n)
+becomes : (n : ℕ) → MayBecomeInService both fatal_evidence one (port_at n)
 becomes n = (λ is. absurd (not_dead n is), λ _. (may_become (port_at 0 ∷ []) n, changes n))
   where
     changes : (n : ℕ) → SamePort both one (port_at n) ⊎ IsStoppedOrStuck fatal_evidence (port_at n)

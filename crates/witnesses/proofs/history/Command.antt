@@ -4,7 +4,7 @@ use Rattle.std.proofs.lemmas.Bool.{true≢false}
 use Rattle.std.proofs.lemmas.List.{get_or-replicate}
 use Rattle.std.specs.Int.{to_le_bytes, w32}
 use Rattle.byteorder.specs.Endian.{little_from}
-use Rattle.adapter.specs.FirstRead.{header_bytes}
+use Rattle.adapter.specs.FirstRead.{header_up_to_ctba}
 use Rattle.adapter.specs.Memory.{bytes_at, patched}
 use Rattle.adapter.specs.ReadDone.{read_of}
 use Rattle.adapter.specs.Commands.{IsValidMeaning, Meaning, command_of, transfer_sector_count, reads_memory}
@@ -31,7 +31,7 @@ zeros at = 0
 
 -- with the header of the first read, and its zeros, all that is in memory
 unfoldable pub read_memory : ℕ → ℕ
-read_memory = patched (patched (patched zeros 0 header_bytes) 0x1000 read_bytes) 0x1080 place_bytes
+read_memory = patched (patched (patched zeros 0 header_up_to_ctba) 0x1000 read_bytes) 0x1080 place_bytes
 
 pub zeros_past : (first : List ℕ) (n i : ℕ) → length first ≤ i → i < length first + n → slice_index (first ++ replicate n 0) i ≡ 0
 zeros_past [] n i low high = get_or-replicate n i 0 0 (omega (arith, high))
@@ -66,7 +66,7 @@ told_one memory slot c address header fis meaning prd many = record {
 pub told : SlotDecodesTo read_memory 0 0 0 (read_of 100 1) (piece_addresses 0x64000 1)
 unfolding read_memory patched bytes_at
 told = told_one read_memory 0 (read_of 100 1) 0x64000
-    (record { size = refl; dword0_is = refl; table_address_is = refl; aligned = refl; zeros = λ i low high. zeros_past header_bytes 20 i low high })
+    (record { size = refl; dword0_is = refl; table_address_is = refl; aligned = refl; zeros = λ i low high. zeros_past header_up_to_ctba 20 i low high })
     (record {
       size = refl;
       fis_type = refl;
@@ -78,7 +78,7 @@ told = told_one read_memory 0 (read_of 100 1) 0x64000
       count = refl;
       zeros = λ i low high. zeros_past read_bytes 6 i low high;
     })
-    (record { ranged = λ _. (omega arith, omega arith, omega arith); not_ranged = λ h. absurd (true≢false h) })
+    (record { sectors_fit_if_it_moves_some = λ _. (omega arith, omega arith, omega arith); sectors_are_zero_if_it_moves_none = λ h. absurd (true≢false h) })
     (record { size = refl; allowed = record { even_address = refl; even_bytes = refl; is_not_empty = omega arith; is_at_most_4_mib = omega arith }; address = refl; upper_is_zero = refl; byte_count_is = refl })
     refl
 
@@ -115,7 +115,7 @@ told_queued memory slot k frame low points aligned address even header fis prd =
       count = omega arith;
       zeros = λ i from to. zeros_past (queued_bytes slot k) 6 i from to;
     }))
-    (record { ranged = λ _. (omega arith, omega arith, omega (arith, low)); not_ranged = λ h. absurd (true≢false h) })
+    (record { sectors_fit_if_it_moves_some = λ _. (omega arith, omega arith, omega (arith, low)); sectors_are_zero_if_it_moves_none = λ h. absurd (true≢false h) })
     (subst (λ (bytes : List ℕ). EncodesPrd bytes (record { address = 4096 * frame; bytes = 512 })) (sym prd)
     (record { size = refl; allowed = record { even_address = even; even_bytes = refl; is_not_empty = omega arith; is_at_most_4_mib = omega arith }; address = address; upper_is_zero = refl; byte_count_is = refl }))
     refl

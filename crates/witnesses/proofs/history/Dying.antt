@@ -17,7 +17,7 @@ use Rattle.refinement.specs.Slots.{ServesRequest, RelatesSlot}
 use Rattle.refinement.specs.ReadWitness.{first_id}
 use Rattle.block_machine.specs.Events.{Service, Replied, Happens}
 use Rattle.block_machine.specs.Histories.{JointEvent, JointState}
-use Rattle.block_machine.specs.Ports.{ChangesOnlyIfStoppedOrStuck, Ports, PortsWellFormed}
+use Rattle.block_machine.specs.Ports.{MayBecomeInService, Ports, PortsWellFormed}
 use Rattle.block_machine.specs.Expected.{after}
 use Rattle.block_machine.specs.State.{Pending, Machine}
 use Rattle.block_machine.specs.Steps.{Step, Answer, NoneKept}
@@ -37,7 +37,7 @@ use Rattle.adapter.specs.Rules.{IsOn}
 use Rattle.refinement.specs.Acts.{driver_state_of_slots}
 use Rattle.refinement.specs.Driver.{DriverRelation}
 use Rattle.block_machine.specs.Events.{Reset, WasReset}
-use Rattle.block_machine.specs.Ports.{Evidence, IsAfterStuckReset}
+use Rattle.block_machine.specs.Ports.{Evidence, IsDeadAfterStuckResetIfServed}
 use Rattle.driver_history.specs.Histories.{ProbesDisk}
 use Rattle.witnesses.proofs.history.Command.{read_memory}
 use Rattle.witnesses.proofs.history.Devices.{leaves}
@@ -85,7 +85,7 @@ not_on on = absurd (true≢false on.no_reset)
 -- nothing that the machine agrees with changes by a reset that is pending
 still_knows : (m : Machine) → DriverRelation m (driver_state_of_slots first_slots submitted) → DriverRelation m (driver_state_of_slots first_slots pending)
 still_knows m k = record {
-  state_relation = record { relates_slots = k.state_relation.relates_slots; serve_distinct_requests = k.state_relation.serve_distinct_requests; received_areas_in_use_are_placed = k.state_relation.received_areas_in_use_are_placed; disks_are_same = k.state_relation.disks_are_same; client_frames_are_same = k.state_relation.client_frames_are_same; sectors_are_same_if_disks_tell = k.state_relation.sectors_are_same_if_disks_tell; holds_replug_candidates_if_disks_tell = k.state_relation.holds_replug_candidates_if_disks_tell };
+  state_relation = record { relates_slots = k.state_relation.relates_slots; serve_distinct_requests = k.state_relation.serve_distinct_requests; received_areas_in_use_are_placed = k.state_relation.received_areas_in_use_are_placed; disks_are_same = k.state_relation.disks_are_same; client_frames_are_same = k.state_relation.client_frames_are_same; sectors_are_same_if_disks_tell = k.state_relation.sectors_are_same_if_disks_tell; knows_replug_candidates_if_disks_tell = k.state_relation.knows_replug_candidates_if_disks_tell };
   have_slots_unless_parked = k.have_slots_unless_parked;
 }
 
@@ -137,7 +137,7 @@ fit_dead = record {
     no_cause (suc zero) cause is = let x : Dead ≡ Unfit cause = is in cc
     no_cause (suc (suc n)) cause is = let x : Absent ≡ Unfit cause = is in cc
 
-stuck_is : (n : ℕ) → IsAfterStuckReset both stuck_evidence dead (port_at n)
+stuck_is : (n : ℕ) → IsDeadAfterStuckResetIfServed both stuck_evidence dead (port_at n)
 stuck_is zero = (refl, λ is. (refl, (0, omega arith, refl)), (refl, refl))
 stuck_is (suc zero) = (refl, λ is. (refl, (1, omega arith, refl)), (refl, refl))
 stuck_is (suc (suc n)) = (refl, λ is. absurd (true≢false (sym is)), (refl, refl))
@@ -157,7 +157,7 @@ unchanged : (d : Device) → ((n : ℕ) → (d.port n).plug_history ≡ (d.port 
 unchanged d n = sym (append-nil (d.port n).plug_history)
 
 reset_backed : TapeBacksSteps submitted pending issuing []
-reset_backed = record { telling_is_same = refl; new_entries = []; tape_is = refl; tells_device_steps = tt; steps_are_faithful = λ _. tt; plugged_disks_match_steps = λ port. ([], unchanged submitted port, refl) }
+reset_backed = record { disks_tell_sectors_is_same = refl; new_entries = []; tape_is = refl; tells_device_steps = tt; steps_are_faithful = λ _. tt; plugged_disks_match_steps = λ port. ([], unchanged submitted port, refl) }
 
 -- the port is served if it is named
 named_served : (n : ℕ) → Contains (port_at 0 ∷ port_at 1 ∷ []) (port_at n) → both.served (port_at n) ≡ true
@@ -259,8 +259,8 @@ knows_kept =
         received_areas_in_use_are_placed = k.state_relation.received_areas_in_use_are_placed;
         disks_are_same = λ n. let d = k.state_relation.disks_are_same n in record { present = d.present; id = d.id; sector_count = d.sector_count };
         client_frames_are_same = k.state_relation.client_frames_are_same;
-        sectors_are_same_if_disks_tell = λ telling n. let d = k.state_relation.sectors_are_same_if_disks_tell telling n in record { told_sectors = d.told_sectors; disk_tells = d.disk_tells; bytes_are_same = d.bytes_are_same };
-        holds_replug_candidates_if_disks_tell = k.state_relation.holds_replug_candidates_if_disks_tell;
+        sectors_are_same_if_disks_tell = λ disks_tell_sectors n. let d = k.state_relation.sectors_are_same_if_disks_tell disks_tell_sectors n in record { told_sectors = d.told_sectors; disk_tells = d.disk_tells; bytes_are_same = d.bytes_are_same };
+        knows_replug_candidates_if_disks_tell = k.state_relation.knows_replug_candidates_if_disks_tell;
       };
       have_slots_unless_parked = λ n e may at_port. inr (⊎_elim
           (λ here. absurd (nowhere e here.0))
@@ -273,7 +273,7 @@ kept_first n ne e here is = ne (sym (sym (ap (λ (x : Pending). x.request.port.0
 not_unplugged : (e : Pending) → Contains (answer ∷ []) (Answer e outcome.Unplugged) → ⊥
 not_unplugged e here = let x : outcome.Unplugged ≡ outcome.PortDead = (the_answer outcome.PortDead e outcome.Unplugged here).1 in cc
 
-becomes : (n : ℕ) → ChangesOnlyIfStoppedOrStuck dead nothing dead (port_at n)
+becomes : (n : ℕ) → MayBecomeInService dead nothing dead (port_at n)
 becomes zero = (λ is. (refl, refl, refl, refl, refl, refl), λ other. absurd (other refl))
 becomes (suc zero) = (λ is. (refl, refl, refl, refl, refl, refl), λ other. absurd (other refl))
 becomes (suc (suc n)) = (
@@ -351,7 +351,7 @@ service_part n = record {
 }
 
 service_backed : TapeBacksSteps pending pending issuing (answer ∷ [])
-service_backed = record { telling_is_same = refl; new_entries = []; tape_is = refl; tells_device_steps = (tt, λ d. d); steps_are_faithful = λ _. (tt, tt); plugged_disks_match_steps = λ port. ([], unchanged pending port, refl) }
+service_backed = record { disks_tell_sectors_is_same = refl; new_entries = []; tape_is = refl; tells_device_steps = (tt, λ d. d); steps_are_faithful = λ _. (tt, tt); plugged_disks_match_steps = λ port. ([], unchanged pending port, refl) }
 
 service_ties : CallCorresponds (Any ∷ Any ∷ []) pending_at service
 service_ties = record {

@@ -33,7 +33,7 @@ use Rattle.block_machine.specs.DueRequests.{IsDue, NoneDue}
 use Rattle.block_machine.specs.Events.{Happens, Service, Replied, ShowsDisk}
 use Rattle.block_machine.specs.Histories.{JointState, JointEvent}
 use Rattle.block_machine.specs.Expected.{after}
-use Rattle.block_machine.specs.Ports.{Evidence, ChangesOnlyIfStoppedOrStuck}
+use Rattle.block_machine.specs.Ports.{Evidence, MayBecomeInService}
 use Rattle.block_machine.specs.State.{Block, Machine, Pending, unanswered}
 use Rattle.block_machine.specs.Steps.{Step, Answer, End, Touch, AllTouched, mark_ended, touch}
 use Rattle.block_machine.specs.declared.due.Unanswered.{Unanswered}
@@ -55,7 +55,7 @@ use Rattle.witnesses.proofs.history.Ready.{Agreeing, fit_ready, holds, instant_w
 use Rattle.witnesses.proofs.history.Serving.{outstanding_as}
 
 -- ports that stay what they are, where none gets stuck
-pub stay_serviced : (disk : Kind) (evidence : Evidence) (n : ℕ) → (Contains evidence.stuck (port_at n) → ⊥) → ChangesOnlyIfStoppedOrStuck (two_ready disk) evidence (two_ready disk) (port_at n)
+pub stay_serviced : (disk : Kind) (evidence : Evidence) (n : ℕ) → (Contains evidence.stuck (port_at n) → ⊥) → MayBecomeInService (two_ready disk) evidence (two_ready disk) (port_at n)
 stay_serviced disk evidence n unstuck = (
   λ is. absurd (not_dead n is),
   λ _. (
@@ -166,7 +166,7 @@ module _ (c : Discovery) where
 
     pub backed : TapeBacksSteps before.device served_at.device c.machine steps
     backed = record {
-      telling_is_same = refl;
+      disks_tell_sectors_is_same = refl;
       new_entries = gained;
       tape_is = refl;
       tells_device_steps = (

@@ -12,7 +12,7 @@ use Rattle.ata_types.specs.declared.request.RequestId.{RequestId}
 use Rattle.ata_types.specs.declared.limits.TheConstants.{MOST_READINGS}
 use Rattle.adapter.specs.Access.{Access, named_causes_mask}
 use Rattle.adapter.specs.Device.{DevicePort, Device}
-use Rattle.adapter.specs.Device.Halt.{NotHalted, HaltedPlain, HaltedQueued}
+use Rattle.adapter.specs.Device.Halt.{NotHalted, HaltedByPlain, HaltedByQueued}
 use Rattle.adapter.specs.FirstRead.{empty_port}
 use Rattle.adapter.specs.Idle.{IsIdlePort}
 use Rattle.adapter.specs.declared.access.DeviceStep.{DeviceStep}
@@ -20,7 +20,7 @@ use Rattle.adapter.specs.declared.command.Operation.TheVariants.{Identify}
 use Rattle.adapter.specs.declared.tape.Entry.{Entry}
 use Rattle.refinement.specs.Acts.{DriverSlots}
 use Rattle.refinement.specs.Relation.{port_at}
-use Rattle.refinement.specs.PortFacts.{IsHaltedPlainOrQueued, IsFaultOf}
+use Rattle.refinement.specs.PortFacts.{IsHaltedByPlainOrQueued, IsFaultOf}
 use Rattle.refinement.specs.Slots.{Free, Serves, SlotStates, IsMove}
 use Rattle.refinement.specs.ReadWitness.{first_id}
 use Rattle.block_machine.specs.Events.{AbstractCall, AbstractCallResult}
@@ -74,8 +74,8 @@ unserved_at s i port absent quiet slots waits kept = record {
 }
 
 -- nothing has halted it
-unfaulted : IsHaltedPlainOrQueued NotHalted → ⊥
-unfaulted f = ⊎_elim (λ a. let x : NotHalted ≡ HaltedPlain = a in cc) (λ a. let x : NotHalted ≡ HaltedQueued = a in cc) f
+unfaulted : IsHaltedByPlainOrQueued NotHalted → ⊥
+unfaulted f = ⊎_elim (λ a. let x : NotHalted ≡ HaltedByPlain = a in cc) (λ a. let x : NotHalted ≡ HaltedByQueued = a in cc) f
 
 -- a port runs on which no fault is on record
 pub runs_on : (port : ℕ) (d : Device) → (d.port port).st ≡ true → (d.port port).cr ≡ true → (d.port port).fre ≡ true → (d.port port).bases ≡ programmed_bases port → (d.port port).notes.link_wait_count ≡ MOST_READINGS
@@ -86,7 +86,7 @@ runs_on port d st cr fre bases saw known linked calm whole = record {
   fre_is_set = fre;
   bases_are_programmed = bases;
   device_was_seen = saw;
-  faults_are_recorded = record { st_set_is_on_tape = known; no_link_is_due = linked; tfes_tells_fault = λ f. absurd (true≢false (sym f ∙ calm)); shows_last_fault = λ f. absurd (unfaulted (subst IsHaltedPlainOrQueued whole f)) };
+  faults_are_recorded = record { st_set_is_on_tape = known; no_link_is_due = linked; tfes_tells_fault = λ f. absurd (true≢false (sym f ∙ calm)); shows_last_fault = λ f. absurd (unfaulted (subst IsHaltedByPlainOrQueued whole f)) };
 }
 
 -- the last page of its disk stands on the tape

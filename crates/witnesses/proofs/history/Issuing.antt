@@ -210,7 +210,7 @@ module _ (c : Submission) where
 
     pub backed : TapeBacksSteps before.device submitted_at.device c.machine submit_steps
     backed = record {
-      telling_is_same = refl;
+      disks_tell_sectors_is_same = refl;
       new_entries = [];
       tape_is = sym (append-nil _);
       tells_device_steps = ((tt, λ d. d), λ d. d);

@@ -146,7 +146,7 @@ meeting_happens = record {
 
 pub backed : TapeBacksSteps submitted (dev broken) issuing []
 backed = record {
-  telling_is_same = refl;
+  disks_tell_sectors_is_same = refl;
   new_entries = gained;
   tape_is = refl;
   tells_device_steps = ([], [], [], tt, refl, tt, refl);

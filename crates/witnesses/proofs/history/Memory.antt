@@ -5,7 +5,7 @@ use Rattle.std.proofs.lemmas.List.{get_or_past, get_or-replicate, length-replica
 use Rattle.std.specs.Prelude.{nat_le, nat_lt}
 use Rattle.ata_types.specs.declared.memory.TheConstants.{DRIVER_BYTES, DRIVER_FRAMES}
 use Rattle.ata_types.specs.declared.request.Frame.{Frame}
-use Rattle.adapter.specs.FirstRead.{header_bytes, first_disk_sector}
+use Rattle.adapter.specs.FirstRead.{header_up_to_ctba, first_disk_sector}
 use Rattle.adapter.specs.Memory.{patched}
 use Rattle.block_machine.specs.Steps.{put_bytes}
 use Rattle.witnesses.proofs.history.Client.{frame}
@@ -30,8 +30,8 @@ spares memory at bytes room f b from = beyond (4096 * f.0 + b) (omega (arith, ro
 pub past_driver : (f : Frame) (b : ℕ) → DRIVER_FRAMES ≤ f.0 → read_memory (4096 * f.0 + b) ≡ 0
 unfolding read_memory
 past_driver f b from =
-    spares (patched (patched zeros 0 header_bytes) 0x1000 read_bytes) 0x1080 place_bytes (omega arith) f b from
-    ∙ (spares (patched zeros 0 header_bytes) 0x1000 read_bytes (omega arith) f b from ∙ spares zeros 0 header_bytes (omega arith) f b from)
+    spares (patched (patched zeros 0 header_up_to_ctba) 0x1000 read_bytes) 0x1080 place_bytes (omega arith) f b from
+    ∙ (spares (patched zeros 0 header_up_to_ctba) 0x1000 read_bytes (omega arith) f b from ∙ spares zeros 0 header_up_to_ctba (omega arith) f b from)
 
 -- ---- a sector is moved
 

@@ -21,7 +21,7 @@ use Rattle.refinement.specs.Slots.{IsEmptySlot}
 use Rattle.block_machine.specs.Events.{AnswersService, StepDevice, ShownDiskWasInOrCame, Happens, Replied, Service, Stepped}
 use Rattle.block_machine.specs.Histories.{JointEvent, JointState}
 use Rattle.block_machine.specs.Expected.{after}
-use Rattle.block_machine.specs.Ports.{PortsWellFormed, Evidence, IsStoppedOrStuck, ChangesOnlyIfStoppedOrStuck, Ports, SamePort}
+use Rattle.block_machine.specs.Ports.{PortsWellFormed, Evidence, IsStoppedOrStuck, MayBecomeInService, Ports, SamePort}
 use Rattle.block_machine.specs.State.{Machine}
 use Rattle.block_machine.specs.Steps.{Answer, Step, Unplug}
 use Rattle.host_boot.specs.TakeOver.{wanted_of}
@@ -115,7 +115,7 @@ same_past : (n : ℕ) → SamePort unfit_ports one_absent (port_at (suc n))
 same_past zero = (refl, refl, refl, refl, refl, refl)
 same_past (suc n) = (refl, refl, refl, refl, refl, refl)
 
-becomes : (n : ℕ) → ChangesOnlyIfStoppedOrStuck unfit_ports evidence one_absent (port_at n)
+becomes : (n : ℕ) → MayBecomeInService unfit_ports evidence one_absent (port_at n)
 becomes n = (
   λ is. absurd (not_dead n is),
   λ _. (record { served_is_unchanged = refl; dead_exactly_if_stuck = (λ is. absurd (not_dead_then n is), λ h. absurd (nowhere (port_at n) h)); disk_is_remembered_unless_ready = λ is. (refl, refl) }, changes n),
@@ -177,7 +177,7 @@ unplug_part n = record {
 
 unplug_backed : TapeBacksSteps rebooted unplugged answered (going ∷ [])
 unplug_backed = record {
-  telling_is_same = refl;
+  disks_tell_sectors_is_same = refl;
   new_entries = gained;
   tape_is = refl;
   tells_device_steps = ([], going ∷ [], [], tt, refl, tt, refl);
@@ -385,7 +385,7 @@ service_part n = record {
 
 service_backed : TapeBacksSteps unplugged looked_over without []
 service_backed = record {
-  telling_is_same = refl;
+  disks_tell_sectors_is_same = refl;
   new_entries = [];
   tape_is = sym (append-nil _);
   tells_device_steps = tt;

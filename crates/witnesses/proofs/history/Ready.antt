@@ -11,7 +11,7 @@ use Rattle.adapter.specs.FirstRead.{first_disk, first_disk_sector}
 use Rattle.adapter.specs.declared.command.Operation.TheVariants.{Identify}
 use Rattle.adapter.specs.declared.tape.Entry.{Entry}
 use Rattle.refinement.specs.Acts.{DriverSlots, driver_state_of_slots}
-use Rattle.refinement.specs.Relation.{ServeDistinctRequests, HaveSlotsUnlessParked, HasReceivedArea, SameClientFrames, SameSectors, HoldsReplugCandidates, port_at}
+use Rattle.refinement.specs.Relation.{ServeDistinctRequests, HaveSlotsUnlessParked, HasReceivedArea, SameClientFrames, SameSectors, KnowsAllReplugCandidates, port_at}
 use Rattle.refinement.specs.Driver.{DriverRelation}
 use Rattle.refinement.specs.Slots.{Free, Serves, IsEmptySlot, IsMove, RelatesSlot}
 use Rattle.block_machine.specs.Histories.{JointState}
@@ -70,7 +70,7 @@ module _ (m : Machine) (s : DriverSlots) (tape : List Entry) (memory : ℕ → �
   sectors_of (suc zero) = record { told_sectors = first_disk_sector; disk_tells = ap (λ (d : Disk). d.sectors) are.disks.1; bytes_are_same = λ k b kl bl. tells k b bl }
   sectors_of (suc (suc n)) = record { told_sectors = λ k. []; disk_tells = refl; bytes_are_same = λ k b kl bl. absurd (omega (arith, kl)) }
 
-  lasts : (n : ℕ) → HoldsReplugCandidates m tape (port_or_empty (p ∷ q ∷ []) n) n
+  lasts : (n : ℕ) → KnowsAllReplugCandidates m tape (port_or_empty (p ∷ q ∷ []) n) n
   lasts zero k inside bytes w = inl (λ b bl. still_bytes tape (p.lasting) 0 k bytes are.lasting.0 are.still w b bl ∙ sym (ap (λ (f : Port → ℕ → ℕ → ℕ). f (port_at 0) k b) are.bytes))
   lasts (suc zero) k inside bytes w = inl (λ b bl. still_bytes tape (q.lasting) 1 k bytes are.lasting.1 are.still w b bl ∙ sym (ap (λ (f : Port → ℕ → ℕ → ℕ). f (port_at 1) k b) are.bytes))
   lasts (suc (suc n)) k inside bytes w = absurd (omega (arith, inside))
@@ -89,7 +89,7 @@ module _ (m : Machine) (s : DriverSlots) (tape : List Entry) (memory : ℕ → �
       };
       client_frames_are_same = same;
       sectors_are_same_if_disks_tell = λ _ n. let d = sectors_of n in record { told_sectors = d.told_sectors; disk_tells = d.disk_tells; bytes_are_same = λ k b kl bl. d.bytes_are_same k b kl bl ∙ sym (ap (λ (f : Port → ℕ → ℕ → ℕ). f (port_at n) k b) are.bytes) };
-      holds_replug_candidates_if_disks_tell = λ _ n. lasts n;
+      knows_replug_candidates_if_disks_tell = λ _ n. lasts n;
     };
     have_slots_unless_parked = have;
   }

@@ -23,7 +23,7 @@ use Rattle.refinement.specs.Relation.{port_at}
 use Rattle.refinement.specs.Driver.{TapeBacksSteps, DriverRelation}
 use Rattle.refinement.specs.PreservedParts.{DoesNotWrite}
 use Rattle.refinement.specs.Slots.{IsEmptySlot, IsMove, ServesRequest}
-use Rattle.refinement.specs.Tape.{NoneByDevice, PutsInDisks}
+use Rattle.refinement.specs.Tape.{NoneByDevice, PortPlugsPutInDisks}
 use Rattle.refinement.specs.ReadWitness.{first_id}
 use Rattle.block_machine.specs.Events.{AbstractCall, AbstractCallResult, UnpluggedOutcomeEmptiesPort}
 use Rattle.block_machine.specs.Histories.{JointState}
@@ -39,7 +39,7 @@ use Rattle.driver_history.specs.Histories.{FindsDone, IsAnsweredOk, LosesNoPortE
 use Rattle.driver_history.specs.PortInvariants.{PortStateInvariant, DriverInvariantWith, IsReadyAt, IsStoppedAt}
 use Rattle.driver_history.specs.AccessTrace.{DoesNotWriteCmd, LastSctlWritesResetLink}
 use Rattle.port_control.specs.Engines.{Stops}
-use Rattle.witnesses.specs.Restart.{mask_accesses, base_address_accesses, comreset_accesses, port_0_lost_and_stopped_evidence, stop_and_comreset_accesses, stop_accesses}
+use Rattle.witnesses.specs.Restart.{mask_accesses, base_address_accesses, comreset_accesses, port_0_lost_and_stopped_evidence, stop_and_comreset_accesses, stop_engine_accesses}
 use Rattle.witnesses.specs.RunningAdapter.{port_or_empty, page_entry, plain_disk_mode, ports_with_disks}
 use Rattle.witnesses.proofs.history.Accepting.{asked, both, issuing, waiting}
 use Rattle.witnesses.proofs.history.Command.{read_memory}
@@ -193,12 +193,12 @@ module _ (looked : List Access) where
 
   pub resets : LastSctlWritesResetLink (port_at 0) (looked ++ stop_and_comreset_accesses)
   resets = record {
-    before = looked ++ (mask_accesses ++ (stop_accesses ++ base_address_accesses));
+    before = looked ++ (mask_accesses ++ (stop_engine_accesses ++ base_address_accesses));
     between = [];
     later = rest;
     comreset_value = 1;
     end_of_comreset_value = 0;
-    accesses_are_split = sym (append_assoc looked (mask_accesses ++ (stop_accesses ++ base_address_accesses)) _);
+    accesses_are_split = sym (append_assoc looked (mask_accesses ++ (stop_engine_accesses ++ base_address_accesses)) _);
     sends_comreset = refl;
     ends_comreset = refl;
     sctl_is_unwritten_between = All-nil (DoesNotWrite (Px (port_at 0) Sctl));
@@ -256,7 +256,7 @@ module _ (c : Restart) where
     pub running : All (DoesNotWriteCmd (port_at 0)) c.looked
     pub unfound : (e : Pending) (slot : ℕ) → ServesRequest c.machine read_memory c.port 0 slot e.request.id → bit 1 slot ≡ false → ⊥
     pub told : (e : Pending) (o : Outcome) → Contains c.steps (Answer e o) → o ≡ outcome.Unplugged
-    pub own : NoneByDevice c.steps × AllStepsFaithful c.machine c.steps × ((n : ℕ) → PutsInDisks n [] c.steps)
+    pub own : NoneByDevice c.steps × AllStepsFaithful c.machine c.steps × ((n : ℕ) → PortPlugsPutInDisks n [] c.steps)
     pub plugged : issued.plug_history ≡ c.port.plug_history ++ []
 
   module _ (is : IsRestart) where
@@ -315,7 +315,7 @@ module _ (c : Restart) where
 
     pub backed : TapeBacksSteps old_device after_it c.machine c.steps
     backed = record {
-      telling_is_same = refl;
+      disks_tell_sectors_is_same = refl;
       new_entries = [];
       tape_is = sym (append-nil _);
       tells_device_steps = is.own.0;
@@ -332,7 +332,7 @@ module _ (c : Restart) where
     finds = record {
       ci = 1;
       sact = 0;
-      reads = record { before = c.looked; later = stop_accesses ++ (base_address_accesses ++ comreset_accesses); accesses_are_split = refl; cmd_is_unwritten_before = is.running };
+      reads = record { before = c.looked; later = stop_engine_accesses ++ (base_address_accesses ++ comreset_accesses); accesses_are_split = refl; cmd_is_unwritten_before = is.running };
       answered_iff_done = λ e slot on s. (λ ok. absurd (none_ok e ok), λ clear. absurd (is.unfound e slot s clear.0));
     }
 

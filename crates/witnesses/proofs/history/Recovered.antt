@@ -277,7 +277,7 @@ part_of n = record {
 
 backed : TapeBacksSteps submitted recovered issuing (answer ∷ [])
 backed = record {
-  telling_is_same = refl;
+  disks_tell_sectors_is_same = refl;
   new_entries = entry.Fault fault ∷ [];
   tape_is = refl;
   tells_device_steps = ([], [], answer ∷ [], tt, refl, (tt, λ d. d), refl);

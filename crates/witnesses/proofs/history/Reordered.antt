@@ -8,7 +8,7 @@ use Rattle.ata_types.specs.declared.request.Outcome.TheVariants as outcome
 use Rattle.ata_types.specs.declared.request.RequestId.{RequestId}
 use Rattle.byteorder.specs.Endian.{little_from}
 use Rattle.hba_regs.specs.Bits.{bit}
-use Rattle.adapter.specs.Commands.{command_of, is_ranged}
+use Rattle.adapter.specs.Commands.{command_of, moves_disk_sectors}
 use Rattle.adapter.specs.Device.{DevicePort}
 use Rattle.adapter.specs.Memory.{bytes_at, patched}
 use Rattle.adapter.specs.declared.command.Operation.{Operation}
@@ -87,7 +87,7 @@ abbrev named_sector : (ℕ → ℕ) → ℕ → ℕ
 named_sector memory slot = little_from 4 3 (bytes_at memory (command_table_address 0 slot) 20) + 2 ^ 24 * little_from 8 3 (bytes_at memory (command_table_address 0 slot) 20)
 
 -- a read names its sectors
-names : (o : Operation) (slot first count : ℕ) → client_operation_of o ≡ Some Read → ((command_of o slot first count).lba ≡ first) × (is_ranged o ≡ true)
+names : (o : Operation) (slot first count : ℕ) → client_operation_of o ≡ Some Read → ((command_of o slot first count).lba ≡ first) × (moves_disk_sectors o ≡ true)
 names operation.Read slot first count is = (refl, refl)
 names operation.ReadQueued slot first count is = (refl, refl)
 names operation.Write slot first count is = absurd (let x : Some Write ≡ Some Read = is in cc)
@@ -102,7 +102,7 @@ its_sector : (slot : ℕ) (id : RequestId) (s : ServesRequest both_issuing two_r
 its_sector slot id s reads =
     let read = names s.command.operation slot s.command.first s.command.count (s.means.op_is ∙ ap Some reads) in
     ap (λ (table : ℕ). little_from 4 3 (bytes_at two_reads_memory table 20) + 2 ^ 24 * little_from 8 3 (bytes_at two_reads_memory table 20)) (sym s.slot_decodes_to.table_is)
-    ∙ s.slot_decodes_to.decodes_to.fis.lba ∙ read.0 ∙ s.means.first_sector_is_if_ranged read.1
+    ∙ s.slot_decodes_to.decodes_to.fis.lba ∙ read.0 ∙ s.means.first_sector_is_if_it_moves_sectors read.1
 
 -- no slot but 0 and 1 serves a request
 no_third : (slot : ℕ) (id : RequestId) → ServesRequest both_issuing two_reads_memory two_issued 0 (suc (suc slot)) id → ⊥

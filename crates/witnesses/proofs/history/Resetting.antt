@@ -289,7 +289,7 @@ part_of n = record {
 
 backed : TapeBacksSteps submitted rebooted issuing steps
 backed = record {
-  telling_is_same = refl;
+  disks_tell_sectors_is_same = refl;
   new_entries = [];
   tape_is = sym (append-nil _);
   tells_device_steps = ((tt, λ d. d), λ d. d);

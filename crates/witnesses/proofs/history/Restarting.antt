@@ -13,7 +13,7 @@ use Rattle.adapter.specs.Steps.DeviceTransition.{FrFall, LinkUp}
 use Rattle.adapter.specs.declared.tape.Entry.{Entry}
 use Rattle.refinement.specs.Relation.{port_at}
 use Rattle.witnesses.specs.AllowedAccesses.{AreAllowed}
-use Rattle.witnesses.specs.Restart.{base_address_accesses, comreset_accesses, stop_and_comreset_accesses, stop_accesses}
+use Rattle.witnesses.specs.Restart.{base_address_accesses, comreset_accesses, stop_and_comreset_accesses, stop_engine_accesses}
 use Rattle.witnesses.specs.RunningAdapter.{running_device, port_or_empty}
 use Rattle.witnesses.proofs.history.Command.{read_memory}
 use Rattle.witnesses.proofs.history.Devices.{but_first, fall, falls_reads, may_stop, no_bit, put_device, reads, same_beside, writes}
@@ -146,7 +146,7 @@ module _ (c : Outset) where
   places : DoesAll (base_address_accesses ++ comreset_accesses) (dev tape stopped) (dev tape unfit)
   places = (dev tape commanded_again, reads_here tape Cmd 0x4010 stopped (refl, refl, refl, refl), (dev tape closing, writes_here tape Cmd 0x4000 commanded_again, (dev tape closed, closes, (dev tape with_list, writes_here tape Clb 0 closed, (dev tape with_lists, writes_here tape Clbu 0 with_list, (dev tape with_area, writes_here tape Fb 0x400 with_lists, (dev tape placed, writes_here tape Fbu 0 with_area, (dev tape asked_again, reads_here tape Cmd 0 placed (refl, refl, refl, refl), (dev tape hearing, writes_here tape Cmd 0x10 asked_again, resets)))))))))
 
-  stops : DoesAll (stop_accesses ++ (base_address_accesses ++ comreset_accesses)) (dev tape seen_masks) (dev tape unfit)
+  stops : DoesAll (stop_engine_accesses ++ (base_address_accesses ++ comreset_accesses)) (dev tape seen_masks) (dev tape unfit)
   stops = (dev tape commanded, reads_here tape Cmd 0xc011 seen_masks (refl, refl, refl, refl), (dev tape stopping_port, writes_here tape Cmd 0xc010 commanded, (dev tape stopped, falls, places)))
 
   pub restarts : DoesAll stop_and_comreset_accesses (dev tape outset) (dev tape unfit)

@@ -50,7 +50,7 @@ serves_one m memory p slot c id k n held age list below here op first told stage
       command = c;
       places = piece_addresses (4096 * n) 1;
       slot_decodes_to = subst (λ (at : ℕ). SlotDecodesTo memory at 0 slot c (piece_addresses (4096 * n) 1)) (sym list) told;
-      means = record { op_is = op; first_sector_is_if_ranged = λ _. first; places_are = (refl, places); trim_is_in_slot_0 = λ e. absurd (let x : Read ≡ Trim = e in cc) };
+      means = record { op_is = op; first_sector_is_if_it_moves_sectors = λ _. first; places_are = (refl, places); trim_is_in_slot_0 = λ e. absurd (let x : Read ≡ Trim = e in cc) };
       stage = stage;
     }
   where

@@ -3,7 +3,7 @@ use Rattle.std.proofs.Common.{ℕ, zero, suc, ◌≡◌, ◌<◌, ◌==◌, ◌&
 use Rattle.std.specs.List.{Contains}
 use Rattle.std.proofs.lemmas.Bool.{and_parts, cond-false, true≢false}
 use Rattle.std.proofs.lemmas.Option.{same_Some}
-use Rattle.adapter.specs.Commands.{is_ranged, reads_memory}
+use Rattle.adapter.specs.Commands.{moves_disk_sectors, reads_memory}
 use Rattle.adapter.specs.Device.{DurableState}
 use Rattle.adapter.specs.FirstRead.{first_disk, first_disk_sector}
 use Rattle.adapter.specs.Steps.{WereHeldSinceFlush, bytes_put_into}
@@ -17,7 +17,7 @@ first_lasting = record { sectors = first_disk.sectors; tape_length = 0 }
 
 -- the entry puts nothing anywhere
 abbrev pub is_still : Entry → Bool
-is_still (entry.Move move) = not (is_ranged move.operation && reads_memory move.operation)
+is_still (entry.Move move) = not (moves_disk_sectors move.operation && reads_memory move.operation)
 is_still (entry.Clear clear) = false
 is_still _ = true
 
@@ -34,7 +34,7 @@ still_of (x ∷ xs) e still here = by (λ c. still_of xs e (and_parts (is_still 
     by rest (suc i) lt at = rest (i, omega (arith, lt), at)
 
 puts_none : (e : Entry) (port k : ℕ) → is_still e ≡ true → bytes_put_into port k e ≡ None
-puts_none (entry.Move move) port k still = by (is_ranged move.operation && reads_memory move.operation) still
+puts_none (entry.Move move) port k still = by (moves_disk_sectors move.operation && reads_memory move.operation) still
   where
     and_false : (a : Bool) → a && false ≡ false
     and_false true = refl

@@ -5,7 +5,7 @@ use Rattle.hba_regs.specs.declared.reg.PortReg.TheVariants.{Ci}
 use Rattle.adapter.specs.Access.{Access, DoesAll, port_after_write}
 use Rattle.adapter.specs.Access.Access.{Writing, Storing}
 use Rattle.adapter.specs.Device.{DevicePort, FetchedCommand, Device}
-use Rattle.adapter.specs.FirstRead.{header_bytes}
+use Rattle.adapter.specs.FirstRead.{header_up_to_ctba}
 use Rattle.adapter.specs.Memory.{changed, patched}
 use Rattle.adapter.specs.ReadDone.{read_of}
 use Rattle.adapter.specs.Decoding.{piece_addresses}
@@ -39,19 +39,19 @@ abbrev pub submitted : Device
 submitted = running_device pages read_memory (issued ∷ second ∷ [])
 
 abbrev pub submit_accesses : List Access
-submit_accesses = Storing 0 header_bytes ∷ Storing 0x1000 read_bytes ∷ Storing 0x1080 place_bytes ∷ Writing (Px (port_at 0) Ci) 1 ∷ []
+submit_accesses = Storing 0 header_up_to_ctba ∷ Storing 0x1000 read_bytes ∷ Storing 0x1080 place_bytes ∷ Writing (Px (port_at 0) Ci) 1 ∷ []
 
 pub submits : DoesAll submit_accesses booted submitted
 unfolding read_memory
 submits = (
-  running_device pages (patched zeros 0 header_bytes) (running_port 0 ∷ second ∷ []),
-  stores 0 header_bytes pages zeros (running_port 0 ∷ second ∷ []),
+  running_device pages (patched zeros 0 header_up_to_ctba) (running_port 0 ∷ second ∷ []),
+  stores 0 header_up_to_ctba pages zeros (running_port 0 ∷ second ∷ []),
   (
-    running_device pages (patched (patched zeros 0 header_bytes) 0x1000 read_bytes) (running_port 0 ∷ second ∷ []),
-    stores 0x1000 read_bytes pages (patched zeros 0 header_bytes) (running_port 0 ∷ second ∷ []),
+    running_device pages (patched (patched zeros 0 header_up_to_ctba) 0x1000 read_bytes) (running_port 0 ∷ second ∷ []),
+    stores 0x1000 read_bytes pages (patched zeros 0 header_up_to_ctba) (running_port 0 ∷ second ∷ []),
     (
       running_device pages read_memory (running_port 0 ∷ second ∷ []),
-      stores 0x1080 place_bytes pages (patched (patched zeros 0 header_bytes) 0x1000 read_bytes) (running_port 0 ∷ second ∷ []),
+      stores 0x1080 place_bytes pages (patched (patched zeros 0 header_up_to_ctba) 0x1000 read_bytes) (running_port 0 ∷ second ∷ []),
       (submitted, writes pages read_memory 0 (running_port 0 ∷ second ∷ []) (issued ∷ second ∷ []) (but_first (running_port 0) issued (second ∷ [])) Ci 1 refl, refl),
     ),
   ),
@@ -76,7 +76,7 @@ fetches new = step_first (Fetch 0 0 (read_of 100 1) (piece_addresses 0x64000 1))
     (record {
       fetchable = record { st_is_set = refl; issued = refl; free = refl };
       working = record { cr_is_set = refl; present = refl; fresh = refl; admitted = refl; is_not_broken = refl };
-      is_unmixed = λ slot t is. absurd (let x : None ≡ Some t = is in cc);
+      is_alone_or_all_are_queued = λ slot t is. absurd (let x : None ≡ Some t = is in cc);
       says = told.decodes_to;
     })
     (put_device pages read_memory 0 (issued ∷ second ∷ []) (taken ∷ second ∷ []) taken refl (but_first issued taken (second ∷ [])))

@@ -11,7 +11,7 @@ use Rattle.adapter.specs.Device.{Disk, DevicePort, FetchedCommand, Device}
 use Rattle.adapter.specs.FirstRead.{first_disk_sector}
 use Rattle.adapter.specs.Memory.{changed, patched}
 use Rattle.adapter.specs.Decoding.{DecodesTo, piece_addresses}
-use Rattle.adapter.specs.Steps.{admits, MayBring, IsUnmixed, IsWorking, Steps, newly_fetched, done_entry, move_of, port_after_done_except_lasting, port_after_fetch, port_after_move}
+use Rattle.adapter.specs.Steps.{admits, MayBring, IsAloneOrAllAreQueued, IsWorking, Steps, newly_fetched, done_entry, move_of, port_after_done_except_lasting, port_after_fetch, port_after_move}
 use Rattle.adapter.specs.Steps.DeviceTransition.{Fetch, Move, Done}
 use Rattle.adapter.specs.declared.command.Operation.TheVariants.{ReadQueued, Trim}
 use Rattle.adapter.specs.declared.tape.Entry.{Entry}
@@ -48,13 +48,13 @@ works p stands = record {
 
 module _ (tape : List Entry) (memory : ℕ → ℕ) (p : DevicePort) (stands : Stands p) (slot k n : ℕ) where
   -- the command is taken, and then the device does more
-  fetches : p.ci slot ≡ true → p.taken slot ≡ None → IsUnmixed p ReadQueued → SlotDecodesTo memory 0 0 slot (queued_read k) (piece_addresses (4096 * n) 1) → (new : Device)
+  fetches : p.ci slot ≡ true → p.taken slot ≡ None → IsAloneOrAllAreQueued p ReadQueued → SlotDecodesTo memory 0 0 slot (queued_read k) (piece_addresses (4096 * n) 1) → (new : Device)
       → Steps (running_device tape memory (port_after_fetch p slot (queued_read k) (piece_addresses (4096 * n) 1) ∷ second ∷ [])) new → Steps (running_device tape memory (p ∷ second ∷ [])) new
   fetches issued free alone told new = step_first (Fetch 0 slot (queued_read k) (piece_addresses (4096 * n) 1)) (running_device tape memory (p ∷ second ∷ [])) (running_device tape memory (taken ∷ second ∷ [])) new
       (record {
         fetchable = record { st_is_set = ap (λ (q : DevicePort). q.st) stands.same; issued = issued; free = free };
         working = works p stands;
-        is_unmixed = alone;
+        is_alone_or_all_are_queued = alone;
         says = subst (λ (list : ℕ). DecodesTo memory list slot (queued_read k) (piece_addresses (4096 * n) 1)) (sym (ap (λ (q : DevicePort). q.bases.clb) stands.same)) told.decodes_to;
       })
       (put_device tape memory 0 (p ∷ second ∷ []) (taken ∷ second ∷ []) taken refl (but_first p taken (second ∷ [])))
@@ -143,7 +143,7 @@ abbrev both_taken : DevicePort
 both_taken = port_after_fetch first_taken 1 (queued_read 101) (piece_addresses (4096 * 101) 1)
 
 -- the first command is queued, so the second may be taken beside it
-beside : IsUnmixed first_taken ReadQueued
+beside : IsAloneOrAllAreQueued first_taken ReadQueued
 beside zero t is = let same : reads_into 100 100 ≡ t = some_same (sym (changed_here two_issued.taken 0 (Some (reads_into 100 100))) ∙ is) in ap (λ (t : FetchedCommand). is_queued t.meaning.operation) (sym same)
   where
     some_same : {t : FetchedCommand} → Some (reads_into 100 100) ≡ Some t → reads_into 100 100 ≡ t

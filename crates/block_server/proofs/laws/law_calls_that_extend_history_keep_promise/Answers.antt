@@ -9,7 +9,7 @@ returns g c =
       rest = c.law_answers_justified.ensures;
       moves = c.law_device_moves_and_clears_are_confined.ensures;
       run = c.law_histories_are_runs.ensures;
-      reads = c.law_ok_reads_hold_expected_if_disks_tell.ensures;
-      lasts = c.law_replugs_keep_flushed_if_disks_tell.ensures;
+      reads = c.law_ok_reads_hold_expected_if_sectors_told.ensures;
+      lasts = c.law_replugs_keep_flushed_if_sectors_told.ensures;
     } in
     record { no_calls = no_call laws g.A.Adapter.device; one_call = one_call laws g.A.Adapter.device; calls_join = more_calls laws g.A.Adapter.device }

@@ -14,7 +14,7 @@ returns-clause-one_more_task c =
       };
       acts = record {
         goes = c.law_acts_advance_driver.ensures.driver_advances;
-        reached = c.law_advances_compose.ensures.reached;
+        reached = c.law_driver_advances_compose.ensures.reached;
         more = c.law_acts_compose.ensures.acts_join;
         accesses = c.law_acts_compose.ensures.accesses;
         steps = c.law_acts_compose.ensures.steps;

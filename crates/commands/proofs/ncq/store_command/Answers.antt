@@ -4,7 +4,7 @@ use Rattle.adapter.specs.declared.command.Prd.{Prd}
 use Rattle.command_table.specs.SectorPlaces.{places_of}
 use Rattle.command_table.specs.TableStores.{IsTableFor}
 use Rattle.std.specs.Prelude.{List}
-use Rattle.commands.specs.Tasks.{piece_addresses_of, meaning_of}
+use Rattle.commands.specs.Tasks.{task_places, meaning_of}
 use Rattle.commands.proofs.Telling.{no_block, table_says}
 use Rattle.commands.proofs.ncq.store_command.Goals as goal
 
@@ -38,7 +38,7 @@ returns-clause-stores g c =
     let transfer = c.args.transfer.now in
     let port = c.args.port.0 in
     let slot = c.args.slot.0 in
-    let addresses = piece_addresses_of port transfer.op transfer.range.count c.args.frames.now in
+    let addresses = task_places port transfer.op transfer.range.count c.args.frames.now in
     let table = table_says transfer c.args.frames.now port slot q.may.transfer_fits.is_transfer q.may.transfer_fits.count_is_positive few q.may.transfer_fits.first_in_range c.args.meant.now c.prds_in-prds.result.items c.requires.is_command
     (c.prds_in-prds.ensures.are_whole_pieces (omega arith)) places in
     record {

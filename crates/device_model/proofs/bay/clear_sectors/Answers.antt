@@ -45,7 +45,7 @@ returns-then-not-put_sector g c =
     let put = c.put_sector.ensures in
     let is = c.loop-place.invariant in
     let below = c.loop-place-test.true in
-    let kept = put.writes.told_is_kept c.if-not-put_sector.true in
+    let kept = put.writes.failure_keeps_told_contents c.if-not-put_sector.true in
     record {
       count_is_allowed = omega (arith, below);
       disk_is = (λ i. disk_over c.args.which (put.writes.size_is_kept i) (kept i)) ∙ is.disk;

@@ -18,19 +18,19 @@ returns-clause-lasting g c =
     let bytes = c.args.bytes.now in
     elim c.match-gap_for.branch [
       | in-Some+else-not-read w ↦
-          let same : g.S.SectorStore.told c.match-gap_for.store ≡ told = ap g.S.SectorStore.told w.store-is ∙ w.read.ensures.contents_are_kept in
+          let same : g.S.SectorStore.told c.match-gap_for.store ≡ told = ap g.S.SectorStore.told w.store-is ∙ w.read.ensures.told_contents_are_kept in
           let none = gap_none olds sector w.in-Some.place w.in-Some.ensures.gap in
           let keeps = w.keep.ensures.keeps in
           let gives = w.read.ensures.bytes_are_told w.if-not-read.false in
           let now = w.keep.new.self.sectors.items in
           subst (λ (x : OldSectors). option_map (with_old_bytes x.sectors.items) then ≡ option_map (with_old_bytes olds) told) (sym w.kept-is)
           (put_lasts olds now sector bytes told then (kept_lasts olds now sector w.read.new.out told none keeps gives)
-          (kept_written olds now sector w.read.new.out told none keeps gives bytes) c.write.result (rw same at write.sector_is_replaced) (rw same at write.told_is_kept))
+          (kept_written olds now sector w.read.new.out told none keeps gives bytes) c.write.result (rw same at write.sector_is_replaced) (rw same at write.failure_keeps_told_contents))
       | in_default w ↦
           let same : g.S.SectorStore.told c.match-gap_for.store ≡ told = ap g.S.SectorStore.told w.store-is in
           subst (λ (x : OldSectors). option_map (with_old_bytes x.sectors.items) then ≡ option_map (with_old_bytes olds) told) (sym w.kept-is)
           (put_lasts olds olds sector bytes told then refl (had_lasts olds sector told (w.in_default.ensures.has_old_bytes refl) bytes) c.write.result
-          (rw same at write.sector_is_replaced) (rw same at write.told_is_kept))
+          (rw same at write.sector_is_replaced) (rw same at write.failure_keeps_told_contents))
     ]
 
 pub returns-clause-left : goal.returns-clause-left

@@ -15,7 +15,7 @@ loop-old-preserved g c =
     subst P (sym (take_more olds place no_old_sector c.loop-old-test.true))
     (writes_more g.S.SectorStore.size g.S.SectorStore.told g.S.SectorStore.failures (take place olds) old c.args.store.now c.loop-old.store c.write-written.new.self c.loop-old.invariant
     (wrote_one g.S.SectorStore.size g.S.SectorStore.told g.S.SectorStore.failures old c.write-written.result c.loop-old.store c.write-written.new.self write.size_is_kept
-    (search rules) (search rules) write.no_call_fails write.told_is_kept (search rules)))
+    (search rules) (search rules) write.no_call_fails write.failure_keeps_told_contents (search rules)))
 
 pub returns : goal.returns
 returns g c =

@@ -5,7 +5,7 @@ pub returns-clause-book : goal.returns-clause-book
 returns-clause-book c = same_book
 
 pub returns-clause-sound : goal.returns-clause-sound
-returns-clause-sound c = due_there c.law_due_list_is_exact.ensures.exact c.law_due_list_is_exact.ensures.due_are_of_port
+returns-clause-sound c = due_there c.law_due_of_port_is_exact.ensures.exact c.law_due_of_port_is_exact.ensures.due_are_of_port
 
 pub returns-clause-complete : goal.returns-clause-complete
-returns-clause-complete c = due_listed c.law_due_list_is_exact.ensures.exact
+returns-clause-complete c = due_listed c.law_due_of_port_is_exact.ensures.exact

@@ -13,8 +13,8 @@ returns c = record {
   history_machine_is_reachable = c.law_histories_reach_their_machines.ensures;
   an_id_is_one_request = λ m reached a b. c.law_one_id_is_in_the_book_once.ensures m a b reached;
   ended_is_issued = c.law_ended_is_issued.ensures;
-  device_steps_spare_book = c.law_book_only_advances_over_device_steps.ensures.spares;
-  entry_is_found_in_later_book = c.law_book_only_advances_over_device_steps.ensures.is_found_later;
-  entry_is_found_in_earlier_book = c.law_book_only_advances_over_device_steps.ensures.was_found_before;
+  device_steps_spare_book = c.law_requests_only_advance_over_device_steps.ensures.spares;
+  entry_is_found_in_later_book = c.law_requests_only_advance_over_device_steps.ensures.is_found_later;
+  entry_is_found_in_earlier_book = c.law_requests_only_advance_over_device_steps.ensures.was_found_before;
   does_append = c.law_accesses_compose.ensures.lists_append;
 }

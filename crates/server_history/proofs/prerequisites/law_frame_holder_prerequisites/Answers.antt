@@ -2,7 +2,7 @@ use Rattle.server_history.proofs.prerequisites.law_frame_holder_prerequisites.Go
 
 pub returns : goal.returns
 returns c = record {
-  enabled_histories_stay_in_limits = c.law_request_limits_hold_and_frames_are_lent.ensures;
+  enabled_histories_stay_in_limits = c.law_book_limits_hold_and_frames_are_lent.ensures;
   frame_holders_were_accepted = c.law_request_in_book_or_kept_was_accepted.ensures;
   acceptable_is_granted = c.law_accepted_is_granted.ensures;
   rows_shrink_and_owners_stay = c.law_rows_shrink_and_owners_stay.ensures;

@@ -3,7 +3,7 @@ use Rattle.server_history.proofs.prerequisites.law_recoveries.Goals as goal
 pub returns : goal.returns
 returns c = record {
   serving_slots_are_issued_count = c.law_no_more_slots_serve_than_requests_issued.ensures.as_many_serve;
-  advancing_keeps_reachable = c.law_advances_compose.ensures.reached;
+  advancing_keeps_reachable = c.law_driver_advances_compose.ensures.reached;
   setting_slot_keeps_others = c.law_setting_changes_one_slot.ensures.others;
   shown_disk_stays_in = c.law_det_3_means_disk_present_is_invariant.ensures.accesses;
   other_port_keeps_record = c.law_other_ports_are_untouched.ensures.recorded;

@@ -3,12 +3,12 @@ use Rattle.server_history.proofs.prerequisites.law_slots.Goals as goal
 pub returns : goal.returns
 returns c = record {
   accepted_agrees = c.law_accepting_agrees.ensures;
-  revoked_agrees = c.law_revoking_agrees.ensures;
+  revoked_agrees = c.law_revoking_grant_agrees.ensures;
   parked_agrees = c.law_parking_agrees.ensures;
   parked_frees = c.law_parking_request_frees_its_slot.ensures.frees;
   ended_clear = c.law_slot_is_clear_iff_ended_while_st_set.ensures.clears;
   answered_agrees = c.law_answering_slotless_request_agrees.ensures;
-  wait_again_agrees = c.law_wait_again_agrees.ensures;
+  wait_again_agrees = c.law_slotless_request_waiting_again_agrees.ensures;
   kept_agrees = c.law_answering_with_frames_kept_agrees.ensures;
   acts_advance_driver = c.law_acts_advance_driver.ensures.driver_advances;
   acts_gain_no_move_without_own_command = c.law_acts_advance_driver.ensures.gains_no_move;
@@ -26,5 +26,5 @@ returns c = record {
   decoding_is_unique = c.law_slot_decodes_to_at_most_one_command.ensures;
   stored_stays_over_acts_that_leave_it = c.law_stored_command_stays_over_acts_sparing_it.ensures;
   stored_stays_over_access_that_leaves_it = c.law_stored_command_stays_while_st_set.ensures.access;
-  shown_fault_is_of_lone_slot = c.law_slot_in_use_or_faulted_is_outstanding.ensures.only_used_slot_has_fault;
+  shown_fault_is_of_lone_slot = c.law_issued_taken_or_faulted_is_outstanding.ensures.only_used_slot_has_fault;
 }

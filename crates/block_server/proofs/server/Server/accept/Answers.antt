@@ -142,7 +142,7 @@ returns-clause-cost g c =
     let s = server_of g.A.Adapter.device (server_view_of c.self.inside) in
     let settled = is_on g.A.Adapter.device (server_view_of c.self.inside) c.args.self.now c.self.view_is c.requires.on c.self.invariant in
     let id : RequestId = record { 0 = c.self.inside.last + 1 } in
-    let exact = c.law_due_list_is_exact.ensures in
+    let exact = c.law_due_of_port_is_exact.ensures in
     let m = mode_in s c.args.port in
     let book = unanswered_of s.book in
     let its = as_unanswered (accepted_as c.args.port c.args.r.now id).request in

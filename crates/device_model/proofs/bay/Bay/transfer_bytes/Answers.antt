@@ -23,7 +23,7 @@ returns-in-Write g c =
             | inl plain ↦ rw plain (λ i. disk_over c.args.self.now.which (c.put_sector.ensures.writes.size_is_kept i) (told i))
             | inr queued ↦ rw queued (λ i. disk_over c.args.self.now.which (c.put_sector.ensures.writes.size_is_kept i) (told i))
           ];
-      told_is_kept = search rules;
+      failure_keeps_told_contents = search rules;
       size_is_kept = search rules;
       no_call_failed = search rules;
       only_ranged_fails = search rules;
@@ -52,7 +52,7 @@ returns-in-Trim g c =
       log_page_is_sent = search rules;
       unranged_keeps_bay = search rules;
       disk_is = search rules;
-      told_is_kept = search rules;
+      failure_keeps_told_contents = search rules;
       size_is_kept = search rules;
       no_call_failed = search rules;
       only_ranged_fails = search rules;

@@ -1,7 +1,7 @@
 use Rattle.std.proofs.Common.{rules, true, ◌≡◌, ◌<◌, ℕ, length, subst, sym, slice_index_or}
 use Rattle.device_model.specs.Slots.{IsFetchableIfHaltAdmits}
 use Rattle.adapter.specs.Commands.{Meaning}
-use Rattle.adapter.specs.Steps.{IsUnmixed, admits}
+use Rattle.adapter.specs.Steps.{IsAloneOrAllAreQueued, admits}
 use Rattle.adapter.proofs.SaysLemmas.{says_meaning}
 use Rattle.device_model.specs.FetchedBytes.{bytes_of}
 use Rattle.device_model.specs.PortView.{halt_of, port_of, taken_of, reset_port_without_disk}
@@ -45,7 +45,7 @@ returns-then-not-admits_by_halt_and_taken-clause-only c = λ _ o m places may.
     let said = rw (at_port h.ports c.from-place.result c.index-self-place.result small) at (rw c.deref.ensures.value at c.in-Some.ensures.found.1) in
     let one = says_meaning (bytes_of h.memory.items) _ c.args.slot m (taken_of c.in-Some.command).meaning places _ says said in
     let takes = fetch_takes h o c.from-place.result c.args.port c.args.slot m places c.from-place.ensures may in
-    let alone = takes.is_unmixed in
+    let alone = takes.is_alone_or_all_are_queued in
     (rw (at_port h.ports c.from-place.result c.index-self-place-2.result small) at (c.admits_by_halt_and_taken.ensures.complete c.if-not-admits_by_halt_and_taken.true (o.media c.from-place.result)))
     (subst (λ (x : Meaning). admits (halt_of (slice_index_or h.ports c.from-place.result reset_port_without_disk).halting) x.operation ≡ true) one takes.working.admitted)
-    (subst (λ (x : Meaning). IsUnmixed (port_of (slice_index_or h.ports c.from-place.result reset_port_without_disk) (o.media c.from-place.result)) x.operation) one alone)
+    (subst (λ (x : Meaning). IsAloneOrAllAreQueued (port_of (slice_index_or h.ports c.from-place.result reset_port_without_disk) (o.media c.from-place.result)) x.operation) one alone)

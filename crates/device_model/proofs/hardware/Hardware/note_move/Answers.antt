@@ -1,7 +1,7 @@
 use Rattle.std.proofs.Common.{rules, ℕ, ◌+◌, List, [], ◌∷◌, ◌++◌, ◌∙◌, ◌≡◌, ◌<◌, Some, sym, ap, subst, length, refl}
 use Rattle.std.specs.Prelude.{slice_index_or, slice_set}
 use Rattle.std.proofs.lemmas.Option.{IfSome_then}
-use Rattle.adapter.specs.Commands.{is_ranged}
+use Rattle.adapter.specs.Commands.{moves_disk_sectors}
 use Rattle.adapter.specs.Memory.{bytes_at}
 use Rattle.adapter.specs.declared.tape.Entry.TheVariants as entry
 use Rattle.device_model.specs.PieceTransfers.{piece_in_memory}
@@ -59,9 +59,9 @@ returns-clause-after c =
     let here = rw (← c.from.ensures) at is.works_on.is_taken in
     IfSome_then c.after.result c.after.ensures
     (λ n one.
-    let ranged = is.pieces_follow.is_ranged_if_any one.0 in
+    let moves_sectors = is.pieces_follow.is_ranged_if_any one.0 in
     let no_trim : c.args.next.operation ≡ Trim → ⊥ = λ (e : c.args.next.operation ≡ Trim).
-    true-false ranged (ap is_ranged (sym is.operation_is ∙ e)) in
+    true-false moves_sectors (ap moves_disk_sectors (sym is.operation_is ∙ e)) in
     let next = next_after h c.from.result c.args.port c.args.slot c.args.next t _ c.push_reserved.new.self h.starved is one.0 c.from.ensures small
     (rw (at_port h.ports c.from.result c.index-self-from.result small) at c.advance.ensures.rest)
     ((rw (at_port h.ports c.from.result c.index-self-from.result small) at (c.advance.ensures.held t)) here no_trim) in

@@ -26,7 +26,7 @@ loop-slot-init c =
     record {
       filled = λ m.
           let P : (ℕ → ℕ) → Type 0 = λ memory. IsScribbled 0 (length old.memory.items) c.args.byte (port_of p m) (bytes_of old.memory.items) memory in
-          subst P (sym (ap bytes_of items ∙ put)) (c.law_scribble_slot_by_slot.ensures.received_fis_area (length old.memory.items) c.args.byte (port_of p m) (bytes_of old.memory.items));
+          subst P (sym (ap bytes_of items ∙ put)) (c.law_scribbled_memory_is_filled_slot_by_slot.ensures.received_fis_area (length old.memory.items) c.args.byte (port_of p m) (bytes_of old.memory.items));
       rest = refl;
       size = ap length items ∙ (c.put_within.auto.memory ∙ ap length now);
     }
@@ -38,7 +38,7 @@ loop-slot-preserved c =
     let ports = ap (λ (h : Hardware). h.ports) inv.rest in
     let one = rw c.from-place.ensures at (rw inv.size at (rw ports at c.scribble_count.ensures.filled)) in
     record {
-      filled = λ m. c.law_scribble_slot_by_slot.ensures.prdbc_of_slot c.loop-slot.slot (length old.memory.items) c.args.byte (port_of (slice_index_or old.ports c.args.port reset_port_without_disk) m) _ _ _ (inv.filled m)
+      filled = λ m. c.law_scribbled_memory_is_filled_slot_by_slot.ensures.prdbc_of_slot c.loop-slot.slot (length old.memory.items) c.args.byte (port_of (slice_index_or old.ports c.args.port reset_port_without_disk) m) _ _ _ (inv.filled m)
           (rw (is_held _) one);
       rest = c.scribble_count.ensures.rest ∙ ap (λ (h : Hardware). record h { memory = c.scribble_count.new.self.memory }) inv.rest;
       size = c.scribble_count.ensures.size ∙ inv.size;

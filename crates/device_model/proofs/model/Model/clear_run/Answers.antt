@@ -71,16 +71,16 @@ returns-then-not-room-clause-answers g c =
       starves_for_want = λ _. inr ((c.requires, taken_of found.0, has), lacks);
     }
 
-pub clear-requires-clause-slot_has_command : goal.clear-requires-clause-slot_has_command
-clear-requires-clause-slot_has_command g c =
+pub note_clear-requires-clause-slot_has_command : goal.note_clear-requires-clause-slot_has_command
+note_clear-requires-clause-slot_has_command g c =
     let found = c.in-Some.ensures.found in
     let fits = found.1.cleared_fits in
     let few = c.clear-count.ensures.zero.count_is_allowed in
     let cut = c.cut-on_disk.ensures.count in
     (found.0, found.1.works_on, omega (arith, fits, few, cut))
 
-pub clear-requires-clause-room : goal.clear-requires-clause-room
-clear-requires-clause-room g c = let room = c.reserve-room.ensures.room c.if-not-room.false in omega (arith, room)
+pub note_clear-requires-clause-room : goal.note_clear-requires-clause-room
+note_clear-requires-clause-room g c = let room = c.reserve-room.ensures.room c.if-not-room.false in omega (arith, room)
 
 -- ---- some of the run is cleared, all of it, or none
 
@@ -116,7 +116,7 @@ whole_disk g c =
     subst P c.reserve.ensures.rest c.clear-count.ensures.zero.disk_is
 
 abbrev whole_mid : (g : Over) (c : goal.Then-count-run g) → Model g.row.S.Denot
-whole_mid g c = record c.args.self.now { hardware = c.clear.new.self; bays = with_item c.args.self.now.bays c.from-place.result (Some c.clear-count.new.self) }
+whole_mid g c = record c.args.self.now { hardware = c.note_clear.new.self; bays = with_item c.args.self.now.bays c.from-place.result (Some c.clear-count.new.self) }
 
 whole_items : (g : Over) (c : goal.Then-count-run g) → (whole_mid g c).bays.items ≡ slice_set c.args.self.now.bays.items c.args.port.0 (Some c.clear-count.new.self)
 whole_items g c = ap (λ k. slice_set c.args.self.now.bays.items k (Some c.clear-count.new.self)) c.from-place.ensures
@@ -141,7 +141,7 @@ whole_part g c =
     c.in-Some-index_mut.bay c.clear-count.new.self (whole_was g c) (whole_items g c) (whole_rest g c) (whole_lasts g c) c.reserve-room.new.self
     c.in-Some.run'.first c.clear-count.result found.0 c.reserve-room.ensures.device_is_kept
     c.in-Some.run' c.cut-on_disk.result c.sectors.result refl found.1 c.sectors.ensures cut.inside cut.count cut.first zeros.count_is_allowed (whole_disk g c) (λ none. zeros.no_clear_keeps_sectors none ∙ ap g.S.SectorStore.told (whole_store g c)) (zeros.size_is_kept ∙ ap g.S.SectorStore.size (whole_store g c))
-    c.clear.ensures.none_changes_nothing (λ some o. c.clear.ensures.cleared some o found.0 found.1.works_on)
+    c.note_clear.ensures.none_changes_nothing (λ some o. c.note_clear.ensures.cleared some o found.0 found.1.works_on)
 
 -- all of it is
 all : (g : Over) (c : goal.Then-count-run g) →
@@ -191,12 +191,12 @@ returns-then-count-run-clause-answers g c =
         gains_own_pages = (whole_part g c).gains_own_pages;
         disks_are_kept = λ none. absurd (none (c.requires, taken_of found.0, whole_can g c));
         step_keeps = store_keeps m (whole_mid g c) c.args.port.0 a b (whole_was g c) (whole_items g c) (whole_rest g c) g.S.SectorStore.size (c.clear-count.ensures.zero.size_is_kept ∙ ap g.S.SectorStore.size (whole_store g c)) (whole_cached g c) refl refl;
-        starved_is_kept = c.clear.ensures.starved ∙ c.reserve-room.ensures.starved;
+        starved_is_kept = c.note_clear.ensures.starved ∙ c.reserve-room.ensures.starved;
       },
     )
 
 pub returns-then-count-run-clause-left : goal.returns-then-count-run-clause-left
-returns-then-count-run-clause-left g c = λ _ n room. c.clear.ensures.room_is_left n (c.reserve-room.ensures.room_is_kept (n + 1) room)
+returns-then-count-run-clause-left g c = λ _ n room. c.note_clear.ensures.room_is_left n (c.reserve-room.ensures.room_is_kept (n + 1) room)
 
 -- ---- the command fails on the next one
 
@@ -232,7 +232,7 @@ then_disk g c =
     subst P c.reserve.ensures.rest c.clear-count.ensures.zero.disk_is
 
 abbrev mid : (g : Over) (c : goal.After-fail-failed g) → Model g.row.S.Denot
-mid g c = record c.args.self.now { hardware = c.clear.new.self; bays = with_item c.args.self.now.bays c.from-place.result (Some c.clear-count.new.self) }
+mid g c = record c.args.self.now { hardware = c.note_clear.new.self; bays = with_item c.args.self.now.bays c.from-place.result (Some c.clear-count.new.self) }
 
 items : (g : Over) (c : goal.After-fail-failed g) → (mid g c).bays.items ≡ slice_set c.args.self.now.bays.items c.args.port.0 (Some c.clear-count.new.self)
 items g c = ap (λ k. slice_set c.args.self.now.bays.items k (Some c.clear-count.new.self)) c.from-place.ensures
@@ -257,7 +257,7 @@ part g c =
     c.in-Some-index_mut.bay c.clear-count.new.self (was g c) (items g c) (then_rest g c) (then_lasts g c) c.reserve-room.new.self
     c.in-Some.run'.first c.clear-count.result found.0 c.reserve-room.ensures.device_is_kept
     c.in-Some.run' c.cut-on_disk.result c.sectors.result refl found.1 c.sectors.ensures cut.inside cut.count cut.first zeros.count_is_allowed (then_disk g c) (λ none. zeros.no_clear_keeps_sectors none ∙ ap g.S.SectorStore.told (then_store g c)) (zeros.size_is_kept ∙ ap g.S.SectorStore.size (then_store g c))
-    c.clear.ensures.none_changes_nothing (λ some o. c.clear.ensures.cleared some o found.0 found.1.works_on)
+    c.note_clear.ensures.none_changes_nothing (λ some o. c.note_clear.ensures.cleared some o found.0 found.1.works_on)
 
 fewer : (g : Over) (c : goal.After-fail-failed g) → c.clear-count.result < next_run_length c.args.most (taken_of c.in-Some.ensures.found.0)
 fewer g c =
@@ -309,7 +309,7 @@ failed g c =
     (record (taken_of c.in-Some.ensures.found.0) { cleared = c.in-Some.ensures.found.0.cleared + c.clear-count.result }) c.fail-failed.result
     (mid g c) c.fail-failed.new.self c.fail-failed.ensures (omega (arith, small, at)) c.requires
     (record { taken = more.works.taken; cr_is_set = more.works.working.cr_is_set; is_byte = (cause g c).1; kept_bits_are_allowed = refl })
-    (c.clear.ensures.room_is_left 1 (c.reserve-room.ensures.room c.if-not-room.false))
+    (c.note_clear.ensures.room_is_left 1 (c.reserve-room.ensures.room c.if-not-room.false))
 
 has_failed : (g : Over) (c : goal.After-fail-failed g) →
     CommandOfStepFails g.S.SectorStore.size g.S.SectorStore.told g.S.SectorStore.failures (asked.Clear c.args.port c.args.slot c.args.most) c.args.self.now c.fail-failed.new.self
@@ -341,7 +341,7 @@ returns-clause-answers g c =
           (store_whichs m (mid g c) c.args.port.0 a b (was g c) (items g c) (then_rest g c) c.args.port.0)
           (seated_others m (mid g c) c.args.port.0 a b (was g c) (items g c)) (part g c).gains_own_pages
           (store_keeps m (mid g c) c.args.port.0 a b (was g c) (items g c) (then_rest g c) g.S.SectorStore.size (c.clear-count.ensures.zero.size_is_kept ∙ ap g.S.SectorStore.size (then_store g c)) (then_cached g c) refl refl)
-          (c.clear.ensures.starved ∙ c.reserve-room.ensures.starved) (c.requires, taken_of found.0, can g c),
+          (c.note_clear.ensures.starved ∙ c.reserve-room.ensures.starved) (c.requires, taken_of found.0, can g c),
     )
 
 -- ---- the cache had no memory for what the sectors hold, and that is told

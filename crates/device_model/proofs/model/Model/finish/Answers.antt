@@ -172,7 +172,7 @@ returns-in-Failed-clause-answers g c =
     let failed = c.move_piece.ensures.failed c.in-Failed.is in
     let left = c.in-Some-begin.field-0.remaining.moves in
     let asks = finish_moves c.args.port c.args.slot c.loop-piece.did _ _ left c.in-Some-begin.field-0.remaining.clears (found_disks g.S.SectorStore.size g.S.SectorStore.told c.args.self.now c.from.result c.args.port.0 _ c.from.ensures c.as_slice.ensures.value (sym c.has_disks.ensures.disks ∙ c.if-not-has_disks.false))
-    (omega (arith, c.loop-piece-test.true)) is.did is.refused (c.in-Some-begin.ensures.begun.may_finish o) (c.requires, failed.fetched_command, failed.has_move, failed.ranged) in
+    (omega (arith, c.loop-piece-test.true)) is.did is.refused (c.in-Some-begin.ensures.begun.may_finish o) (c.requires, failed.fetched_command, failed.has_move, failed.moves_sectors) in
     move_fails g.S.SectorStore.size g.S.SectorStore.told g.S.SectorStore.failures c.args.port c.args.slot c.loop-piece.did first _ _
     ((found_disks g.S.SectorStore.size g.S.SectorStore.told c.args.self.now c.from.result c.args.port.0 _ c.from.ensures c.as_slice.ensures.value (sym c.has_disks.ensures.disks ∙ c.if-not-has_disks.false)), c.requires, left, c.in-Some-begin.field-0.remaining.clears, c.in-Some-begin.ensures.begun.may_finish o) is.did is.refused is.meanwhile asks is.fine step failed
 
@@ -411,7 +411,7 @@ returns-in-Failed-clause-sends g c = λ disks has.
     let is = c.loop-piece.invariant in
     let failed = c.move_piece.ensures.failed c.in-Failed.is in
     let page = page_taken c.args.port.0 c.args.slot.0 c.loop-piece.did _ _ is.did is.refused has failed.fetched_command failed.has_move.works.taken in
-    true-false failed.ranged (page_unranged _ page.0)
+    true-false failed.moves_sectors (page_unranged _ page.0)
 
 pub returns-then-done-clause-sends : goal.returns-then-done-clause-sends
 returns-then-done-clause-sends g c = λ disks has.

@@ -4,7 +4,7 @@ use Rattle.std.specs.Vec.{with_item}
 use Rattle.std.proofs.Common.{Bool, Some, Option, refl, ◌++◌, ℕ, true, false, ◌≡◌, ◌<◌, ◌≤◌, ◌∙◌, ◌+◌, ◌^◌, ◌∷◌, [], length, sym, ap, subst, arith, inl, inr}
 use Rattle.device_model.proofs.Absurd.{some_one, true-false}
 use Rattle.adapter.specs.AskedSteps.{DoesMove}
-use Rattle.adapter.specs.Commands.{is_ranged, reads_memory}
+use Rattle.adapter.specs.Commands.{moves_disk_sectors, reads_memory}
 use Rattle.adapter.specs.Device.{Device, FetchedCommand}
 use Rattle.adapter.specs.Steps.{next_place, next_sector, Can, device_after, move_of}
 use Rattle.adapter.specs.Steps.DeviceTransition.{Move}
@@ -146,9 +146,9 @@ moved g c =
       bytes = bytes;
       can = subst R (c.reserve-room.ensures.device_is_kept o)
           (may_move h o c.args.port.0 c.args.slot.0 c.in-Some-next_move.next r bytes is (exchanged g c).bytes_are_sector
-          (subst (λ (x : Media). is_ranged (c.in-Some-next_move.next.operation) ≡ true →
+          (subst (λ (x : Media). moves_disk_sectors (c.in-Some-next_move.next.operation) ≡ true →
           c.in-Some-next_move.next.sector < x.disk.sector_count) at ((exchanged g c).done_sector_is_on_disk did))
-          (subst (λ (x : Media). is_ranged (c.in-Some-next_move.next.operation) ≡ true → reads_memory (c.in-Some-next_move.next.operation) ≡ false →
+          (subst (λ (x : Media). moves_disk_sectors (c.in-Some-next_move.next.operation) ≡ true → reads_memory (c.in-Some-next_move.next.operation) ≡ false →
           IfSome x.disk.sectors (λ f. bytes ≡ f c.in-Some-next_move.next.sector)) at ((exchanged g c).read_gives_told did))
           (exchanged g c).write_keeps_bytes);
       effect = ap (λ (x : AllMedia). device_of c.note_move.new.self x) behind
@@ -260,26 +260,26 @@ past g c =
 
 -- it names one
 past_ranged : (g : Over) (c : goal.After-fail-failed g) → (next_sector (taken_of (grow c.args.port.0 c.args.slot.0 c.reserve-room.ensures.rest c.in-Some-next_move.ensures.found).0) ≡ c.in-Some-next_move.next.sector)
-    × (is_ranged ((grow c.args.port.0 c.args.slot.0 c.reserve-room.ensures.rest c.in-Some-next_move.ensures.found).0.operation) ≡ true) × (g.S.SectorStore.size c.in-Some.bay.disk.store ≤ c.in-Some-next_move.next.sector)
-past_ranged g c = by (is_ranged (c.in-Some-next_move.next.operation)) refl
+    × (moves_disk_sectors ((grow c.args.port.0 c.args.slot.0 c.reserve-room.ensures.rest c.in-Some-next_move.ensures.found).0.operation) ≡ true) × (g.S.SectorStore.size c.in-Some.bay.disk.store ≤ c.in-Some-next_move.next.sector)
+past_ranged g c = by (moves_disk_sectors (c.in-Some-next_move.next.operation)) refl
   where
     found : (t : TakenCommand) × IsNextMove c.reserve-room.new.self c.args.port.0 c.args.slot.0 c.in-Some-next_move.next t
     found = (grow c.args.port.0 c.args.slot.0 c.reserve-room.ensures.rest c.in-Some-next_move.ensures.found)
 
-    never : (is_ranged (c.in-Some-next_move.next.operation) ≡ true → c.in-Some-next_move.next.sector < c.sectors.result) → ⊥
-    never on = true-false (c.is_within_disk_if_ranged.ensures.1 on) c.if-not-is_within_disk_if_ranged.true
+    never : (moves_disk_sectors (c.in-Some-next_move.next.operation) ≡ true → c.in-Some-next_move.next.sector < c.sectors.result) → ⊥
+    never on = true-false (c.is_within_disk_if_it_moves_sectors.ensures.1 on) c.if-not-is_within_disk_if_it_moves_sectors.true
 
-    by : (b : Bool) → is_ranged (c.in-Some-next_move.next.operation) ≡ b → (next_sector (taken_of found.0) ≡ c.in-Some-next_move.next.sector)
-        × (is_ranged found.0.operation ≡ true) × (g.S.SectorStore.size c.in-Some.bay.disk.store ≤ c.in-Some-next_move.next.sector)
+    by : (b : Bool) → moves_disk_sectors (c.in-Some-next_move.next.operation) ≡ b → (next_sector (taken_of found.0) ≡ c.in-Some-next_move.next.sector)
+        × (moves_disk_sectors found.0.operation ≡ true) × (g.S.SectorStore.size c.in-Some.bay.disk.store ≤ c.in-Some-next_move.next.sector)
     by true e = (
       sym found.1.sector_is,
-      ap is_ranged (sym found.1.operation_is) ∙ e,
+      ap moves_disk_sectors (sym found.1.operation_is) ∙ e,
       elim (cases_lt c.in-Some-next_move.next.sector c.sectors.result) [
         | inl below ↦ absurd (never (λ _. below))
         | inr past ↦ let size = c.sectors.ensures in omega (arith, past, size)
       ],
     )
-    by false e = absurd (never (λ ranged. true-false ranged e))
+    by false e = absurd (never (λ moves_sectors. true-false moves_sectors e))
 
 past_failed : (g : Over) (c : goal.After-fail-failed g) →
     CommandOfStepFails g.S.SectorStore.size g.S.SectorStore.told g.S.SectorStore.failures (asked.Move c.args.port c.args.slot) c.args.self.now c.fail-failed.new.self
@@ -299,11 +299,11 @@ past_failed g c =
     (store_says m (past_model g c) c.args.port.0 a a (was_past g c) (past_items g c) refl c.args.port.0) (past_fits g c) is.1
     (inl (omega (arith, size, sector, below), refl, calls))
 
-pub returns-then-not-is_within_disk_if_ranged-clause-failed : goal.returns-then-not-is_within_disk_if_ranged-clause-failed
-returns-then-not-is_within_disk_if_ranged-clause-failed g c = λ _. past_failed g c
+pub returns-then-not-is_within_disk_if_it_moves_sectors-clause-failed : goal.returns-then-not-is_within_disk_if_it_moves_sectors-clause-failed
+returns-then-not-is_within_disk_if_it_moves_sectors-clause-failed g c = λ _. past_failed g c
 
-pub returns-then-not-is_within_disk_if_ranged-clause-answers : goal.returns-then-not-is_within_disk_if_ranged-clause-answers
-returns-then-not-is_within_disk_if_ranged-clause-answers g c =
+pub returns-then-not-is_within_disk_if_it_moves_sectors-clause-answers : goal.returns-then-not-is_within_disk_if_it_moves_sectors-clause-answers
+returns-then-not-is_within_disk_if_it_moves_sectors-clause-answers g c =
     let m = c.args.self.now in
     let a = c.in-Some.bay in
     let found = (grow c.args.port.0 c.args.slot.0 c.reserve-room.ensures.rest c.in-Some-next_move.ensures.found) in (
@@ -384,7 +384,7 @@ store_same g c =
     (outside_kept m (store_model g c) c.args.port.0 c.in-Some.bay c.transfer_piece.new.self (was_store g c)
     (store_items g c) (exchanged_so g c).rest_is_kept
     g.S.SectorStore.size g.S.SectorStore.told (exchanged_so g c).size_is_kept
-    ((exchanged_so g c).told_is_kept c.if-not-transfer_piece.true) (lasts_so g c))
+    ((exchanged_so g c).failure_keeps_told_contents c.if-not-transfer_piece.true) (lasts_so g c))
     ∙ (c.transfer_piece.ensures.stays c.if-not-transfer_piece.true (all_media_at g.S.SectorStore.size g.S.SectorStore.told m)
     ∙ c.reserve-room.ensures.device_is_kept (all_media_at g.S.SectorStore.size g.S.SectorStore.told m))
 
@@ -395,8 +395,8 @@ store_failed g c =
     let a = c.in-Some.bay in
     let b = c.transfer_piece.new.self in
     let next = (grow c.args.port.0 c.args.slot.0 c.reserve-room.ensures.rest c.in-Some-next_move.ensures.found) in
-    let ranged = (exchanged_so g c).only_ranged_fails c.if-not-transfer_piece.true in
-    let here = c.is_within_disk_if_ranged.ensures.0 c.if-not-is_within_disk_if_ranged.false ranged in
+    let moves_sectors = (exchanged_so g c).only_ranged_fails c.if-not-transfer_piece.true in
+    let here = c.is_within_disk_if_it_moves_sectors.ensures.0 c.if-not-is_within_disk_if_it_moves_sectors.false moves_sectors in
     let listed = c.sectors.ensures in
     let on : c.reserve.new.self.cache.is_on ≡ port_has_cache m c.args.port.0 = c.reserve.ensures.old_sectors_are_kept.cache_mode_is_kept ∙ sym (ap has_cache (was_store g c)) in
     let Q : Bool → ℕ → Type 0 = λ writes sector. OneMoreCallFails (port_has_cache m c.args.port.0) writes sector (g.S.SectorStore.failures a.disk.store) (g.S.SectorStore.failures b.disk.store) in
@@ -415,7 +415,7 @@ store_failed g c =
     (store_model g c) c.fail-failed-then-not-transfer_piece.new.self (store g c) (store_same g c)
     (store_says m (store_model g c) c.args.port.0 a b (was_store g c) (store_items g c)
     (exchanged_so g c).rest_is_kept c.args.port.0) (store_fits g c)
-    (ap is_ranged (sym next.1.operation_is) ∙ ranged)
+    (ap moves_disk_sectors (sym next.1.operation_is) ∙ moves_sectors)
     (inr (
       omega (arith, here, listed, size, sector),
       refl,
@@ -431,7 +431,7 @@ returns-then-not-transfer_piece-clause-answers g c =
     let a = c.in-Some.bay in
     let b = c.transfer_piece.new.self in
     let next = (grow c.args.port.0 c.args.slot.0 c.reserve-room.ensures.rest c.in-Some-next_move.ensures.found) in
-    let ranged = ap is_ranged (sym next.1.operation_is)
+    let moves_sectors = ap moves_disk_sectors (sym next.1.operation_is)
     ∙ (exchanged_so g c).only_ranged_fails c.if-not-transfer_piece.true in (
       (c.requires.small, taken_of next.0, store_fits g c),
       did_fail g.S.SectorStore.size g.S.SectorStore.told g.S.SectorStore.failures c.args.port c.args.slot 0x40 (taken_of next.0) m
@@ -445,7 +445,7 @@ returns-then-not-transfer_piece-clause-answers g c =
           (store_keeps m (store_model g c) c.args.port.0 a b (was_store g c) (store_items g c)
           (exchanged_so g c).rest_is_kept g.S.SectorStore.size (exchanged_so g c).size_is_kept (cached_so g c) refl refl)
           (starved_over c.transfer_piece.ensures.memory ∙ c.reserve-room.ensures.starved)
-          (c.requires.small, taken_of next.0, store_fits g c, ranged),
+          (c.requires.small, taken_of next.0, store_fits g c, moves_sectors),
     )
 
 -- ---- what is found and known for the pieces behind

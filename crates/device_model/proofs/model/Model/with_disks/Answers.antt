@@ -37,7 +37,7 @@ returns g c =
         disks_hold_sectors = λ port. disks_are g.S.SectorStore.size g.S.SectorStore.told g.met.S.SectorStore.told_sectors_are_valid _;
         disks_are_known_if_telling = all_disks_have_known_sectors g.S.SectorStore.size g.S.SectorStore.told bays;
       };
-      telling_is = is.tells;
+      disks_tell_sectors_is = is.tells;
       bays_are_new = is.bays;
       none_is_held = search rules;
       queue_is_empty = search rules;

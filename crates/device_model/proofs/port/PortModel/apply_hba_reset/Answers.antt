@@ -1,6 +1,6 @@
 use Rattle.std.proofs.Common.{◌≡◌, ◌∙◌, ◌%◌, ◌||◌}
 use Rattle.std.specs.Prelude.{nat_eq}
-use Rattle.adapter.specs.Steps.{port_after_reset}
+use Rattle.adapter.specs.Steps.{port_after_hba_reset}
 use Rattle.device_model.specs.PortView.{port_of, taken_commands_by_slot}
 use Rattle.device_model.proofs.GoingOn.{no_bits}
 use Rattle.device_model.proofs.port.PortModel.apply_hba_reset.Goals as goal
@@ -14,4 +14,4 @@ returns c = λ m.
       | then-self w ↦ rw w.if-self.true (w.self-is ∙ w.if-self.true)
       | else-self w ↦ rw w.if-self.false w.self-is
     ] in
-    λ i. record (port_after_reset (port_of p m)) { ci = no_bits i; sact = no_bits i; is = no_bits i; taken = taken_commands_by_slot (c.clear.ensures i); link_due = due i }
+    λ i. record (port_after_hba_reset (port_of p m)) { ci = no_bits i; sact = no_bits i; is = no_bits i; taken = taken_commands_by_slot (c.clear.ensures i); link_due = due i }

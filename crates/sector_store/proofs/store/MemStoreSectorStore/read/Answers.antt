@@ -16,6 +16,6 @@ returns-then-sector-self c =
       place_is_kept = search rules;
       no_call_fails = search rules;
       failure_is_noted = search rules;
-      contents_are_kept = search rules;
+      told_contents_are_kept = search rules;
       size_is_kept = search rules;
     }

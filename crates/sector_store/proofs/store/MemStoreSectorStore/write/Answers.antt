@@ -24,7 +24,7 @@ returns c =
       sector_is_replaced = λ _. ap (λ (f : ℕ → List ℕ). Some f)
           (sector_rewritten now.size c.args.sector now.written.items c.args.bytes.now c.extend_to.ensures.there
           ∙ ap (λ (l : List (List ℕ)). with_sector (λ k. slice_index_or l k []) c.args.sector c.args.bytes.now) c.extend_to.ensures.kept);
-      told_is_kept = search rules;
+      failure_keeps_told_contents = search rules;
       no_call_fails = search rules;
       failure_is_noted = search rules;
       size_is_kept = search rules;

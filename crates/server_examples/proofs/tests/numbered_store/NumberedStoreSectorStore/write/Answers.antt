@@ -19,7 +19,7 @@ returns c =
           numbered_clears s.first s.next s.rising
           ∙ sym (ap (λ (k : ℕ). with_sector told k c.args.bytes.now) cleared.0 ∙ ap (λ (bytes : List ℕ). with_sector told s.next bytes) cleared.1)
           );
-      told_is_kept = search rules;
+      failure_keeps_told_contents = search rules;
       no_call_fails = search rules;
       failure_is_noted = search rules;
       size_is_kept = search rules;
