@@ -14,11 +14,11 @@ CODE_LINES = 799
 # What each document may have, and all of them together.
 LINES = {
     "README.md": 130,
-    "docs/ARCHITECTURE.md": 300,
+    "docs/ARCHITECTURE.md": 220,
     "docs/CHECK.md": 40,
     "docs/CLAIMS.md": 220,
-    "docs/DECISIONS.md": 250,
-    "docs/DEFINITIONS.md": 220,
+    "docs/DECISIONS.md": 180,
+    "docs/DEFINITIONS.md": 200,
     "docs/HARDWARE.md": 80,
     "docs/OPEN.md": 60,
     "docs/PERFORMANCE.md": 70,
@@ -28,8 +28,7 @@ ALL_BYTES = 130_000
 CODE = ["crates/*/src/**/*.rt", "crates/*/specs/**/*.antt", "examples/**/*.rt.txt", "examples/*/host/src/*.rs"]
 SCRIPTS = ["scripts/*", "examples/*.sh", "examples/*/*.sh", "examples/*/*.py", "examples/vfio/machine/*", "bench/*.py"]
 SCRIPTS += [".ci/run"]
-DOCUMENTS = ["*.md", "docs/*.md"]
-OTHERS = ["examples/*/README.md"]
+DOCUMENTS = ["*.md", "docs/*.md", "examples/*/README.md"]
 # An import can't be broken, and a row of a table neither.
 WHOLE = re.compile(r"\s*(ghost use |pub use |use |import |open |\|)")
 
@@ -57,7 +56,7 @@ def faults(path, is_code, is_document):
 def main():
     code, documents = files(CODE), files(DOCUMENTS)
     passed = failed = 0
-    for path in [*code, *files(SCRIPTS), *documents, *files(OTHERS)]:
+    for path in [*code, *files(SCRIPTS), *documents]:
         over = [*faults(path, path in code, path in documents)]
         passed, failed = (passed, failed + 1) if over else (passed + 1, failed)
         for line in over:

@@ -8,7 +8,7 @@ It writes a configuration and a script, has run.sh play it, and goes through scr
 refusal is the one that the rules say, each reply is of a request that is unanswered, each that is told Revoked had a
 grant that was revoked, and each loaded byte is what the shadow of the frame has, by the order in which requests were
 accepted. With --failures QEMU's blkdebug fails reads and
-writes: docs/QEMU.md says what comes of it. The last line tells how many requests were accepted, how many accesses each
+writes: README.md says what comes of it. The last line tells how many requests were accepted, how many accesses each
 took, and how many differences were found.
 """
 import argparse

@@ -9,7 +9,7 @@ use std::io::{self, BufRead, BufReader, Read, Write};
 /// Bytes of memory that a line carries at most.
 const MOST_BYTES: usize = 64;
 // Where the server keeps the command of slot 0, and the pages that the disk sends, of port 0 (docs/ARCHITECTURE.md,
-// "Memory"): the third byte of a Register FIS is the command.
+// section 7): the third byte of a Register FIS is the command.
 const COMMAND: usize = 0x1002;
 const PAGE: usize = 0x1_2000;
 const IDENTIFY_DEVICE: u8 = 0xec;
