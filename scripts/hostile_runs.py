@@ -3,7 +3,7 @@
 and where a call on its image fails. `hostile_runs.py PROGRAM`: in four sweeps over the cases in examples/cases
 
 - each request of memory of each session is refused in turn (scripts/refuse_memory.c is put before the program; the
-  sweep is left out where there is no compiler);
+  sweep is skipped where there is no compiler);
 - each script and each configuration is cut at each byte;
 - words, configurations and scripts are changed by a seed;
 - each of the 65,538 sectors of the longest trim, and of a read behind it, fails in turn (scripts/fail_calls.c,
@@ -11,7 +11,7 @@ and where a call on its image fails. `hostile_runs.py PROGRAM`: in four sweeps o
 
 A run ends with a status that docs/FORMATS.md has and what is told with it, it prints a beginning of whole lines of what
 the whole script is answered, and the image is as the answered lines leave it. The last line is 'N passed, M failed', of
-runs.
+runs, with ', 2 skipped' behind it where two sweeps are.
 """
 import concurrent.futures
 import dataclasses
@@ -392,7 +392,7 @@ def main(program):
     with tempfile.TemporaryDirectory() as scratch:
         has_compiler = compiled(scratch)
         if not has_compiler:
-            print("hostile runs: without a compiler no memory is refused, and no call fails", file=sys.stderr)
+            print("skipped: refused memory and failing calls: a C compiler is needed (Debian's package gcc)")
         with concurrent.futures.ProcessPoolExecutor(workers, None, begin_worker, (os.path.abspath(program),)) as pool:
             asked = list(parts(has_compiler))
             done = [pool.submit(judged, *part) for part in asked]
@@ -404,7 +404,8 @@ def main(program):
                 failed += len(wrong)
     for name, count in counts.items():
         print(f"hostile runs: {name.replace('_', ' ')}: {count}", file=sys.stderr)
-    print(f"hostile runs: {sum(counts.values()) - failed} passed, {failed} failed")
+    skipped = "" if has_compiler else ", 2 skipped"
+    print(f"hostile runs: {sum(counts.values()) - failed} passed, {failed} failed{skipped}")
     return 0 if counts and all(counts.values()) and not failed else 1
 
 

@@ -1,9 +1,7 @@
 #!/usr/bin/env python3
 """What the scripts beside it need of the toolchain: the repository's crates, as its command `rt` sees them.
 
-`toolchain.py stamp` marks the libraries that `rt ci` has just made as those of the sources as they are, so that `rt
-check` and the scripts take them. `toolchain.py above NAME..` lists these crates and all that stand on them, lowest
-first.
+`toolchain.py above NAME..` lists these crates and all that stand on them, lowest first.
 """
 import functools
 import hashlib
@@ -58,9 +56,23 @@ def words_of(crate):
     return crate.words(["--jobs", "1"], keeps=False)
 
 
-def stamp():
+def processors():
+    """How many processors this process may run on."""
+    return len(os.sched_getaffinity(0))
+
+
+def free_memory():
+    """How many bytes of memory are free."""
+    with open("/proc/meminfo", encoding="utf-8") as it:
+        kilobytes = next(line.split()[1] for line in it if line.startswith("MemAvailable:"))
+    return 1024 * int(kilobytes)
+
+
+def stamp(names):
+    """Marks the libraries that `rt ci` has just made of these crates as those of the sources as they are, so that `rt
+    check` and the scripts take them."""
     for it in crates():
-        if it.makes_rlib() and os.path.isdir(it.rlib):
+        if it.name in names and it.makes_rlib() and os.path.isdir(it.rlib):
             with open(f"{os.path.dirname(it.rlib)}/stamp", "w", encoding="utf-8") as out:
                 out.write(it.stamp())
 
@@ -76,9 +88,7 @@ def above(names):
 
 
 if __name__ == "__main__":
-    if sys.argv[1:] == ["stamp"]:
-        stamp()
-    elif sys.argv[1:2] == ["above"]:
+    if sys.argv[1:2] == ["above"]:
         above(sys.argv[2:])
     else:
         sys.exit(__doc__)

@@ -1,14 +1,14 @@
 #!/usr/bin/env bash
 # Runs the program `follow` over QEMU's adapter: a script, whose answers are known, and random requests, on disks that
-# don't fail and on disks that do. Where QEMU isn't installed, it is left out, and says so. It takes some ten seconds
-# once the program is built. The last line is 'N passed, M failed'.
+# don't fail and on disks that do. Where QEMU isn't installed, all three are skipped. It takes some ten seconds once the
+# program is built. The last line is 'N passed, M failed', or 'N passed, M failed, K skipped'.
 set -euo pipefail
 cd "$(dirname "$0")"
 
 passed=0 failed=0
 if ! command -v qemu-system-x86_64 >/dev/null; then
-    echo "QEMU isn't installed, so that its adapter is left out (on Debian and Ubuntu: the package qemu-system-x86)"
-    echo "0 passed, 0 failed"
+    echo "skipped: QEMU's adapter: QEMU is needed (Debian's package qemu-system-x86)"
+    echo "0 passed, 0 failed, 3 skipped"
     exit 0
 fi
 
