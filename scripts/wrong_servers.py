@@ -65,7 +65,7 @@ def played(test, name, by):
         tree = pathlib.Path(scratch) / "tree"
         shutil.copytree(ROOT, tree, ignore=shutil.ignore_patterns("out", ".git", "__pycache__"))
         change(tree, name)
-        words = [tree / "scripts/unproved.sh", test, *([by] if test == "surprise_removal" else [])]
+        words = [tree / "scripts/unproved.py", "--only-fast", test, *([by] if test == "surprise_removal" else [])]
         run = subprocess.run(words, stdin=subprocess.DEVNULL, capture_output=True, text=True)
     told = told_by_sweep(run.stdout) if test == "surprise_removal" else told_by_losses(run.stdout, by)
     is_found = bool(run.returncode and told)
