@@ -174,7 +174,8 @@ def main(names):
     found = [*parts(processors)]
     unknown = {*names} - {it.name for it in found}
     if unknown:
-        sys.exit(f"parts: no part is named {', '.join(sorted(unknown))}: there are {', '.join(it.name for it in found)}")
+        known = ", ".join(it.name for it in found)
+        sys.exit(f"parts: no part is named {', '.join(sorted(unknown))}: there are {known}")
     check = Check([it for it in found if not names or it.name in names], processors)
     os.environ["RT_JOBS"] = str(processors)
     if names:
