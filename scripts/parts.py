@@ -76,7 +76,8 @@ def parts(processors):
         edits = [it for it in os.listdir(folder) if it.endswith(".edit")] if os.path.isdir(folder) else []
         if edits:
             needs = {it.name for it in crate.below()}
-            yield Part(f"edits of {crate.name}", ["scripts/edits.py", crate.name], needs, 25 + 6 * len(edits), 1, PROVER)
+            words, seconds = ["scripts/edits.py", crate.name], 25 + 6 * len(edits)
+            yield Part(f"edits of {crate.name}", words, needs, seconds, 1, PROVER)
 
 
 def begin(part, is_first=False):
