@@ -52,8 +52,8 @@ if [[ $made == 0 ]]; then
     done
 elif [[ $made == 77 ]]; then
     cat "$scratch/machine"
-    echo "skipped: machines with a PCI adapter: Rust 1.80 or later, QEMU (Debian's package qemu-system-x86) and, to be" \
-        "fetched, the packages linux-image-amd64 and busybox-static are needed"
+    echo "skipped: machines with a PCI adapter: Rust 1.80 or later, QEMU (Debian's package qemu-system-x86), and" \
+        "the packages linux-image-amd64 and busybox-static, which are fetched, are needed"
     skipped=$((skipped + 3))
 else
     parts+=(machine)
