@@ -18,8 +18,8 @@ proof. Beside such twins stands one without an edit. Where that one isn't proved
 nothing, and their edits are tried alone.
 
 With --kept, an edit that was refused is not tried again on this machine while nothing changes that its try read: the
-crate's files, the libraries below it as they were built, the toolchain, the edit, and this script. The whole check
-tries all.
+function with its proof, the crate's definitions and the contracts of its other functions (not their bodies), the
+libraries below it as they were built, the toolchain, the edit, and this script. The whole check tries all.
 
 An edit has the form of those of `rt must-fail`: a line 'file: src/NAME.rt', then pairs of lines 'old: TEXT' and
 'new: TEXT', where TEXT stands once in that file. An edit of a text outside of functions, such as a constant, names the
@@ -27,6 +27,7 @@ function whose meaning it turns by a line 'function: NAME'.
 
 The last line is 'N passed, M failed'.
 """
+import functools
 import hashlib
 import os
 import re
@@ -412,12 +413,40 @@ class Crate:
             except (BadEdit, OSError, UnicodeDecodeError) as why:
                 self.fail(it, f"BAD EDIT: {why}")
 
+    @functools.cached_property
+    def sum_of_contracts(self):
+        """A sum of what each try of the crate reads: all but functions' bodies and their proofs."""
+        at = self.copy()
+        self.leave_out_code(at, set(), [])
+        leave_out_bodies(f"{at}/proofs")
+        self.leave_holes(at, set())
+        it = hashlib.sha256(toolchain.sum_below(self.crate).encode())
+        for path in sorted(f"{folder}/{name}" for folder, _, names in os.walk(at) for name in names):
+            it.update(repr((os.path.relpath(path, at), read(path))).encode())
+        shutil.rmtree(at)
+        return it.hexdigest()
+
     def name_kept(self, edit):
         """The file that says that the edit was refused, if an earlier run found so."""
-        it = hashlib.sha256(toolchain.sum_read(self.crate).encode())
-        for path in (os.path.realpath(__file__), f"{self.folder}/edits/{edit.name}"):
+        it = hashlib.sha256(self.sum_of_contracts.encode())
+        paths = [os.path.realpath(__file__), f"{self.folder}/edits/{edit.name}"]
+        for of in edit.functions.values():
+            lines = read(f"{self.folder}/{of.file}").split("\n")
+            it.update("\n".join(lines[of.first : of.last + 1]).encode())
+            place = f"{self.folder}/proofs/{of.name.replace('::', '/')}"
+            paths += [f"{place}/{name}" for name in OWN if os.path.isfile(f"{place}/{name}")]
+        for path in paths:
             it.update(read(path).encode())
         return f"{STORE}/{self.name}-{it.hexdigest()}"
+
+    def copy(self):
+        """Makes a copy of the crate's files, and answers where it is."""
+        os.makedirs(self.room, exist_ok=True)
+        at = tempfile.mkdtemp(prefix="copy-", dir=self.room)
+        for part in PARTS:
+            if os.path.isdir(f"{self.folder}/{part}"):
+                shutil.copytree(f"{self.folder}/{part}", f"{at}/{part}")
+        return at
 
     def is_known(self, edit):
         """Whether an earlier run refused the edit over the same files."""
@@ -481,10 +510,7 @@ class Crate:
     def run(self, batch, control):
         """Proves the functions of a copy of the crate with these edits. Answers what was printed, and which edits are
         in it."""
-        at = tempfile.mkdtemp(prefix="copy-", dir=self.room)
-        for part in PARTS:
-            if os.path.isdir(f"{self.folder}/{part}"):
-                shutil.copytree(f"{self.folder}/{part}", f"{at}/{part}")
+        at = self.copy()
         tried, twins = self.apply(batch, at)
         names = {name for it in tried for name in it.names}
         self.leave_out_code(at, {control, *names}, twins)
@@ -643,7 +669,7 @@ class Crate:
 
     def try_all(self):
         begin = time.monotonic()
-        os.makedirs(self.room)
+        os.makedirs(self.room, exist_ok=True)
         lacking = toolchain.lacking(self.crate)
         if lacking:
             why = f"the library {lacking[0]} isn't that of its sources"

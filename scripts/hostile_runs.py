@@ -14,8 +14,9 @@ the whole script is answered, and the image is as the answered lines leave it. T
 runs, with ', 2 skipped' behind it where two sweeps are.
 """
 import concurrent.futures
+import ctypes
 import dataclasses
-import itertools
+import mmap
 import os
 import pathlib
 import random
@@ -40,8 +41,9 @@ SHARES = 8
 # The requests of memory of a run without lines that are refused in each session.
 SHARED = 8
 MOST_TOLD = 20
-SHARED_MEMORY = "/dev/shm"
 PIECE = 1 << 20
+MEMCMP = ctypes.CDLL(None).memcmp
+MEMCMP.argtypes = [ctypes.c_void_p, ctypes.c_void_p, ctypes.c_size_t]
 # What is told with each status.
 TOLD = {
     0: re.compile(rb""),
@@ -65,14 +67,54 @@ class Ended:
         return not self.printed and not self.written
 
 
+class Image:
+    """A file that runs write to, and what it has before each run. Both are mapped: only what differs is read."""
+
+    def __init__(self, path, content):
+        path.write_bytes(content)
+        self.path, self.content, self.size = path, bytearray(content), len(content)
+        self.before = ctypes.addressof(ctypes.c_char.from_buffer(self.content)) if content else 0
+        self.after = self.mapped()
+
+    def mapped(self):
+        """The file's bytes, as they are at any time."""
+        if not self.size:
+            return None
+        with open(self.path, "r+b") as it:
+            self.map = mmap.mmap(it.fileno(), self.size)
+        return ctypes.addressof(ctypes.c_char.from_buffer(self.map))
+
+    def differing(self, first, end, step):
+        """The places from one to another, so far apart, behind which a byte differs."""
+        for at in range(first, end, step):
+            if MEMCMP(self.before + at, self.after + at, min(step, end - at)):
+                yield at
+
+    def take_written(self):
+        """The sectors that a run wrote; they are as before then."""
+        found = self.path.stat()
+        if found.st_mtime_ns == 0:
+            return {}
+        written, end = {}, min(self.size, found.st_size)
+        for piece in self.differing(0, end, PIECE):
+            for at in self.differing(piece, min(piece + PIECE, end), SECTOR):
+                written[at // SECTOR] = self.map[at : at + SECTOR]
+                self.map[at : at + SECTOR] = self.content[at : at + SECTOR]
+        if found.st_size != self.size:
+            written["length"] = found.st_size
+            with open(self.path, "r+b") as it:
+                it.truncate(self.size)
+                it.seek(end)
+                it.write(self.content[end:])
+        return written
+
+
 class Room:
     """The folder of a worker's runs."""
 
-    def __init__(self, program):
+    def __init__(self, program, scratch):
         self.program = program
-        # Images are written again and again: in memory, where the system has a folder there.
-        self.scratch = tempfile.TemporaryDirectory(dir=SHARED_MEMORY if os.path.isdir(SHARED_MEMORY) else None)
-        self.path = pathlib.Path(self.scratch.name)
+        self.path = pathlib.Path(tempfile.mkdtemp(dir=scratch))
         for file in run_cases.GIVEN:
             (self.path / file.name).write_bytes(file.read_bytes())
         self.images = {}
@@ -80,8 +122,7 @@ class Room:
     def place_image(self, size):
         """Has `image` be the image of so many bytes; it is marked as not written to since."""
         if size not in self.images:
-            self.images[size] = run_cases.fresh(size)
-            (self.path / f"image-{size}").write_bytes(self.images[size])
+            self.images[size] = Image(self.path / f"image-{size}", run_cases.fresh(size))
         os.utime(self.path / f"image-{size}", ns=(0, 0))
         image = self.path / "image"
         image.unlink(missing_ok=True)
@@ -89,22 +130,7 @@ class Room:
 
     def take_written(self, size):
         """The sectors that a run wrote; they are as before then."""
-        file, before = self.path / f"image-{size}", self.images[size]
-        if file.stat().st_mtime_ns == 0:
-            return {}
-        after, written = file.read_bytes(), {}
-        pieces = (at for at in range(0, size, PIECE) if before[at : at + PIECE] != after[at : at + PIECE])
-        for at in itertools.chain.from_iterable(range(at, min(at + PIECE, size), SECTOR) for at in pieces):
-            if before[at : at + SECTOR] != after[at : at + SECTOR]:
-                written[at // SECTOR] = after[at : at + SECTOR]
-        with open(file, "r+b") as image:
-            for sector in written:
-                image.seek(sector * SECTOR)
-                image.write(before[sector * SECTOR : (sector + 1) * SECTOR])
-            image.truncate(size)
-        if len(after) != size:
-            written["length"] = len(after)
-        return written
+        return self.images[size].take_written()
 
     def run(self, case, words=None, **variables):
         """Runs a case, with these words in place of its own if there are some."""
@@ -349,10 +375,10 @@ def judged(sweep, *given):
     return count, wrong
 
 
-def begin_worker(program):
-    """Makes a worker's room."""
+def begin_worker(program, scratch):
+    """Makes a worker's room in a folder, which is removed when all have ended."""
     global ROOM
-    ROOM = Room(program)
+    ROOM = Room(program, scratch)
 
 
 def compiled(scratch):
@@ -388,12 +414,13 @@ def parts(has_compiler):
 def main(program):
     """Runs all sweeps, and says how many runs there were of each."""
     counts, failed = {}, 0
-    workers = os.cpu_count() or 1
-    with tempfile.TemporaryDirectory() as scratch:
-        has_compiler = compiled(scratch)
+    workers = len(os.sched_getaffinity(0))
+    with tempfile.TemporaryDirectory() as libraries, run_cases.scratch_folder() as scratch:
+        has_compiler = compiled(libraries)
         if not has_compiler:
             print("skipped: refused memory and failing calls: a C compiler is needed (Debian's package gcc)")
-        with concurrent.futures.ProcessPoolExecutor(workers, None, begin_worker, (os.path.abspath(program),)) as pool:
+        given = (os.path.abspath(program), scratch)
+        with concurrent.futures.ProcessPoolExecutor(workers, None, begin_worker, given) as pool:
             asked = list(parts(has_compiler))
             done = [pool.submit(judged, *part) for part in asked]
             for (sweep, *given), it in zip(asked, done):

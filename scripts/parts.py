@@ -50,18 +50,29 @@ class Part:
 
 @dataclass
 class Running:
-    """A part that runs: its process, the file in which what it prints is kept, and when it began."""
+    """A part that runs: its process, the file in which what it prints is kept, when it began, and how many seconds of
+    a processor it took in all, once it has ended."""
 
     part: Part
     process: subprocess.Popen
     printed: object
     begun: float
+    used: float = 0
+
+    def has_ended(self):
+        """Whether its process has ended."""
+        if self.process.returncode is None:
+            pid, status, usage = os.wait4(self.process.pid, os.WNOHANG)
+            if pid:
+                self.process.returncode = os.waitstatus_to_exitcode(status)
+                self.used = usage.ru_utime + usage.ru_stime
+        return self.process.returncode is not None
 
 
 def parts(processors):
     """The parts, but for `rt ci`."""
     yield Part("tests without a proof", ["scripts/unproved.py"], set(), 350, 2, 4)
-    yield Part("hostile runs", ["scripts/hostile_runs.py", "crates/blockd/out/blockd"], {"blockd"}, 800, processors, 2)
+    yield Part("hostile runs", ["scripts/hostile_runs.py", "crates/blockd/out/blockd"], {"blockd"}, 800, min(processors, 2), 2)
     yield Part("a PCI adapter", ["examples/vfio/test.sh"], {"follow"}, 250, min(processors, 3), 3)
     yield Part("examples", ["scripts/examples.sh"], {"blockd"}, 60)
     yield Part("QEMU's adapter", ["examples/qemu/test.sh"], {"follow"}, 40, 2)
@@ -124,9 +135,9 @@ class Check:
         """Prints what a part that has ended printed, and counts what it told."""
         it.printed.seek(0)
         text = it.printed.read()
-        seconds = time.monotonic() - it.begun
+        seconds, used = time.monotonic() - it.begun, it.used
         print(f"==== {it.part.name}\n{text}", end="" if text.endswith("\n") else "\n")
-        print(f"time: {it.part.name} took {seconds:.0f} s", flush=True)
+        print(f"time: {it.part.name} took {seconds:.0f} s, and {used:.0f} of a processor", flush=True)
         self.skipped += [line for line in text.splitlines() if line.startswith("skipped:")]
         found = ENDED.search(text.rstrip("\n").rpartition("\n")[2])
         passed, failed, skipped = (int(it or 0) for it in found.groups()) if found else (0, 1, 0)
@@ -135,7 +146,7 @@ class Check:
 
     def take_ended(self):
         """Takes the parts that have ended from those that run."""
-        for it in [it for it in self.running if it.process.poll() is not None]:
+        for it in [*filter(Running.has_ended, self.running)]:
             self.running.remove(it)
             if it.part.name == RT_CI:
                 self.reader.join()
@@ -145,8 +156,15 @@ class Check:
         """Runs all parts, until one fails."""
         if first:
             self.running.append(begin(first, is_first=True))
-            self.reader = threading.Thread(target=self.follow, args=self.running)
+            self.reader = threading.Thread(target=self.follow, args=self.running, daemon=True)
             self.reader.start()
+        try:
+            self.run_waiting()
+        finally:
+            self.stop()
+
+    def run_waiting(self):
+        """Begins each part as soon as it can be, and takes those that have ended, until one fails."""
         while (self.waiting or self.running) and not self.failed:
             for part in [*self.waiting]:
                 if self.has_room(part):
@@ -159,7 +177,6 @@ class Check:
             with self.changed:
                 self.changed.wait(0.2)
             self.take_ended()
-        self.stop()
 
     def stop(self):
         """Ends what still runs."""

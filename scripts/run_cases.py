@@ -5,6 +5,7 @@
 are written. A case that comes out otherwise is told with its file and line, what was wanted and what was given; the
 status is 0 where none does.
 """
+import concurrent.futures
 import dataclasses
 import os
 import pathlib
@@ -17,6 +18,7 @@ import tempfile
 ROOT = pathlib.Path(__file__).resolve().parent.parent
 SECTOR = 512
 SECONDS = 60
+SHARED_MEMORY = "/dev/shm"
 # The files that stand in the folder of a run.
 GIVEN = [*ROOT.glob("examples/*.toml"), *ROOT.glob("examples/cases/*.toml"), *ROOT.glob("examples/*.script")]
 FILES = "--config config --image image --script script"
@@ -309,17 +311,39 @@ def play(program, folder, case):
     return [(what, wanted, found) for what, wanted, found in pairs if wanted != found]
 
 
+def cases_of(files):
+    """The cases of some files."""
+    for file in map(pathlib.Path, files):
+        cases = list(READERS[file.suffix](file))
+        if not cases:
+            raise Misspelled(f"{file.name} has no case")
+        yield from cases
+
+
+def scratch_folder():
+    """A folder for images that are written again and again: in memory, where the system has a place there."""
+    return tempfile.TemporaryDirectory(dir=SHARED_MEMORY if os.path.isdir(SHARED_MEMORY) else None)
+
+
+def begin_worker(scratch):
+    """Makes a worker's folder in another one, which is removed when all have ended."""
+    global FOLDER
+    FOLDER = Folder(pathlib.Path(tempfile.mkdtemp(dir=scratch)))
+
+
+def play_here(program, case):
+    """Plays a case in a worker's folder."""
+    return play(program, FOLDER, case)
+
+
 def main(program, *files):
     """Plays the cases of the files, and says how many there were."""
     passed = failed = 0
-    with tempfile.TemporaryDirectory() as scratch:
-        folder = Folder(pathlib.Path(scratch))
-        for file in map(pathlib.Path, files):
-            cases = list(READERS[file.suffix](file))
-            if not cases:
-                raise Misspelled(f"{file.name} has no case")
-            for case in cases:
-                faults = play(os.path.abspath(program), folder, case)
+    cases, workers = list(cases_of(files)), len(os.sched_getaffinity(0))
+    with scratch_folder() as scratch:
+        with concurrent.futures.ProcessPoolExecutor(workers, None, begin_worker, (scratch,)) as pool:
+            played = pool.map(play_here, [os.path.abspath(program)] * len(cases), cases, chunksize=8)
+            for case, faults in zip(cases, played, strict=True):
                 for what, wanted, found in faults:
                     print(f"case {case.name}: {what}: wanted\n{shown(wanted)}but it was\n{shown(found)}", end="")
                 failed += bool(faults)

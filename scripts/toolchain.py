@@ -29,6 +29,7 @@ def load():
 rtlib = load()
 
 
+@functools.cache
 def crates():
     """The repository's crates, lowest first."""
     return sorted(rtlib.crates_below(ROOT), key=lambda it: len(it.below()))
@@ -39,13 +40,11 @@ def lacking(crate):
     return [it.name for it in crate.below() if not it.is_built()]
 
 
-def sum_read(crate):
-    """A sum of all that a check of a crate reads: its own files, the libraries below it as they were built, and the
+def sum_below(crate):
+    """A sum of what a check of a crate reads beside its own files: the libraries below it as they were built, and the
     toolchain."""
     kit = [rtlib.sum_of(f"{rtlib.KIT}/{name}") for name in ("KIT-ID", "WHAT")]
     it = hashlib.sha256(repr((crate.said, kit)).encode())
-    for path in sorted(rtlib.files_of(crate.folder)):
-        it.update(repr((os.path.relpath(path, crate.folder), rtlib.sum_of(path))).encode())
     # (a library's format has the sum of its files)
     it.update(repr([(below.name, rtlib.sum_of(f"{below.rlib}/format")) for below in crate.below()]).encode())
     return it.hexdigest()
