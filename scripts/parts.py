@@ -72,7 +72,8 @@ class Running:
 def parts(processors):
     """The parts, but for `rt ci`."""
     yield Part("tests without a proof", ["scripts/unproved.py"], set(), 350, 2, 4)
-    yield Part("hostile runs", ["scripts/hostile_runs.py", "crates/blockd/out/blockd"], {"blockd"}, 800, min(processors, 2), 2)
+    hostile = ["scripts/hostile_runs.py", "crates/blockd/out/blockd"]
+    yield Part("hostile runs", hostile, {"blockd"}, 450, min(processors, 2), 2)
     yield Part("a PCI adapter", ["examples/vfio/test.sh"], {"follow"}, 250, min(processors, 3), 3)
     yield Part("examples", ["scripts/examples.sh"], {"blockd"}, 60)
     yield Part("QEMU's adapter", ["examples/qemu/test.sh"], {"follow"}, 40, 2)

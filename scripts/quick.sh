@@ -1,8 +1,8 @@
 #!/usr/bin/env bash
 # What to run ten times a day: `quick.sh [CRATE..]`. It proves the named crates, or else those that changed since main,
-# lowest first, over what earlier runs kept, and tries their edits, without those that this machine refused before of the
-# same function, definitions and contracts. Beside that it builds the program without proofs, and plays all cases by it.
-# After a change of one function in an upper crate it takes under two minutes. It is no verdict: scripts/test.sh is.
+# lowest first, over what earlier runs kept, and tries their edits, without those that this machine refused before of
+# the same function, definitions and contracts. Beside that it builds the program without proofs, and plays all cases by
+# it. After a change of one function in an upper crate it takes under two minutes. It is no verdict: scripts/test.sh is.
 set -euo pipefail
 cd "$(dirname "$0")/.."
 
@@ -20,7 +20,7 @@ mapfile -t changed < <(
 # As crates.txt has them: a crate stands behind those that it uses.
 mapfile -t crates < <(sed -n 's/^\([a-z]\w*\):.*/\1/p' crates.txt | grep -Fx -f <(printf '%s\n' "${changed[@]}"))
 scratch=$(mktemp -d)
-trap 'rm -rf "$scratch"' EXIT
+trap 'kill $(jobs -p) 2>/dev/null || true; rm -rf "$scratch"' EXIT
 
 # Plays all cases by a program that is built without proofs.
 play_cases() {
