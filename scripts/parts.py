@@ -7,9 +7,9 @@ skipped': so many were left out for want of a program, and a line that begins wi
 prints is kept apart, and printed whole when it has ended, with the time that it took. The first failure ends the rest.
 The last line is the sum of all.
 
-`rt ci` has as many processors as there are. The other parts run beside it with the least priority, as many at a time as
+`rt ci` has as many processors as there are. The other parts run beside it with a low priority, as many at a time as
 there are processors and as memory holds, the longest first: they take what `rt ci` leaves. One that needs proved crates
-begins once `rt ci` has told these: their libraries or programs are there then.
+begins once `rt ci` has told these, whose libraries are there then. One that looks at a clock begins once it has ended.
 """
 import os
 import re
@@ -37,8 +37,8 @@ PROVER = 2.5
 
 @dataclass
 class Part:
-    """A part of the check: its command, the crates that it needs proved, about how many processor seconds it takes, how
-    many processors it uses, and how much memory, in gigabytes."""
+    """A part of the check: its command, the crates that it needs proved, or `rt ci`, about how many processor seconds
+    it takes, how many processors it uses, and how much memory, in gigabytes."""
 
     name: str
     words: list
@@ -73,11 +73,11 @@ def parts(processors):
     """The parts, but for `rt ci`."""
     yield Part("tests without a proof", ["scripts/unproved.py"], set(), 350, 2, 4)
     hostile = ["scripts/hostile_runs.py", "crates/blockd/out/blockd"]
-    yield Part("hostile runs", hostile, {"blockd"}, 450, min(processors, 2), 2)
-    yield Part("a PCI adapter", ["examples/vfio/test.sh"], {"follow"}, 250, min(processors, 3), 3)
-    yield Part("examples", ["scripts/examples.sh"], {"blockd"}, 60)
-    yield Part("QEMU's adapter", ["examples/qemu/test.sh"], {"follow"}, 40, 2)
-    yield Part("instructions", ["bench/check.sh"], {"blockd"}, 40, min(processors, 2))
+    yield Part("hostile runs", hostile, {RT_CI}, 450, min(processors, 2), 2)
+    yield Part("a PCI adapter", ["examples/vfio/test.sh"], {RT_CI}, 250, min(processors, 3), 3)
+    yield Part("examples", ["scripts/examples.sh"], {RT_CI}, 60)
+    yield Part("QEMU's adapter", ["examples/qemu/test.sh"], {RT_CI}, 40, 2)
+    yield Part("instructions", ["bench/check.sh"], {RT_CI}, 40, min(processors, 2))
     yield Part("compile-fail", ["scripts/compile-fail.sh"], set(), 20, 1, 2)
     yield Part("names", ["scripts/names.py"])
     yield Part("layout", ["scripts/layout.py"])
@@ -93,10 +93,10 @@ def parts(processors):
 
 
 def begin(part, is_first=False):
-    """Starts a part. What isn't `rt ci` has the least priority. (A session of its own would have a share of its own of
-    the processors, whatever its priority.)"""
+    """Starts a part. What isn't `rt ci` has a low priority: a tenth of what `rt ci` has, where both want a processor.
+    (In a session of its own it would have an equal share.)"""
     printed = tempfile.TemporaryFile("w+", encoding="utf-8", errors="replace")
-    words = part.words if is_first else ["nice", "-n", "19", *part.words]
+    words = part.words if is_first else ["nice", "-n", "10", *part.words]
     out = subprocess.PIPE if is_first else printed
     how = {"stdin": subprocess.DEVNULL, "stdout": out, "stderr": subprocess.STDOUT if is_first else printed}
     process = subprocess.Popen(words, cwd=toolchain.ROOT, process_group=0, **how)
@@ -151,6 +151,7 @@ class Check:
             self.running.remove(it)
             if it.part.name == RT_CI:
                 self.reader.join()
+                self.proved.add(RT_CI)
             self.end(it, it.process.returncode)
 
     def run(self, first):
@@ -173,7 +174,7 @@ class Check:
                     self.running.append(begin(part))
             if not self.running:
                 names = ", ".join(it.name for it in self.waiting)
-                print(f"parts: what these need isn't proved: {names}")
+                print(f"parts: what these need isn't proved, or memory for them isn't free: {names}")
                 self.failed += 1
             with self.changed:
                 self.changed.wait(0.2)
@@ -198,7 +199,7 @@ def main(names):
     check = Check([it for it in found if not names or it.name in names], processors)
     os.environ["RT_JOBS"] = str(processors)
     if names:
-        check.proved = {it.name for it in toolchain.crates()}
+        check.proved = {RT_CI, *(it.name for it in toolchain.crates())}
         check.run(None)
     else:
         check.run(Part(RT_CI, ["rt", "ci"], set(), 0, processors, PROVER * processors))

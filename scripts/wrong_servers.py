@@ -2,9 +2,8 @@
 """Plays examples/surprise_removal and examples/lost_caches over wrong servers: each has one of the wrong bodies of
 crates/*/edits, and the test has to find it. Each line of its file `wrong` names an edit, and what it is found by: a
 case that is enough; or, of lost caches, in how many runs: each in which a flush matters, or some of them. Names of
-edits behind the command leave the others out. It is no part of the check, since each wrong server is compiled anew: a
-whole run, two at a time, took 15 minutes on a busy machine with four processors, 75 to 150 seconds for each. The last
-line is 'N passed, M failed'.
+edits behind the command leave the others out. It is no part of the check, since each wrong server is compiled anew,
+which takes a processor one to two minutes. The last line is 'N passed, M failed'.
 """
 import concurrent.futures
 import os
@@ -24,7 +23,7 @@ MISSING = re.compile(r": (\d+) in which its write is missing$", re.MULTILINE)
 # So many runs have to have such a flush, or else the test would find next to nothing.
 ENOUGH = 100
 # A wrong server takes the compiler one processor, and about 2 GB of memory.
-RUNS = min(2, os.cpu_count() or 1)
+RUNS = len(os.sched_getaffinity(0))
 
 
 def change(tree, name):
