@@ -1,6 +1,6 @@
 #!/usr/bin/env python3
 """Runs a command, and tells on standard error the processor seconds that the prover took meanwhile: for each of the ten
-dearest crates, and in all, beside the budget of docs/DECISIONS.md. Ends with the command's status.
+dearest crates, and in all. Ends with the command's status.
 
 The prover's processes are looked at once a second, so up to a second of each isn't counted.
 """
@@ -11,8 +11,6 @@ import time
 
 ROOT = os.path.dirname(os.path.dirname(os.path.realpath(__file__)))
 KINDS = ("proof", "tests", "edits")
-# Processor seconds for 100 lines of code (docs/DECISIONS.md).
-BUDGET = {"proof": 25, "tests": 5, "edits": 10}
 TICKS = os.sysconf("SC_CLK_TCK")
 
 
@@ -63,10 +61,9 @@ def tell(taken):
     for name, by_kind in sorted(crates.items(), key=lambda it: -sum(it[1].values()))[:10]:
         print(f"time: {name:18}" + "".join(f"{by_kind[it]:7.0f}" for it in KINDS), file=sys.stderr)
     in_all, hundreds = {it: sum(of[it] for of in crates.values()) for it in KINDS}, lines_of_code() / 100
-    parts = ", ".join(f"{it} {in_all[it]:.0f} ({in_all[it] / hundreds:.1f}, budget {BUDGET[it]})" for it in KINDS)
-    each = sum(in_all.values()) / hundreds
-    both = f"{each:.1f} for each of {hundreds:.0f} hundred lines of code, budget {sum(BUDGET.values())}"
-    print(f"time: in all {sum(in_all.values()):.0f} processor seconds ({both}): {parts}", file=sys.stderr)
+    parts = ", ".join(f"{it} {in_all[it]:.0f} ({in_all[it] / hundreds:.1f})" for it in KINDS)
+    each = f"{sum(in_all.values()) / hundreds:.1f} for each of {hundreds:.0f} hundred lines of code"
+    print(f"time: in all {sum(in_all.values()):.0f} processor seconds ({each}): {parts}", file=sys.stderr)
 
 
 def main(words):
