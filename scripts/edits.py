@@ -383,10 +383,6 @@ class Tried:
 
 
 VERDICT = re.compile(r"^fn (\S+): (.*)$", re.M)
-# What is told of a function that calls one that isn't proved: it says nothing of the function itself.
-CALLS = re.compile(r"it calls|a call of `[^`]*`, which has no proof")
-# What is told of a function in a form that the prover doesn't read: it says nothing of its contract.
-UNCOVERED = re.compile(r"the borrow checker does not cover this function yet")
 # What is told of a function itself, also where it calls one that isn't proved.
 OPEN = re.compile(r"`(?:search|grind)` did not prove")
 # A proof that names what an edit took away says little of the contract.
@@ -604,15 +600,15 @@ class Crate:
         """Whether what is printed tells of the edit: where it stands in a twin, the twin without an edit is proved, or
         isn't only since it calls what other edits turn."""
         verdict = self.verdicts(said).get(it.plain, "")
-        is_calling = bool(CALLS.search(verdict)) and not self.is_own(it.plain, verdict, said)
+        is_calling = "it calls" in verdict and not self.is_own(it.plain, verdict, said)
         return it.plain is None or self.is_good(it.plain, said) or is_calling
 
     def is_own(self, name, verdict, said):
         """Whether the verdict on a function says that it isn't proved, for a reason of its own."""
-        if not verdict.startswith(("not proved", "no proof")) or UNCOVERED.search(verdict):
+        if not verdict.startswith(("not proved", "no proof")):
             return False
         own = (it for it in self.errors(name, said) if not NAMES.search(it))
-        return not CALLS.search(verdict) or bool(OPEN.search(verdict)) or any(own)
+        return "it calls" not in verdict or bool(OPEN.search(verdict)) or any(own)
 
     def is_weak(self, names, said):
         """Whether all that is told of the functions that an edit turns is that their proofs name what it took away."""
@@ -661,9 +657,7 @@ class Crate:
         elif self.is_weak(edit.functions, said):
             why = "all that is told is that its proof names what it took away: change a value, and keep the form"
             self.fail(edit.name, f"NOT REFUSED: {why}")
-        elif any(UNCOVERED.search(self.verdicts(said).get(it, "")) for it in edit.functions):
-            self.fail(edit.name, "BAD EDIT: its function has a form that the prover doesn't read")
-        elif any(CALLS.search(self.verdicts(said).get(it, "")) for it in edit.functions):
+        elif any("it calls" in self.verdicts(said).get(it, "") for it in edit.functions):
             self.fail(edit.name, "NOT REFUSED: its function is told only because it calls another one")
         else:
             self.fail(edit.name, "NOT REFUSED: its function is proved with it")

@@ -23,6 +23,7 @@ import random
 import re
 import shlex
 import shutil
+import signal
 import struct
 import subprocess
 import sys
@@ -44,6 +45,13 @@ MOST_TOLD = 20
 PIECE = 1 << 20
 MEMCMP = ctypes.CDLL(None).memcmp
 MEMCMP.argtypes = [ctypes.c_void_p, ctypes.c_void_p, ctypes.c_size_t]
+# Where a run has its standard input, output and error.
+WRITES = os.O_WRONLY | os.O_CREAT | os.O_TRUNC
+FILES = [
+    (os.POSIX_SPAWN_OPEN, 0, os.devnull, os.O_RDONLY, 0),
+    (os.POSIX_SPAWN_OPEN, 1, "printed", WRITES, 0o600),
+    (os.POSIX_SPAWN_OPEN, 2, "told", WRITES, 0o600),
+]
 # What is told with each status.
 TOLD = {
     0: re.compile(rb""),
@@ -109,12 +117,22 @@ class Image:
         return written
 
 
+def awaited(pid):
+    """Waits until a process has ended, and answers its status. One that hangs is ended."""
+    signal.signal(signal.SIGALRM, lambda *_: os.kill(pid, signal.SIGKILL))
+    signal.setitimer(signal.ITIMER_REAL, run_cases.SECONDS)
+    _, status = os.waitpid(pid, 0)
+    signal.setitimer(signal.ITIMER_REAL, 0)
+    return status
+
+
 class Room:
-    """The folder of a worker's runs."""
+    """The folder of a worker's runs, which is the folder that it is in."""
 
     def __init__(self, program, scratch):
-        self.program = program
+        self.program, self.variables = program, dict(os.environ)
         self.path = pathlib.Path(tempfile.mkdtemp(dir=scratch))
+        os.chdir(self.path)
         for file in run_cases.GIVEN:
             (self.path / file.name).write_bytes(file.read_bytes())
         self.images = {}
@@ -138,15 +156,12 @@ class Room:
         (self.path / "script").write_bytes(case.script)
         size = size_of(case)
         self.place_image(size)
-        run = subprocess.run(
-            [self.program, *(shlex.split(case.words) if words is None else words)],
-            cwd=self.path,
-            env={**os.environ, **variables},
-            stdin=subprocess.DEVNULL,
-            capture_output=True,
-            timeout=run_cases.SECONDS,
-        )
-        return Ended(run.returncode, run.stderr, run.stdout, self.take_written(size))
+        words = [self.program, *(shlex.split(case.words) if words is None else words)]
+        # (this takes half the time of what the module `subprocess` does)
+        pid = os.posix_spawn(self.program, words, {**self.variables, **variables}, file_actions=FILES)
+        status = os.waitstatus_to_exitcode(awaited(pid))
+        told, printed = ((self.path / name).read_bytes() for name in ("told", "printed"))
+        return Ended(status, told, printed, self.take_written(size))
 
 
 def size_of(case):

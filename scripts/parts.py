@@ -70,14 +70,15 @@ class Running:
 
 
 def parts(processors):
-    """The parts, but for `rt ci`."""
-    yield Part("tests without a proof", ["scripts/unproved.py"], set(), 350, 2, 4)
+    """The parts, but for `rt ci`. (Two that have processes of their own side by side are given one processor, and more
+    time than they take, so that they begin as soon as they can.)"""
+    yield Part("tests without a proof", ["scripts/unproved.py"], set(), 350, min(processors, 2), 4)
     hostile = ["scripts/hostile_runs.py", "crates/blockd/out/blockd"]
-    yield Part("hostile runs", hostile, {RT_CI}, 450, min(processors, 2), 2)
-    yield Part("a PCI adapter", ["examples/vfio/test.sh"], {RT_CI}, 250, min(processors, 3), 3)
+    yield Part("hostile runs", hostile, {RT_CI}, 900, 1, 2)
+    yield Part("a PCI adapter", ["examples/vfio/test.sh"], {RT_CI}, 1000, 1, 3)
     yield Part("examples", ["scripts/examples.sh"], {RT_CI}, 60)
-    yield Part("QEMU's adapter", ["examples/qemu/test.sh"], {RT_CI}, 40, 2)
-    yield Part("instructions", ["bench/check.sh"], {RT_CI}, 40, min(processors, 2))
+    yield Part("QEMU's adapter", ["examples/qemu/test.sh"], {RT_CI}, 40, 1)
+    yield Part("instructions", ["bench/check.sh"], {RT_CI}, 40, 1)
     yield Part("compile-fail", ["scripts/compile-fail.sh"], set(), 20, 1, 2)
     yield Part("names", ["scripts/names.py"])
     yield Part("layout", ["scripts/layout.py"])
