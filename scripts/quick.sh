@@ -2,7 +2,8 @@
 # What to run ten times a day: `quick.sh [CRATE..]`. It proves the named crates, or else those that changed since main,
 # lowest first, over what earlier runs kept, and tries their edits, without those that this machine refused before of
 # the same function, definitions and contracts. Beside that it builds the program without proofs, and plays all cases by
-# it. After a change of one function in an upper crate it takes under two minutes. It is no verdict: scripts/test.sh is.
+# it. After a change of one function in an upper crate it takes under two minutes, once it has run there before. It
+# is no verdict: scripts/test.sh is.
 set -euo pipefail
 cd "$(dirname "$0")/.."
 
