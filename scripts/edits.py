@@ -5,13 +5,14 @@
 It stands on libraries that were proved (crates/*/out/rlib), as scripts/test.sh has them made. Several edits are tried
 at a time, each in a function of its own, on a copy of their crate. An edit is refused where a function that it changes
 is told as not proved for a reason of its own: a goal that stays open, or an answer that is wrong, and not merely that
-it calls another function that isn't proved. A function's goals rest on the contracts of what it calls, and not on their
-bodies, so edits of callers and callees can share a try; none shares one with an edit of a constant that its function
-reads. What isn't refused so is tried alone. An edit fails, too, where all that is told is that a proof names what it
-took away: a right body of another form would be told the same way. Each try has a function that no edit reaches, which
-must be proved; so a crate that can't be read, or libraries that don't fit, refuse nothing. What the edited functions
-call isn't proved again, and no lemma is: in the copy the proofs of all other functions and of the lemmas are holes,
-which the prover takes for proofs. What isn't proved even so isn't proved at all.
+it calls another function that isn't proved, nor that its form is one that the prover doesn't read. A function's goals
+rest on the contracts of what it calls, and not on their bodies, so edits of callers and callees can share a try; none
+shares one with an edit of a constant that its function reads. What isn't refused so is tried alone. An edit fails, too,
+where all that is told is that a proof names what it took away: a right body of another form would be told the same way.
+Each try has a function that no edit reaches, which must be proved; so a crate that can't be read, or libraries that
+don't fit, refuse nothing. What the edited functions call isn't proved again, and no lemma is: in the copy the proofs of
+all other functions and of the lemmas are holes, which the prover takes for proofs. What isn't proved even so isn't
+proved at all.
 
 A second edit of one function is made in a twin of it: the function again under another name, with its contract and its
 proof. Beside such twins stands one without an edit. Where that one isn't proved, for a reason of its own, they tell
@@ -385,6 +386,10 @@ class Tried:
 VERDICT = re.compile(r"^fn (\S+): (.*)$", re.M)
 # What is told of a function itself, also where it calls one that isn't proved.
 OPEN = re.compile(r"`(?:search|grind)` did not prove")
+# What is told of a function that isn't proved since one that it calls isn't.
+CALLS = re.compile(r"it calls|a call of `[^`]*`, which has no proof")
+# What is told of a function of a form that the prover doesn't read: it says nothing of the contract.
+UNCOVERED = "the borrow checker does not cover this function yet"
 # A proof that names what an edit took away says little of the contract.
 NAMES = re.compile(r"has no field|is not in scope|has no `|was not admitted|depends on")
 
@@ -600,15 +605,15 @@ class Crate:
         """Whether what is printed tells of the edit: where it stands in a twin, the twin without an edit is proved, or
         isn't only since it calls what other edits turn."""
         verdict = self.verdicts(said).get(it.plain, "")
-        is_calling = "it calls" in verdict and not self.is_own(it.plain, verdict, said)
+        is_calling = CALLS.search(verdict) and not self.is_own(it.plain, verdict, said)
         return it.plain is None or self.is_good(it.plain, said) or is_calling
 
     def is_own(self, name, verdict, said):
         """Whether the verdict on a function says that it isn't proved, for a reason of its own."""
-        if not verdict.startswith(("not proved", "no proof")):
+        if not verdict.startswith(("not proved", "no proof")) or UNCOVERED in verdict:
             return False
         own = (it for it in self.errors(name, said) if not NAMES.search(it))
-        return "it calls" not in verdict or bool(OPEN.search(verdict)) or any(own)
+        return not CALLS.search(verdict) or bool(OPEN.search(verdict)) or any(own)
 
     def is_weak(self, names, said):
         """Whether all that is told of the functions that an edit turns is that their proofs name what it took away."""
@@ -657,7 +662,10 @@ class Crate:
         elif self.is_weak(edit.functions, said):
             why = "all that is told is that its proof names what it took away: change a value, and keep the form"
             self.fail(edit.name, f"NOT REFUSED: {why}")
-        elif any("it calls" in self.verdicts(said).get(it, "") for it in edit.functions):
+        elif any(UNCOVERED in self.verdicts(said).get(it, "") for it in edit.functions):
+            why = "the borrow checker doesn't cover it, which says nothing of the contract: change a value"
+            self.fail(edit.name, f"BAD EDIT: {why}, and keep the form")
+        elif any(CALLS.search(self.verdicts(said).get(it, "")) for it in edit.functions):
             self.fail(edit.name, "NOT REFUSED: its function is told only because it calls another one")
         else:
             self.fail(edit.name, "NOT REFUSED: its function is proved with it")

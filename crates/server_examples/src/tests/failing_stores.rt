@@ -123,7 +123,7 @@ state Ready
     };
 }
 
-const FAILING_PLAYS: [FailingPlay<'static>; 11] = [
+static FAILING_PLAYS: [FailingPlay<'static>; 11] = [
     FailingPlay {
         session: session!("> read 1 0 100 8 76\nok 1\n", 0 => 1),
         ..ONE

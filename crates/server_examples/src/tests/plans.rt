@@ -44,7 +44,7 @@ const fn client(id: u64, first_frame: u64) -> ClientConfig {
     }
 }
 
-const OWNERS: &[(ClientId, Frame, u16)] = &[
+static OWNERS: &[(ClientId, Frame, u16)] = &[
     (ClientId(1), Frame(76), 160),
     (ClientId(8), Frame(511), 1),
 ];

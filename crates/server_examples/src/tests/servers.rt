@@ -233,23 +233,23 @@ macro_rules! bare {
 }
 
 /// IDENTIFY DEVICE.
-const IDENTIFY: Slot = (READ_HEADER, bare!(0xec, [0, 0], [0, 0]), SCRATCH, NO_ENTRY);
+static IDENTIFY: Slot = (READ_HEADER, bare!(0xec, [0, 0], [0, 0]), SCRATCH, NO_ENTRY);
 
 /// A read of eight sectors into frame 76, by READ DMA EXT.
-const SHORT_READ: Slot = (READ_HEADER, h2d!(0x25, [0, 0], [8, 0]), FRAME_76, NO_ENTRY);
+static SHORT_READ: Slot = (READ_HEADER, h2d!(0x25, [0, 0], [8, 0]), FRAME_76, NO_ENTRY);
 
 /// A read of 256 sectors into frames 81 to 112, by READ DMA EXT: one entry has them all.
-const LONG_READ: Slot = (READ_HEADER, h2d!(0x25, [0, 0], [0, 1]), LONG_RUN, NO_ENTRY);
+static LONG_READ: Slot = (READ_HEADER, h2d!(0x25, [0, 0], [0, 1]), LONG_RUN, NO_ENTRY);
 
 /// A write of three sectors from frame 77, by WRITE DMA EXT.
-const WRITE: Slot = (WRITE_HEADER, h2d!(0x35, [0, 0], [3, 0]), FRAME_77, NO_ENTRY);
+static WRITE: Slot = (WRITE_HEADER, h2d!(0x35, [0, 0], [3, 0]), FRAME_77, NO_ENTRY);
 
 /// The short read by READ FPDMA QUEUED, in slot 0: the sectors stand in the features field, and the tag in bits
 /// 7:3 of the count field (ACS-3).
-const QUEUED_SHORT_READ: Slot = (READ_HEADER, h2d!(0x60, [8, 0], [0, 0]), FRAME_76, NO_ENTRY);
+static QUEUED_SHORT_READ: Slot = (READ_HEADER, h2d!(0x60, [8, 0], [0, 0]), FRAME_76, NO_ENTRY);
 
 /// The long read by READ FPDMA QUEUED, in slot 5.
-const QUEUED_LONG_READ: Slot = (
+static QUEUED_LONG_READ: Slot = (
     HEADER_OF_5,
     h2d!(0x60, [0, 1], [0x28, 0]),
     LONG_RUN,
@@ -257,10 +257,10 @@ const QUEUED_LONG_READ: Slot = (
 );
 
 /// A read of 1,024 sectors by READ FPDMA QUEUED, in slot 0, into frames 76 to 203: one entry has the 512 KiB.
-const WIDE_READ: Slot = (READ_HEADER, h2d!(0x60, [0, 4], [0, 0]), WIDE_RUN, NO_ENTRY);
+static WIDE_READ: Slot = (READ_HEADER, h2d!(0x60, [0, 4], [0, 0]), WIDE_RUN, NO_ENTRY);
 
 /// The same from frame 203 down to 76: of the 128 entries the first is of frame 203, and the last of frame 76.
-const FALLING_READ: Slot = (
+static FALLING_READ: Slot = (
     [5, 0, 0x80, 0, 0, 0, 0, 0, 0, 0x10, 0, 0, 0, 0, 0, 0],
     h2d!(0x60, [0, 4], [0, 0]),
     FRAME_203,
@@ -268,21 +268,21 @@ const FALLING_READ: Slot = (
 );
 
 /// The wide read by READ DMA EXT, where commands are plain.
-const PLAIN_WIDE_READ: Slot = (READ_HEADER, h2d!(0x25, [0, 0], [0, 4]), WIDE_RUN, NO_ENTRY);
+static PLAIN_WIDE_READ: Slot = (READ_HEADER, h2d!(0x25, [0, 0], [0, 4]), WIDE_RUN, NO_ENTRY);
 
 /// The write by WRITE FPDMA QUEUED, in slot 0.
-const QUEUED_WRITE: Slot = (WRITE_HEADER, h2d!(0x61, [3, 0], [0, 0]), FRAME_77, NO_ENTRY);
+static QUEUED_WRITE: Slot = (WRITE_HEADER, h2d!(0x61, [3, 0], [0, 0]), FRAME_77, NO_ENTRY);
 
 /// A trim, by DATA SET MANAGEMENT with one block, which stands at 12000h, in the port's scratch frame.
-const TRIM: Slot = (WRITE_HEADER, bare!(6, [1, 0], [1, 0]), SCRATCH, NO_ENTRY);
+static TRIM: Slot = (WRITE_HEADER, bare!(6, [1, 0], [1, 0]), SCRATCH, NO_ENTRY);
 
 /// A flush, by FLUSH CACHE EXT, which has no entry: behind its FIS stands still what the boot's IDENTIFY DEVICE had.
-const FLUSH: Slot = (FLUSH_HEADER, bare!(0xea, [0, 0], [0, 0]), SCRATCH, NO_ENTRY);
+static FLUSH: Slot = (FLUSH_HEADER, bare!(0xea, [0, 0], [0, 0]), SCRATCH, NO_ENTRY);
 
 // The boot's IDENTIFY DEVICE ended with a PIO Setup FIS, which PSS of PxIS tells (AHCI 1.3.1, 3.3.5). A service writes
 // back what it read there, and then the port's bit of IS alone (3.1.3), and reads PxSSTS; and then PxCI and PxSACT,
 // where there is a request.
-const SERVICE: [AdapterCall; 6] = [
+static SERVICE: [AdapterCall; 6] = [
     AdapterCall::Read(Reg::Px(Port(0), PortReg::Is)),
     AdapterCall::Write(Reg::Px(Port(0), PortReg::Is), 2),
     AdapterCall::Write(Reg::Is, 1),

@@ -212,7 +212,7 @@ type Asked = (
     Option<Refusal>,
 );
 
-const REQUESTS: &[Asked] = &[
+static REQUESTS: &[Asked] = &[
     (USUAL, 1, 0, Op::Read, 156, 8, &[76], None),
     (USUAL, 1, 0, Op::Read, 157, 8, &[76], OUTSIDE_GRANT),
     (USUAL, 1, 0, Op::Read, u64::MAX, 8, &[76], OUTSIDE_GRANT),

@@ -80,7 +80,7 @@ const TRUTH: DeviceStep = DeviceStep::Truth(Port(0));
 
 const OTHER_TRUTH: DeviceStep = DeviceStep::Truth(Port(1));
 
-const CASES: [Case; 12] = [
+static CASES: [Case; 12] = [
     PLAIN,
     // NP of CAP is the number of ports less one (AHCI 1.3.1, 3.1.1).
     Case {
@@ -324,46 +324,63 @@ fn holds(alloc: Global, case: &Case) -> Result<bool, Fail> {
     is_as_said(alloc, case)
 }
 
+/// The ordinary disk, with these steps before accesses.
+fn with_steps(queued: [(u64, DeviceStep); 2]) -> Case {
+    Case { queued, ..PLAIN }
+}
+
 #[test]
 fn models_are_found_as_they_are(rt: HostRuntime) -> Result<(), Fail> {
     for case in &CASES {
         assert!(rt; holds(rt.alloc(), case)?, "{}", case.what);
     }
-    // A device that takes or moves the page of itself goes on by itself, and one that is held for so many accesses is
-    // waited for.
+    Ok(())
+}
+
+/// A device that takes or moves the page of itself goes on by itself, and one that is held for so many accesses is
+/// waited for.
+#[test]
+fn steps_before_any_access_change_nothing(rt: HostRuntime) -> Result<(), Fail> {
     for access in 1..60 {
         let taken = [
             (access, DeviceStep::Fetch(Port(0), Slot(0))),
             (access, DeviceStep::Move(Port(0), Slot(0))),
         ];
+        assert!(rt;
+            holds(rt.alloc(), &with_steps(taken))?,
+            "taken before access {access}"
+        );
         let held = [
             (access, DeviceStep::Hold(Port(0))),
             (access + 40, DeviceStep::Release(Port(0))),
         ];
-        for queued in [taken, held] {
-            let case = Case { queued, ..PLAIN };
-            assert!(rt; holds(rt.alloc(), &case)?, "before access {access}");
-        }
+        assert!(rt;
+            holds(rt.alloc(), &with_steps(held))?,
+            "held before access {access}"
+        );
     }
-    // IDENTIFY DEVICE fails as it is told before one access alone, at which it is issued and not taken yet: the first
-    // reading of PxCI. Its bit stays set, and no page comes.
+    Ok(())
+}
+
+/// IDENTIFY DEVICE fails as it is told before one access alone, at which it is issued and not taken yet: the first
+/// reading of PxCI. Its bit stays set, and no page comes.
+#[test]
+fn one_access_fails_the_page(rt: HostRuntime) -> Result<(), Fail> {
     let mut has_failed = false;
     for access in 1..60 {
-        let queued = [
+        let left = with_steps([
             (access, DeviceStep::Fetch(Port(0), Slot(0))),
             (access, DeviceStep::Fault(Port(0), Slot(0), 0x04)),
-        ];
+        ]);
         let unfit = Case {
-            queued,
             found: ProbeResult::Unready(PortState::Unfit(9)),
             page: None,
-            ..PLAIN
+            ..left
         };
         if holds(rt.alloc(), &unfit)? {
             assert!(rt; !has_failed, "again before access {access}");
             has_failed = true;
         } else {
-            let left = Case { queued, ..PLAIN };
             assert!(rt; holds(rt.alloc(), &left)?, "left before access {access}");
         }
     }

@@ -29,7 +29,7 @@ fn bytes_of(words: [u32; 4]) -> [u8; 20] {
 const AT_100: u32 = 0x4000_0064;
 
 /// Code, features, count, LBA and device; and the FIS's double words, as Serial ATA draws them.
-const COMMANDS: [((u8, u16, u16, u32, u8), [u32; 4]); 11] = [
+static COMMANDS: [((u8, u16, u16, u32, u8), [u32; 4]); 11] = [
     // READ FPDMA QUEUED of 8 sectors at 100 in slot 0, of 256 in slot 5, and of 1024 in slot 31
     ((0x60, 8, 0, 100, 64), [0x0860_8027, AT_100, 0, 0]),
     ((0x60, 256, 40, 100, 64), [0x0060_8027, AT_100, 1 << 24, 40]),
@@ -60,7 +60,7 @@ fn commands_are_spelled(rt: HostRuntime) {
 
 /// Name, whether the device reads memory, the entries, the place of the table, the first bytes of the header,
 /// and bytes 8 and 9.
-const HEADERS: &[(&str, bool, u16, u32, [u8; 4], [u8; 2])] = &[
+static HEADERS: &[(&str, bool, u16, u32, [u8; 4], [u8; 2])] = &[
     (
         "a trim of one block",
         true,

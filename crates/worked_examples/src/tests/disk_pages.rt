@@ -13,7 +13,7 @@ struct Case {
     bytes: &'static [(usize, u8)],
 }
 
-const CASES: [Case; 4] = [
+static CASES: [Case; 4] = [
     // A disk of 70,000 sectors (11170h). The serial number's bytes sum to 654 and eleven spaces to 352, the others to
     // 589: 1595, or 59 modulo 256. The last byte is 256 - 59.
     Case {
@@ -108,7 +108,7 @@ struct LogCase {
     bytes: [u8; 4],
 }
 
-const LOG_CASES: [LogCase; 5] = [
+static LOG_CASES: [LogCase; 5] = [
     // NQ alone: 128, and 256 - 128.
     LogCase {
         what: "none has failed",

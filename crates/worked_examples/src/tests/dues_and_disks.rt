@@ -41,7 +41,7 @@ const TRIM: InBook = (2, 0, Op::Trim, 120, 8, false);
 
 /// What is told of a book: the case's name, whether commands are queued, the slots that are usable, the book, and the
 /// ids of those due.
-const DUE: &[(&str, bool, u8, &[InBook], &[u64])] = &[
+static DUE: &[(&str, bool, u8, &[InBook], &[u64])] = &[
     ("two writes apart", true, 32, &[WRITE, WRITE_APART], &[1, 2]),
     (
         "two writes and one slot",
@@ -280,7 +280,7 @@ const THERE: &[DiskEvent] = touched!(SECOND_READ: 0; WRITE_THERE: 4);
 
 /// A case's name, what happened on a disk that is filled from 5 on, the read, a sector, and the byte that is left on
 /// it.
-const LEFT: &[(&str, &[DiskEvent], HistoryRequest, u64, u8)] = &[
+static LEFT: &[(&str, &[DiskEvent], HistoryRequest, u64, u8)] = &[
     ("a write that was cut short", CUT_SHORT, LONG_READ, 100, 7),
     ("its second sector", CUT_SHORT, LONG_READ, 101, 8),
     ("the sector behind that", CUT_SHORT, LONG_READ, 102, 107),

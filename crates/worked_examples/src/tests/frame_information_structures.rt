@@ -15,7 +15,7 @@ enum Fields {
 }
 
 /// FISes with their bytes (AHCI 1.3.1, 4.2.1; Serial ATA).
-const SPELLED: &[(&str, Fields, &[u8])] = &[
+static SPELLED: &[(&str, Fields, &[u8])] = &[
     (
         "a READ DMA EXT of 8 sectors from 100 on",
         Fields::Sent(Command {
@@ -134,7 +134,7 @@ fn each_fis_has_one_spelling(rt: HostRuntime) {
 }
 
 /// Bytes that are no FIS: one that means nothing has to be zero, bits too, and each has its own length.
-const REFUSED: &[&[u8]] = &[
+static REFUSED: &[&[u8]] = &[
     &[
         0x27, 0x80, 0x25, 0, 0x64, 0, 0, 0x40, 0, 0, 0, 0, 8, 0, 0, 0, 0, 0, 0,
     ],

@@ -33,7 +33,7 @@ fn a_frame_is_lent_until_its_loan_is_given_back(rt: HostRuntime) -> Result<(), F
 }
 
 /// A client, the frames that it names, and the first fault of them.
-const NAMED: &[(ClientId, &[Frame], Result<(), FrameFault>)] = &[
+static NAMED: &[(ClientId, &[Frame], Result<(), FrameFault>)] = &[
     (ONE, &[Frame(76), Frame(115)], Ok(())),
     (TWO, &[Frame(116)], Ok(())),
     (

@@ -5,7 +5,7 @@ const LAST: u64 = 0xffff_ffff_ffff_ffff;
 
 /// Two ranges, each by its first sector and count, whether the first is within the second, and whether some sector is
 /// in both.
-const CASES: [((u64, u32), (u64, u32), bool, bool); 23] = [
+static CASES: [((u64, u32), (u64, u32), bool, bool); 23] = [
     ((0, 1), (0, 1), true, true),
     ((0, 2), (0, 1), false, true),
     ((0, 1), (1, 1), false, false),

@@ -90,7 +90,7 @@ fn one_bit(rt: HostRuntime) {
 
 /// PxTFD as disks show it, with BSY, DRQ and ERR, status and error: after COMRESET, with nothing to do, at work, ready
 /// to transfer, and after an error.
-const TASK_FILES: &[(TaskFile, [bool; 3], u8, u8)] = &[
+static TASK_FILES: &[(TaskFile, [bool; 3], u8, u8)] = &[
     (TaskFile(0x7f), [false, true, true], 0x7f, 0),
     (TaskFile(0x50), [false, false, false], 0x50, 0),
     (TaskFile(0xd0), [true, false, false], 0xd0, 0),

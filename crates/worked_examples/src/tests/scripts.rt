@@ -16,7 +16,7 @@ fn step_of(text: &[u8]) -> Option<DeviceStep> {
 
 /// Texts, and the steps that they are read as. No server shows which values a lie has. The last three are no lines; a
 /// script has the first two beside its lines.
-const STEPS: &[(&str, Option<DeviceStep>)] = &[
+static STEPS: &[(&str, Option<DeviceStep>)] = &[
     ("dev fetch 3 31", Some(DeviceStep::Fetch(Port(3), Slot(31)))),
     ("dev move 3 31", Some(DeviceStep::Move(Port(3), Slot(31)))),
     (
@@ -61,7 +61,7 @@ fn steps_are_read(rt: HostRuntime) {
 }
 
 /// The outcome of a request with this id, as it is printed.
-const OUTCOMES: &[(u64, Outcome, &str)] = &[
+static OUTCOMES: &[(u64, Outcome, &str)] = &[
     (
         7,
         Outcome::DeviceError {
@@ -81,7 +81,7 @@ const OUTCOMES: &[(u64, Outcome, &str)] = &[
 ];
 
 /// Refusals, as they are printed.
-const REFUSALS: &[(Refusal, &str)] = &[
+static REFUSALS: &[(Refusal, &str)] = &[
     (
         Refusal::PortNotReady(PortState::Dead),
         "refused 9 PortNotReady Dead",
@@ -91,14 +91,14 @@ const REFUSALS: &[(Refusal, &str)] = &[
 ];
 
 /// States, as they are printed.
-const STATES: &[(PortState, &str)] = &[
+static STATES: &[(PortState, &str)] = &[
     (PortState::Unfit(0), "state Unfit 0"),
     (PortState::Unfit(255), "state Unfit 255"),
     (PortState::Dead, "state Dead"),
 ];
 
 /// A move's operation, sector and address, and how it is printed.
-const MOVES: &[(Operation, u64, u32, &str)] = &[
+static MOVES: &[(Operation, u64, u32, &str)] = &[
     (Operation::ReadQueued, 1, 1, "move 1 31 read 1 00000001"),
     (
         Operation::Write,
@@ -119,19 +119,29 @@ const MOVES: &[(Operation, u64, u32, &str)] = &[
 ];
 
 #[test]
-fn untold_answers_are_printed(rt: HostRuntime) -> Result<(), AllocError> {
+fn refusals_are_printed(rt: HostRuntime) -> Result<(), AllocError> {
     for (refusal, want) in REFUSALS {
         assert_eq!(rt;
             String::format(rt.alloc(), &Answer::Refused(*refusal))?.as_str(),
             *want
         );
     }
+    Ok(())
+}
+
+#[test]
+fn states_are_printed(rt: HostRuntime) -> Result<(), AllocError> {
     for (state, want) in STATES {
         assert_eq!(rt;
             String::format(rt.alloc(), &Answer::State(*state))?.as_str(),
             *want
         );
     }
+    Ok(())
+}
+
+#[test]
+fn a_clear_is_printed(rt: HostRuntime) -> Result<(), AllocError> {
     let cleared = Clear {
         port: Port(1),
         slot: Slot(2),
@@ -142,6 +152,11 @@ fn untold_answers_are_printed(rt: HostRuntime) -> Result<(), AllocError> {
         String::format(rt.alloc(), &Answer::Cleared(cleared))?.as_str(),
         "clear 1 2 300 4"
     );
+    Ok(())
+}
+
+#[test]
+fn outcomes_are_printed(rt: HostRuntime) -> Result<(), AllocError> {
     for (id, outcome, want) in OUTCOMES {
         let reply = Reply {
             id: RequestId(*id),

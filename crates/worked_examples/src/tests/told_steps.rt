@@ -68,7 +68,7 @@ macro_rules! while_all_are_held {
     };
 }
 
-const CASES: [(&str, &[Act]); 12] = [
+static CASES: [(&str, &[Act]); 12] = [
     (
         "ports, slots, disks and bytes that aren't there",
         &[

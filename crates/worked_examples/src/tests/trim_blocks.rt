@@ -4,7 +4,7 @@ use ata_types::{Range, Sector};
 use commands::trim_block;
 
 /// Name, first sector, how many sectors, and the block's entries up to its zeros.
-const BLOCKS: &[(&str, u64, u32, &[[u8; 8]])] = &[
+static BLOCKS: &[(&str, u64, u32, &[[u8; 8]])] = &[
     ("no sector", 1000, 0, &[]),
     ("no sector, past all that there may be", u64::MAX, 0, &[]),
     ("one sector", 1000, 1, &[[0xe8, 3, 0, 0, 0, 0, 1, 0]]),
