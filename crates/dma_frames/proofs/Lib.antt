@@ -1,5 +1,7 @@
 mod FaultLemmas
 mod FrameBits
+mod LentBits
 mod OwnerLemmas
+mod OwnerNumbers
+mod OwnerWords
 mod Seen
-mod StoredLemmas

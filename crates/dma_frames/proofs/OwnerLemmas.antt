@@ -77,3 +77,12 @@ get_or-copies (suc n) (suc k) x = get_or-copies n k x
 pub faultless_within : (table : OwnersAndLoans) (client : ClientId) (frames : List Frame) → HasNoFault (owner_of table) (lent_to table) client frames → length table.owners ≡ MOST_FRAMES
     → All (λ f. f.0 < MOST_FRAMES) frames
 faultless_within table client frames clear many k d less = let owned = owned_within table client frames (λ j _. clear (FrameForeign j)) k d less in omega (arith, owned, many)
+
+-- a frame of one more run is nobody's yet
+pub nobody_yet : (runs : List FrameExtent) (owners : List (Option ClientId)) (i : ℕ) (z : FrameExtent) → i < length runs → AllPairs ExtentsApart runs → Only runs owners i
+    → (f : Frame) → ExtentHasFrame (get_or runs i z) f → get_or owners f.0 None ≡ None
+nobody_yet runs owners i z within apart only f has = by (get_or owners f.0 None) refl
+  where
+    by : (o : Option ClientId) → get_or owners f.0 None ≡ o → get_or owners f.0 None ≡ None
+    by None e = e
+    by (Some client) e = let w = only f client e in absurd (apart w.0 i z w.1 within f (w.2 z).0 has)

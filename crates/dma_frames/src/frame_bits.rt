@@ -19,13 +19,18 @@ pub fn is_frame_bit_set(words: &[u64], frame: Frame) -> bool
     }
 }
 
-/// Sets a frame's bit.
-pub fn set_frame_bit(words: &mut [u64], frame: Frame)
+/// Sets a frame's bit, or clears it.
+pub fn set_frame_bit(words: &mut [u64], frame: Frame, is_set: bool)
     requires words { length words.old ≡ BIT_WORDS }
     requires frame { frame.0 < FRAMES }
-    ensures this { frame_bit words.new frame.0 ≡ 1 }
+    ensures this { IsTrue is_set ↔ (frame_bit words.new frame.0 ≡ 1) }
     ensures others { (k : ℕ) → k ≢ frame.0 → frame_bit words.new k ≡ frame_bit words.old k }
 {
     let frame = frame.0 as usize;
-    words[frame / 64] |= 1u64 << (frame % 64);
+    let bit = 1u64 << (frame % 64);
+    if is_set {
+        words[frame / 64] |= bit;
+    } else {
+        words[frame / 64] &= !bit;
+    }
 }

@@ -1,44 +1,42 @@
 //! Which client owns each frame of memory, and which request it is lent to.
 //!
 //! (This project's own.) A `Loan` is a linear value: it can't be dropped, copied or used twice, and
-//! it ends in `give_back` or `give_back_at` alone. So a frame that is lent stays lent until then.
-//! What holds loans, as a book or a server, can't be dropped either.
+//! it ends in `give_back` alone. So a frame that is lent stays lent until then. What holds loans, as
+//! a book or a server, can't be dropped either.
 #![tactic(auto)]
 
-ghost use Rattle.std.specs.Prelude.{[], ◌≡◌, ◌≢◌, ℕ, ◌<◌, ◌≤◌, length, All, AllPairs, Contains, None, Some, IsSome, IsTrue, false, ◌↔◌, OnOk, IfOk, IfErr, slice_index_or};
+ghost use Rattle.std.specs.Prelude.{◌≡◌, ℕ, ◌<◌, ◌≤◌, length, All, AllPairs, Contains, None, Some, IsSome, IsTrue, ◌↔◌, OnOk, IfOk, IfErr, slice_index, slice_index_or};
 ghost use Rattle.block_machine.specs.Rules.{IsForeignAt, IsRepeatAt, IsLentAt, HasNoFault, IsFirstFaultByKindThenPlace};
-ghost use Rattle.dma_frames.specs.{Loan.{Lending}, LeastPlaces.{IsLeastPlace}, FrameTables.{FrameExtent, owner_of, lent_to, SetsLoanOnly, ExtentHasFrame, IsValidExtent, IsUnlentTableOf, ExtentsApart}, TableLists.{client_of, borrowers_of, owners_of}};
+ghost use Rattle.dma_frames.specs.{Loan.{Lending}, LeastPlaces.{IsLeastPlace}, FrameTables.{FrameExtent, owner_of, lent_to, SetsLoanOnly, ExtentHasFrame, IsValidExtent, IsUnlentTableOf, ExtentsApart}, TableWords.{AreLentBits, client_of, owners_of}};
 
 mod frame_bits;
 
+use arrayvec::ArrayVec;
 use ata_types::{ClientId, Frame, FrameFault, MOST_FRAMES, MOST_REQUEST_FRAMES, RequestId};
-use frame_bits::BIT_WORDS;
+use frame_bits::{BIT_WORDS, is_frame_bit_set, set_frame_bit};
 use std::alloc::{AllocError, Global};
 use std::marker::Model;
-use std::mem;
 
 /// The number of frames of the largest memory.
 pub const FRAMES: usize = MOST_FRAMES as usize;
 
-/// Frames that are lent to one request, at most 128. A loan can't be dropped or copied: it ends in `give_back` or
-/// `give_back_at` of `FrameTable` alone.
+/// Frames that are lent to one request, at most 128. A loan can't be dropped or copied: it ends in `give_back` of
+/// `FrameTable` alone.
 pub struct Loan {
-    /// The frames, and behind them what is left of an earlier loan.
-    frames: [Frame; MOST_REQUEST_FRAMES],
-    count: usize,
+    frames: ArrayVec<Frame, MOST_REQUEST_FRAMES>,
     request: RequestId,
 }
 
 impl Model for Loan {
-    ghost use Rattle.std.specs.Prelude.{◌≡◌, ◌≤◌, length, take};
+    ghost use Rattle.std.specs.Prelude.{◌≤◌, length};
     ghost use Rattle.ata_types.specs.declared.limits.TheConstants.{MOST_REQUEST_FRAMES};
     ghost use Rattle.dma_frames.specs.Loan.{Lending};
 
     ghost Value = { Lending };
 
-    ghost view = { λ l. record { frames = take l.count l.frames; request = l.request } };
+    ghost view = { λ l. record { frames = l.frames.items; request = l.request } };
 
-    ghost invariant = { λ l. (l.count ≤ MOST_REQUEST_FRAMES) × (length l.frames ≡ MOST_REQUEST_FRAMES) };
+    ghost invariant = { λ l. length l.frames.items ≤ MOST_REQUEST_FRAMES };
 }
 
 impl Loan {
@@ -47,7 +45,7 @@ impl Loan {
         ensures frames { result.now ≡ self.now.frames }
         ensures count_is_allowed { length result.now ≤ MOST_REQUEST_FRAMES }
     {
-        &self.frames[..self.count]
+        self.frames.as_slice()
     }
 
     /// The request that they are lent to.
@@ -58,83 +56,31 @@ impl Loan {
     }
 }
 
-/// A place for a loan. A loan has room for many frames: it begins in its place, and ends where it stands. As a loan,
-/// its place can't be dropped.
-pub struct LoanPlace {
-    /// Where nothing is held, what is left of a loan that ended.
-    loan: Loan,
-    is_held: bool,
-}
+/// How many owners' numbers stand in a word: a number has four bits.
+const OWNERS_PER_WORD: usize = 16;
 
-impl Model for LoanPlace {
-    ghost use Rattle.std.specs.Prelude.{Option, Some, None, if◌then◌else◌};
-    ghost use Rattle.dma_frames.specs.Loan.{Lending};
+/// The words that hold the number of each frame's owner.
+const OWNER_WORDS: usize = FRAMES / OWNERS_PER_WORD;
 
-    ghost Value = { Option Lending };
-
-    ghost view = { λ p. if p.is_held then Some p.loan else None };
-}
-
-impl LoanPlace {
-    /// A place that holds no loan.
-    pub fn empty() -> Self
-        ensures { result ≡ None }
-    {
-        LoanPlace {
-            loan: no_frames(),
-            is_held: false,
-        }
-    }
-
-    /// The loan that is held here.
-    pub fn loan(&self) -> &Loan
-        requires { IsSome self.now }
-        ensures { self.now ≡ Some result.now }
-    {
-        &self.loan
-    }
-
-    /// Takes the loan that is held here.
-    pub fn take(&mut self) -> Loan
-        requires { IsSome self.old }
-        ensures taken { self.old ≡ Some result }
-        ensures place_is_empty { self.new ≡ None }
-    {
-        let LoanPlace { loan, is_held: _ } = mem::replace(self, LoanPlace::empty());
-        loan
-    }
-
-    /// Ends a place that holds no loan.
-    pub fn destroy(self)
-        requires { self ≡ None }
-    {
-        let LoanPlace {
-            loan: ended,
-            is_held: _,
-        } = self;
-        destroy(ended);
-    }
-}
-
-/// The owner of each frame, and the request that it is lent to. `check` reads two bytes of a frame.
+/// The owner of each frame, and the request that it is lent to. `check` looks at the words alone.
 #[derive(Drop)]
 pub struct FrameTable {
-    /// The number of each frame's owner, or 0 where nobody owns it.
-    owners: [u8; FRAMES],
-    /// Whether each frame is lent.
-    lent: [bool; FRAMES],
-    /// The request that each frame is lent to. Where it isn't lent, what is left of an earlier loan.
-    ids: [RequestId; FRAMES],
+    /// The number of each frame's owner, or 0 if nobody owns it.
+    owners: [u64; OWNER_WORDS],
+    /// A bit for each frame, which is set if it is lent.
+    lent: [u64; BIT_WORDS],
+    /// The request that each frame is lent to.
+    ids: [Option<RequestId>; FRAMES],
 }
 
 impl Model for FrameTable {
-    ghost use Rattle.dma_frames.specs.{FrameTables.{OwnersAndLoans}, TableLists.{HasAllFrames, borrowers_of, owners_of}};
+    ghost use Rattle.dma_frames.specs.{FrameTables.{OwnersAndLoans}, TableWords.{WordsAgreeWithIds, owners_of}};
 
     ghost Value = { OwnersAndLoans };
 
-    ghost view = { λ t. record { owners = owners_of t.owners; lent = borrowers_of t.lent t.ids } };
+    ghost view = { λ t. record { owners = owners_of t.owners; lent = t.ids } };
 
-    ghost invariant = { λ t. HasAllFrames t.owners t.lent t.ids };
+    ghost invariant = { λ t. WordsAgreeWithIds t.owners t.lent t.ids };
 }
 
 impl FrameTable {
@@ -154,7 +100,7 @@ impl FrameTable {
         table
     }
 
-    /// The table that `new` gives, on the heap. It is made there, so that its 10 KiB needn't stand on the stack.
+    /// The table that `new` gives, on the heap. It is made there, so that its 17 KiB needn't stand on the stack.
     pub fn boxed(
         alloc: Global,
         runs: &[(ClientId, Frame, u16)],
@@ -174,9 +120,9 @@ impl FrameTable {
         ensures free { (f : Frame) → lent_to result f ≡ None }
     {
         FrameTable {
-            owners: [0; FRAMES],
-            lent: [false; FRAMES],
-            ids: [RequestId(0); FRAMES],
+            owners: no_owners(),
+            lent: no_bits(),
+            ids: no_ids(),
         }
     }
 
@@ -212,31 +158,22 @@ impl FrameTable {
     fn are_clear(&self, client: ClientId, frames: &[Frame]) -> bool
         ensures { IsTrue result → HasNoFault (owner_of self.now) (lent_to self.now) client frames.now }
     {
-        // Client 0 is nobody, and owns no frame.
-        if client.0 == 0 {
-            return false;
-        }
-        let mut before = [0; BIT_WORDS];
+        let mut before = no_bits();
         for frame in frames {
-            if !self.is_lendable(client, *frame) || frame_bits::is_frame_bit_set(&before, *frame) {
+            if !self.is_lendable(client, *frame) || is_frame_bit_set(&before, *frame) {
                 return false;
             }
-            frame_bits::set_frame_bit(&mut before, *frame);
+            set_frame_bit(&mut before, *frame, true);
         }
         true
     }
 
     /// Whether a frame is the client's, and isn't lent.
-    fn is_lendable(&self, client: ClientId, frame: Frame) -> bool
-        requires { client.0 ≢ 0 }
-        ensures free { IsTrue result → (owner_of self.now frame ≡ Some client) × (lent_to self.now frame ≡ None) }
-        ensures within { IsTrue result → frame.0 < FRAMES }
+    fn is_lendable(&self, client: ClientId, asked: Frame) -> bool
+        ensures free { IsTrue result → (owner_of self.now asked ≡ Some client) × (lent_to self.now asked ≡ None) }
+        ensures within { IsTrue result → asked.0 < FRAMES }
     {
-        let frame = frame.0 as usize;
-        match self.owners.get(frame) {
-            Some(owner) => *owner == client.0 && !self.lent[frame],
-            None => false,
-        }
+        owner_in(&self.owners, asked) == Some(client) && !self.is_lent(asked)
     }
 
     /// What is wrong with these frames first, as `check` says.
@@ -265,29 +202,13 @@ impl FrameTable {
         ensures request { result.request ≡ request }
         ensures lent { SetsLoanOnly self.old self.new frames.now (Some request) }
     {
-        let mut loan = no_frames();
-        begin(&mut loan, frames, request);
-        note_lent(&mut self.lent, &mut self.ids, loan.frames(), request);
-        loan
-    }
-
-    /// Lends frames as `lend` does, and the loan begins in a place that holds none. So it isn't moved.
-    pub fn lend_at(
-        &mut self,
-        client: ClientId,
-        frames: &[Frame],
-        request: RequestId,
-        place: &mut LoanPlace,
-    )
-        requires has_no_fault { HasNoFault (owner_of self.old) (lent_to self.old) client frames.now }
-        requires count_is_allowed { length frames.now ≤ MOST_REQUEST_FRAMES }
-        requires empty { place.old ≡ None }
-        ensures held { place.new ≡ Some (record { frames = frames.now; request = request }) }
-        ensures lent { SetsLoanOnly self.old self.new frames.now (Some request) }
-    {
-        begin(&mut place.loan, frames, request);
-        place.is_held = true;
-        note_lent(&mut self.lent, &mut self.ids, frames, request);
+        let mut taken = ArrayVec::new();
+        let _all = taken.try_extend_from_slice(frames);
+        set_borrower(&mut self.lent, &mut self.ids, frames, Some(request));
+        Loan {
+            frames: taken,
+            request,
+        }
     }
 
     /// Takes the frames of a loan back: they are lent to none.
@@ -295,20 +216,8 @@ impl FrameTable {
         requires { All (λ f. lent_to self.old f ≡ Some loan.request) loan.frames }
         ensures { SetsLoanOnly self.old self.new loan.frames None }
     {
-        note_returned(&mut self.lent, &self.ids, loan.frames());
-        destroy(loan);
-    }
-
-    /// Takes the frames of the loan that a place holds back: they are lent to none, and the place holds nothing.
-    pub fn give_back_at(&mut self, place: &mut LoanPlace)
-        requires { (loan : Lending) × (place.old ≡ Some loan)
-            × All (λ f. lent_to self.old f ≡ Some loan.request) loan.frames }
-        ensures frames_are_returned { (loan : Lending) → place.old ≡ Some loan
-            → SetsLoanOnly self.old self.new loan.frames None }
-        ensures place_is_empty { place.new ≡ None }
-    {
-        note_returned(&mut self.lent, &self.ids, place.loan.frames());
-        place.is_held = false;
+        let Loan { frames, request: _ } = loan;
+        set_borrower(&mut self.lent, &mut self.ids, frames.as_slice(), None);
     }
 
     /// The client that owns a frame; nobody owns one past the memory.
@@ -322,12 +231,17 @@ impl FrameTable {
     pub fn lent_to(&self, frame: Frame) -> Option<RequestId>
         ensures { result ≡ lent_to self.now frame }
     {
-        let place = frame.0 as usize;
-        if place < FRAMES && self.lent[place] {
-            Some(self.ids[place])
-        } else {
-            None
+        match self.ids.get(frame.0 as usize) {
+            Some(request) => *request,
+            None => None,
         }
+    }
+
+    /// Whether a frame is lent; none past the memory is.
+    fn is_lent(&self, frame: Frame) -> bool
+        ensures { IsTrue result ↔ IsSome (lent_to self.now frame) }
+    {
+        is_frame_bit_set(&self.lent, frame)
     }
 
     /// The first place whose frame the client doesn't own. Where there is none, all frames are in the memory.
@@ -348,7 +262,7 @@ impl FrameTable {
         ensures { IsLeastPlace (IsLentAt (lent_to self.now) frames.now) result }
     {
         for (place, frame) in frames.iter().enumerate() {
-            if self.lent_to(*frame).is_some() {
+            if self.is_lent(*frame) {
                 return Some(place);
             }
         }
@@ -356,34 +270,28 @@ impl FrameTable {
     }
 }
 
-/// A loan of no frames.
-fn no_frames() -> Loan
-    ensures { result.frames ≡ [] }
+/// Words in which nobody owns a frame.
+fn no_owners() -> [u64; OWNER_WORDS]
+    ensures length { length result ≡ OWNER_WORDS }
+    ensures zero { (i : ℕ) → slice_index result i ≡ 0 }
 {
-    Loan {
-        frames: [Frame(0); MOST_REQUEST_FRAMES],
-        count: 0,
-        request: RequestId(0),
-    }
+    [0; OWNER_WORDS]
 }
 
-/// Makes what was a loan one of these frames, to this request.
-fn begin(loan: &mut Loan, frames: &[Frame], request: RequestId)
-    requires { length frames.now ≤ MOST_REQUEST_FRAMES }
-    ensures { loan.new ≡ record { frames = frames.now; request = request } }
+/// Words in which no frame's bit is set.
+fn no_bits() -> [u64; BIT_WORDS]
+    ensures length { length result ≡ BIT_WORDS }
+    ensures zero { (i : ℕ) → slice_index result i ≡ 0 }
 {
-    loan.frames[..frames.len()].copy_from_slice(frames);
-    loan.count = frames.len();
-    loan.request = request;
+    [0; BIT_WORDS]
 }
 
-/// Takes a loan apart. Its callers have its frames lent to none.
-fn destroy(loan: Loan) {
-    let Loan {
-        frames: _,
-        count: _,
-        request: _,
-    } = loan;
+/// A list by which no frame is lent.
+fn no_ids() -> [Option<RequestId>; FRAMES]
+    ensures length { length result ≡ FRAMES }
+    ensures none { (i : ℕ) → slice_index_or result i None ≡ None }
+{
+    [None; FRAMES]
 }
 
 /// The first place whose frame stands at an earlier place too. Each frame that was seen has its bit set.
@@ -391,53 +299,46 @@ fn first_twice(frames: &[Frame]) -> Option<usize>
     requires { All (λ f. f.0 < FRAMES) frames.now }
     ensures { IsLeastPlace (IsRepeatAt frames.now) result }
 {
-    let mut seen = [0; BIT_WORDS];
+    let mut seen = no_bits();
     for (place, frame) in frames.iter().enumerate() {
-        if frame_bits::is_frame_bit_set(&seen, *frame) {
+        if is_frame_bit_set(&seen, *frame) {
             return Some(place);
         }
-        frame_bits::set_frame_bit(&mut seen, *frame);
+        set_frame_bit(&mut seen, *frame, true);
     }
     None
 }
 
-/// Notes that the frames are lent to the request.
-fn note_lent(lent: &mut [bool], ids: &mut [RequestId], frames: &[Frame], request: RequestId)
-    requires lent { length lent.old ≡ FRAMES }
+/// Notes for each of the frames what it is lent to.
+fn set_borrower(
+    lent: &mut [u64],
+    ids: &mut [Option<RequestId>],
+    frames: &[Frame],
+    borrower: Option<RequestId>,
+)
+    requires lent { length lent.old ≡ BIT_WORDS }
     requires ids { length ids.old ≡ FRAMES }
+    requires agree { AreLentBits lent.old ids.old }
     requires within { All (λ f. f.0 < FRAMES) frames.now }
-    ensures these { All (λ f. slice_index_or (borrowers_of lent.new ids.new) f.0 None ≡ Some request) frames.now }
+    ensures agree { AreLentBits lent.new ids.new }
+    ensures these { All (λ f. slice_index_or ids.new f.0 None ≡ borrower) frames.now }
     ensures others { (f : Frame) → (Contains frames.now f → ⊥)
-        → slice_index_or (borrowers_of lent.new ids.new) f.0 None
-        ≡ slice_index_or (borrowers_of lent.old ids.old) f.0 None }
+        → slice_index_or ids.new f.0 None ≡ slice_index_or ids.old f.0 None }
 {
     for frame in frames {
-        let place = frame.0 as usize;
-        lent[place] = true;
-        ids[place] = request;
+        set_frame_bit(lent, *frame, borrower.is_some());
+        ids[frame.0 as usize] = borrower;
     }
 }
 
-/// Notes that the frames are lent to none.
-fn note_returned(lent: &mut [bool], ids: &[RequestId], frames: &[Frame])
-    requires lent { length lent.old ≡ FRAMES }
-    requires within { All (λ f. f.0 < FRAMES) frames.now }
-    ensures these { All (λ f. slice_index_or (borrowers_of lent.new ids.now) f.0 None ≡ None) frames.now }
-    ensures others { (f : Frame) → (Contains frames.now f → ⊥)
-        → slice_index_or (borrowers_of lent.new ids.now) f.0 None
-        ≡ slice_index_or (borrowers_of lent.old ids.now) f.0 None }
-{
-    for frame in frames {
-        lent[frame.0 as usize] = false;
-    }
-}
-
-/// The client that owns a frame; nobody owns one past the memory.
-fn owner_in(owners: &[u8], frame: Frame) -> Option<ClientId>
+/// The client that owns a frame, by the words of owners; nobody owns one past the memory.
+fn owner_in(owners: &[u64], frame: Frame) -> Option<ClientId>
+    requires { length owners.now ≡ OWNER_WORDS }
     ensures { result ≡ slice_index_or (owners_of owners.now) frame.0 None }
 {
-    match owners.get(frame.0 as usize) {
-        Some(owner) => client_of(*owner),
+    let frame = frame.0 as usize;
+    match owners.get(frame / OWNERS_PER_WORD) {
+        Some(word) => client_of(((*word >> (4 * (frame % OWNERS_PER_WORD))) % 16) as u8),
         None => None,
     }
 }
@@ -453,10 +354,11 @@ fn client_of(number: u8) -> Option<ClientId>
     }
 }
 
-/// Notes the owner of the run's frames.
-fn set_owner_of_run(owners: &mut [u8], run: &(ClientId, Frame, u16))
+/// Notes the owner of the run's frames, which nobody owned.
+fn set_owner_of_run(owners: &mut [u64], run: &(ClientId, Frame, u16))
     requires run { IsValidExtent run.now }
-    requires memory { length owners.old ≡ FRAMES }
+    requires memory { length owners.old ≡ OWNER_WORDS }
+    requires nobody { (f : Frame) → ExtentHasFrame run.now f → slice_index_or (owners_of owners.old) f.0 None ≡ None }
     ensures these { (f : Frame) → ExtentHasFrame run.now f
         → slice_index_or (owners_of owners.new) f.0 None ≡ Some run.now.0 }
     ensures others { (f : Frame) → (ExtentHasFrame run.now f → ⊥)
@@ -465,6 +367,6 @@ fn set_owner_of_run(owners: &mut [u8], run: &(ClientId, Frame, u16))
     let (client, first, count) = *run;
     let first = first.0 as usize;
     for place in first..first + count as usize {
-        owners[place] = client.0;
+        owners[place / OWNERS_PER_WORD] |= u64::from(client.0) << (4 * (place % OWNERS_PER_WORD));
     }
 }

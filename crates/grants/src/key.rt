@@ -9,11 +9,11 @@ use std::marker::Model;
 
 /// How many keys were compared.
 #[derive(Drop)]
-pub struct Comparisons {
+pub struct Compared {
     count: u32,
 }
 
-impl Model for Comparisons {
+impl Model for Compared {
     ghost use Rattle.std.specs.Prelude.{ℕ};
 
     ghost Value = { ℕ };
@@ -21,12 +21,12 @@ impl Model for Comparisons {
     ghost view = { λ c. c.count };
 }
 
-impl Comparisons {
+impl Compared {
     /// None was compared yet.
     pub fn none() -> Self
         ensures { result ≡ 0 }
     {
-        Comparisons { count: 0 }
+        Compared { count: 0 }
     }
 
     /// How many were.
@@ -39,12 +39,12 @@ impl Comparisons {
 
 /// The name of a row: its client and number. No other module sees the fields, so keys are compared by `order` alone.
 #[derive(Drop)]
-pub struct GrantKey {
+pub struct Key {
     client: ClientId,
     number: u8,
 }
 
-impl Model for GrantKey {
+impl Model for Key {
     ghost use Rattle.std.specs.Prelude.{◌<◌};
     ghost use Rattle.grants.specs.NamedRows.{RowName};
 
@@ -55,17 +55,17 @@ impl Model for GrantKey {
     ghost invariant = { λ k. k.number < 256 };
 }
 
-impl GrantKey {
+impl Key {
     /// The key of a name.
     pub fn new(client: ClientId, number: u8) -> Self
         ensures name { result ≡ (client, number) }
         ensures number_is_a_byte { number < 256 }
     {
-        GrantKey { client, number }
+        Key { client, number }
     }
 
     /// The key's order to this name. The comparison is counted.
-    pub fn order(&self, client: ClientId, number: u8, compared: &mut Comparisons) -> Ordering
+    pub fn order(&self, client: ClientId, number: u8, compared: &mut Compared) -> Ordering
         requires { compared.old + 1 < 2 ^ 32 }
         ensures counted { compared.new ≡ compared.old + 1 }
         ensures order { IsOrderOf self.now (client, number) result }

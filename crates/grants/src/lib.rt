@@ -15,8 +15,8 @@ mod key;
 use ata_types::{ClientId, GrantRow, Op, Request, Rule};
 use block_machine::{frame_count, is_allowed_count};
 use dma_frames::FrameTable;
-pub use key::Comparisons;
-use key::GrantKey;
+pub use key::Compared;
+use key::Key;
 use std::alloc::{AllocError, Global};
 use std::cmp::Ordering;
 use std::marker::Model;
@@ -25,7 +25,7 @@ use std::marker::Model;
 /// search finds one.
 #[derive(Drop)]
 pub struct Grants {
-    keys: Vec<GrantKey>,
+    keys: Vec<Key>,
     rows: Vec<GrantRow>,
 }
 
@@ -57,7 +57,7 @@ impl Grants {
     }
 
     /// The place of the client's row under this number, if there is one. At most 7 keys are compared.
-    pub fn find(&self, client: ClientId, number: u8, compared: &mut Comparisons) -> Option<usize>
+    pub fn find(&self, client: ClientId, number: u8, compared: &mut Compared) -> Option<usize>
         requires count_has_room { compared.old + 7 < 2 ^ 32 }
         ensures place { IsRowPlace client number self.now result }
         ensures count_does_not_fall { compared.old ≤ compared.new }
@@ -70,7 +70,7 @@ impl Grants {
     pub fn row(&self, client: ClientId, number: u8) -> Option<GrantRow>
         ensures { (row : GrantRow) → (result ≡ Some row) ↔ (Contains self.now row × HasGrantName client number row) }
     {
-        let mut compared = Comparisons::none();
+        let mut compared = Compared::none();
         match self.find(client, number, &mut compared) {
             Some(place) => Some(self.rows[place]),
             None => None,
@@ -84,7 +84,7 @@ impl Grants {
             × (self.new ≡ without_row client number self.old)) }
         ensures absent_changes_nothing { result ≡ None → (self.new ≡ self.old) × (HasRow client number self.old → ⊥) }
     {
-        let mut compared = Comparisons::none();
+        let mut compared = Compared::none();
         let place = self.find(client, number, &mut compared)?;
         self.keys.remove(place);
         let row = self.rows.remove(place);
@@ -100,25 +100,20 @@ fn name_rank(client: u8, number: u8) -> u32
 }
 
 /// The rows' keys.
-fn keys_of(alloc: Global, rows: &[GrantRow]) -> Result<Vec<GrantKey>, AllocError>
+fn keys_of(alloc: Global, rows: &[GrantRow]) -> Result<Vec<Key>, AllocError>
     ensures keys { IfOk result (λ keys. keys.items ≡ map row_name_of rows.now) }
     ensures bytes { IfOk result (λ keys. All (λ name. name.1 < 256) keys.items) }
 {
     let mut keys = Vec::with_capacity(alloc, rows.len())?;
     for row in rows {
-        keys.push_reserved(GrantKey::new(row.client, row.number));
+        keys.push_reserved(Key::new(row.client, row.number));
     }
     Ok(keys)
 }
 
 /// The place of the key of this name, if there is one. Each comparison leaves at most half of the keys that were left,
 /// so 64 keys take at most 7.
-fn find_key(
-    keys: &[GrantKey],
-    client: ClientId,
-    number: u8,
-    compared: &mut Comparisons,
-) -> Option<usize>
+fn find_key(keys: &[Key], client: ClientId, number: u8, compared: &mut Compared) -> Option<usize>
     requires few { length keys.now ≤ 64 }
     requires order { AreInOrder keys.now }
     requires room { compared.old + 7 < 2 ^ 32 }
@@ -145,7 +140,7 @@ pub fn decide(request: &Request, grants: &Grants, table: &FrameTable) -> Result<
     ensures ok { OnOk result (BreaksNone grants.now (owner_of table.now) (lent_to table.now) request.now) }
     ensures err { IfErr result (IsFirstBroken grants.now (owner_of table.now) (lent_to table.now) request.now) }
 {
-    let mut compared = Comparisons::none();
+    let mut compared = Compared::none();
     let Some(place) = grants.find(request.client, request.grant, &mut compared) else {
         return Err(Rule::NoGrant);
     };

@@ -111,7 +111,7 @@ impl Book {
         ensures frames_are_lent_to_request { SetsLoanOnly table.old table.new frames.now (Some request.id) }
     {
         self.counts[usize::from(request.client.0)] += 1;
-        let blocker = self.conflicts.add(&self.store, &as_unanswered(request));
+        let blocker = self.conflicts.add(&as_unanswered(request));
         self.blockers.push_reserved(blocker);
         self.store.push(request, frames, table);
     }

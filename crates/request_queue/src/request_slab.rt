@@ -7,15 +7,16 @@ ghost use Rattle.request_queue.specs.BookEntries.{BookEntry, FramesAreLentToIt, 
 use crate::PendingRequest;
 use ata_types::{Frame, MOST_REQUEST_FRAMES, MOST_UNANSWERED_OF_ALL_CLIENTS};
 use block_machine::Unanswered;
-use dma_frames::{FrameTable, Loan, LoanPlace};
+use dma_frames::{FrameTable, Loan};
 use slab::Slab;
 use std::alloc::{AllocError, Global};
 use std::marker::Model;
+use std::mem;
 
 /// Requests with their loans, each at its place.
 pub struct RequestSlab {
     requests: Slab<PendingRequest>,
-    loans: Vec<LoanPlace>,
+    loans: Vec<Option<Loan>>,
     order: Vec<usize>,
 }
 
@@ -70,10 +71,13 @@ impl RequestSlab {
         ensures id { result.1.now.request ≡ result.0.now.id }
     {
         let key = self.order[place];
-        (&self.requests[key], self.loans[key].loan())
+        match &self.loans[key] {
+            Some(loan) => (&self.requests[key], loan),
+            None => unreachable!(),
+        }
     }
 
-    /// Puts a request last, and lends it these frames of the table. The loan begins in its place, so it isn't moved.
+    /// Puts a request last, and lends it these frames of the table.
     pub fn push(&mut self, request: PendingRequest, frames: &[Frame], table: &mut FrameTable)
         requires room { length self.old < MOST_UNANSWERED_OF_ALL_CLIENTS }
         requires frames { HasNoFault (owner_of table.old) (lent_to table.old) request.client frames.now
@@ -82,7 +86,11 @@ impl RequestSlab {
         ensures lent { SetsLoanOnly table.old table.new frames.now (Some request.id) }
     {
         let key = self.requests.insert_reserved(request);
-        table.lend_at(request.client, frames, request.id, &mut self.loans[key]);
+        let loan = table.lend(request.client, frames, request.id);
+        match mem::replace(&mut self.loans[key], Some(loan)) {
+            None => {}
+            Some(_) => unreachable!(),
+        }
         self.order.push_reserved(key);
     }
 
@@ -96,7 +104,10 @@ impl RequestSlab {
     {
         let key = self.order.remove(place);
         let request = self.requests.remove(key);
-        (request, self.loans[key].take())
+        match self.loans[key].take() {
+            Some(loan) => (request, loan),
+            None => unreachable!(),
+        }
     }
 
     /// Takes out the request at this place, and gives back what was lent to it.
@@ -107,9 +118,8 @@ impl RequestSlab {
             × SetsLoanOnly table.old table.new e.frames None }
         ensures request_is_removed { self.new ≡ remove self.old place }
     {
-        let freed = self.order.remove(place);
-        let request = self.requests.remove(freed);
-        table.give_back_at(&mut self.loans[freed]);
+        let (request, loan) = self.remove(place);
+        table.give_back(loan);
         request
     }
 
@@ -143,7 +153,10 @@ impl RequestSlab {
         } = self;
         let mut loans = loans;
         while let Some(slot) = loans.pop() {
-            slot.destroy();
+            match slot {
+                None => {}
+                Some(_) => unreachable!(),
+            }
         }
         loans.destroy_empty();
     }
@@ -162,12 +175,12 @@ pub fn as_unanswered(entry: PendingRequest) -> Unanswered
     }
 }
 
-fn empty_loans(alloc: Global, count: usize) -> Result<Vec<LoanPlace>, AllocError>
+fn empty_loans(alloc: Global, count: usize) -> Result<Vec<Option<Loan>>, AllocError>
     ensures { IfOk result (λ loans. loans.items ≡ replicate count None) }
 {
     let mut loans = Vec::with_capacity(alloc, count)?;
     for _ in 0..count {
-        loans.push_reserved(LoanPlace::empty());
+        loans.push_reserved(None);
     }
     Ok(loans)
 }

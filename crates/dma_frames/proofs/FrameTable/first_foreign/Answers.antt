@@ -1,7 +1,7 @@
-use Rattle.std.proofs.Common.{◌<◌, length, below_more, sym, ap, ◌∙◌, arith}
+use Rattle.std.proofs.Common.{◌*◌, ◌<◌, length, below_more, sym, ap, arith}
 use Rattle.std.proofs.lemmas.Option.{slice_get_within, get_or_from_slice_get}
-use Rattle.std.proofs.lemmas.List.{length-map}
-use Rattle.dma_frames.specs.TableLists.{client_of}
+use Rattle.std.proofs.lemmas.List.FromFn.{length-map-range_with_len}
+use Rattle.dma_frames.specs.TableWords.{owner_in}
 use Rattle.dma_frames.specs.FrameTables.{OwnersAndLoans}
 use Rattle.dma_frames.proofs.OwnerLemmas.{owned_within}
 use Rattle.dma_frames.proofs.FrameTable.first_foreign.Goals as goal
@@ -19,5 +19,7 @@ pub returns-clause-within : goal.returns-clause-within
 returns-clause-within c = λ _ k d h.
     let past = c.loop-place-test.false in
     let owned = owned_within c.args.self.now c.args.client c.args.frames.now (λ j lt. c.loop-place.invariant j (omega (arith, lt, past))) k d h in
-    let all = sym (ap (λ (t : OwnersAndLoans). length t.owners) c.self.view_is) ∙ (length-map c.self.inside.owners client_of ∙ c.self.invariant.0) in
-    omega (arith, owned, all)
+    let all = sym (ap (λ (t : OwnersAndLoans). length t.owners) c.self.view_is) in
+    let n = length-map-range_with_len (owner_in c.self.inside.owners) 0 (16 * length c.self.inside.owners) in
+    let words = c.self.invariant.owner_words in
+    omega (arith, owned, all, n, words)

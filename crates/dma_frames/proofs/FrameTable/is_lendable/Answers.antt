@@ -1,21 +1,29 @@
-use Rattle.std.proofs.Common.{Bool, true, false, None, get_or, not, sym, ap, ◌∙◌, ◌≡◌}
+use Rattle.std.proofs.Common.{Bool, true, false, None, Some, ◌≡◌, get_or, not, sym, ap, ◌∙◌, arith}
+use Rattle.std.proofs.lemmas.Grind.{common_steps}
 use Rattle.std.specs.Prelude.{IsTrue}
 use Rattle.dma_frames.specs.FrameTables.{OwnersAndLoans}
-use Rattle.dma_frames.specs.TableLists.{client_of}
-use Rattle.dma_frames.proofs.StoredLemmas.{none_lent, owner_is, some_client}
+use Rattle.dma_frames.specs.TableWords.{owners_of}
+use Rattle.dma_frames.proofs.OwnerWords.{owned_in_memory}
+use Rattle.dma_frames.proofs.LentBits.{none_unless_some}
 use Rattle.dma_frames.proofs.FrameTable.is_lendable.Goals as goal
 
-not_true : (b : Bool) → IsTrue (not b) → b ≡ false
-not_true true is = cc
-not_true false is = λ i. false
+not_true : (b : Bool) → IsTrue (not b) → IsTrue b → ⊥
+not_true true is set = cc
+not_true false is set = cc
 
-pub returns-then-owner-client-clause-free : goal.returns-then-owner-client-clause-free
-returns-then-owner-client-clause-free c = λ free.
-    let f = c.args.frame.0 in
-    let t = c.self.inside in
+pub returns-then-eq-clause-free : goal.returns-then-eq-clause-free
+returns-then-eq-clause-free c = λ free.
+    let f = c.args.asked.0 in
     let owners = ap (λ (t : OwnersAndLoans). get_or t.owners f None) c.self.view_is in
-    let loans = ap (λ (t : OwnersAndLoans). get_or t.lent f None) c.self.view_is in
-    let found = c.in-Some.ensures.lookup.3 in (
-      sym owners ∙ (owner_is t.owners f ∙ (ap client_of (sym (found.1 0) ∙ c.if-owner-client.true) ∙ some_client c.args.client.0 c.requires)),
-      sym loans ∙ none_lent t.lent t.ids f (not_true (get_or t.lent f false) free),
+    let own : get_or (owners_of c.self.inside.owners) f None ≡ Some c.args.client = sym c.owner_in.ensures ∙ grind (arith, common_steps, c.if-eq.true, c.eq.ensures) in (
+      sym owners ∙ own,
+      none_unless_some _ (λ some. not_true _ free (c.is_lent.ensures.1 some)),
     )
+
+pub returns-then-eq-clause-within : goal.returns-then-eq-clause-within
+returns-then-eq-clause-within c = λ _.
+    let f = c.args.asked.0 in
+    let own : get_or (owners_of c.self.inside.owners) f None ≡ Some c.args.client = sym c.owner_in.ensures ∙ grind (arith, common_steps, c.if-eq.true, c.eq.ensures) in
+    let inside = owned_in_memory c.self.inside.owners f c.args.client own in
+    let words = c.self.invariant.owner_words in
+    omega (arith, inside, words)

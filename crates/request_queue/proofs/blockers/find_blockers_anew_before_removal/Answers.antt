@@ -6,7 +6,6 @@ use Rattle.std.proofs.lemmas.Option.{get_or_from_slice_get, slice_get-get_or}
 use Rattle.request_queue.specs.BookEntries.{BookEntry, as_unanswered, unanswered_of}
 use Rattle.request_queue.specs.Blockers.{is_blocked_by}
 use Rattle.request_queue.proofs.Holding.{all_searched, one_anew, one_kept}
-use Rattle.request_queue.proofs.Conflicting.{in_book}
 use Rattle.request_queue.proofs.blockers.find_blockers_anew_before_removal.Goals as goal
 use Rattle.request_queue.proofs.blockers.find_blockers_anew_before_removal.Goals.{then-is_request, else-is_request}
 
@@ -32,7 +31,7 @@ loop-later-preserved c =
           ∙ get_or_from_slice_get all (c.loop-later.later + 1) w.unanswered.result w.unanswered.result w.unanswered.ensures) in
           rw w.blockers-is (record {
             but = one_anew c.args.answered c.loop-later.later book c.loop-later.blockers.items but w.unanswered.result w.blocker-blocker.result at
-                (w.blocker-blocker.ensures book c.requires.lists (in_book book c.loop-later.later w.unanswered.result at));
+                (w.blocker-blocker.ensures book c.requires.lists);
             room = c.loop-later.invariant.room;
           })
       | else-is_request w ↦ rw w.blockers-is (record {

@@ -6,7 +6,7 @@ use Rattle.request_queue.specs.Blockers.{AreBlockers, IsBlockerOf}
 use Rattle.request_queue.specs.ClientCounts.{AreClientCounts}
 use Rattle.request_queue.proofs.ClientCounts.{counts_at}
 use Rattle.request_queue.proofs.Holding.{requeued_holders}
-use Rattle.request_queue.proofs.Conflicting.{requeued_lists, in_book}
+use Rattle.request_queue.proofs.Conflicting.{requeued_lists}
 use Rattle.request_queue.specs.BookEntries.{BookEntry, unanswered_of, update_if_id, request_with_issued_cleared, BookIsWellFormed, IsIssuedBelowLimit}
 use Rattle.request_queue.specs.declared.PendingRequest.{PendingRequest}
 use Rattle.request_queue.proofs.Changing.{changed_at, request_at, waiting_in_order}
@@ -30,7 +30,7 @@ invariant_of-self c =
       subst (λ (es : List BookEntry). AreBlockers (unanswered_of es) (set c.self.inside.blockers.items place h)) (sym here)
           (requeued_holders store c.self.inside.blockers.items place e.0 c.unanswered.result h c.self.invariant.2 e.1
           (subst (λ (es : List BookEntry). slice_get (unanswered_of es) place ≡ Some c.unanswered.result) here c.unanswered.ensures)
-          (subst (λ (es : List BookEntry). IsBlockerOf (unanswered_of es) c.unanswered.result h) here (c.blocker-blocker.ensures (unanswered_of c.replace.new.self) lists (in_book (unanswered_of c.replace.new.self) place c.unanswered.result c.unanswered.ensures)))),
+          (subst (λ (es : List BookEntry). IsBlockerOf (unanswered_of es) c.unanswered.result h) here (c.blocker-blocker.ensures (unanswered_of c.replace.new.self) lists))),
       c.self.invariant.3,
       subst (λ (es : List BookEntry). AreClientCounts es c.self.inside.counts) (sym changed) (counts_at store c.args.id request_with_issued_cleared c.self.inside.counts (λ r. refl) c.self.invariant.4),
     )

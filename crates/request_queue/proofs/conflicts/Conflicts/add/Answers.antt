@@ -1,20 +1,25 @@
-use Rattle.std.proofs.Common.{◌++◌, ◌∷◌, [], List, sym, ap, ◌∙◌, subst}
+use Rattle.std.proofs.Common.{◌++◌, ◌∷◌, [], List, length, sym, ap, ◌∙◌, subst, arith}
 use Rattle.request_queue.specs.Conflicts.{ConflictLists}
-use Rattle.request_queue.specs.BookEntries.{unanswered_of}
 use Rattle.request_queue.specs.Flushes.{flushes_among}
 use Rattle.request_queue.specs.Sectors.{AreIndexed}
 use Rattle.request_queue.specs.declared.flushes.Flush.{Flush}
-use Rattle.request_queue.proofs.Conflicting.{flag_down, when_listed}
-use Rattle.request_queue.proofs.Flushing.{longer_flushes}
+use Rattle.request_queue.proofs.Flushing.{few_flushes, longer_flushes}
 use Rattle.request_queue.proofs.conflicts.Conflicts.add.Goals as goal
 
+pub add_flush-requires : goal.add_flush-requires
+add_flush-requires c =
+    let fits = c.requires.fits in
+    let same = ap length (ap (λ (l : ConflictLists). l.flushes) c.self.view_is ∙ fits.1.flushes_are_listed) in
+    let fewer = few_flushes fits.0 in
+    let few = fits.2 in
+    let room = c.self.invariant in
+    omega (arith, same, fewer, few, room)
+
 pub returns-clause-lists : goal.returns-clause-lists
-returns-clause-lists c =
-    let book = unanswered_of c.args.store.now in
+returns-clause-lists c = λ book are newest.
     let r = c.args.request.now in
-    let view = c.self-2.view_is in
-    let all = when_listed book c.list_unlisted.new.self c.list_unlisted.ensures.lists c.list_unlisted.ensures.listed in
-    let new = c.list_last.new in
-    flag_down (book ++ r ∷ []) new.sectors new.flushes.items c.self-2.inside.unlisted (ap (λ (l : ConflictLists). l.lone_request_is_unlisted) view ∙ c.list_unlisted.ensures.listed)
-    (c.list_last.ensures.sectors book (subst (λ (l : ConflictLists). AreIndexed book l.sectors) (sym view) all.0) c.requires.newest)
-    (c.list_last.ensures.flushes ∙ (ap (λ (fs : List Flush). fs ++ flushes_among (r ∷ [])) (ap (λ (l : ConflictLists). l.flushes) view ∙ all.1) ∙ sym (longer_flushes book (r ∷ []))))
+    let view = c.self.view_is in
+    record {
+      sectors_are_indexed = c.add_sectors.ensures book (subst (λ (l : ConflictLists). AreIndexed book l.sectors) (sym view) are.sectors_are_indexed) newest;
+      flushes_are_listed = c.add_flush.ensures.flush_is_appended ∙ (ap (λ (fs : List Flush). fs ++ flushes_among (r ∷ [])) (ap (λ (l : ConflictLists). l.flushes) view ∙ are.flushes_are_listed) ∙ sym (longer_flushes book (r ∷ [])));
+    }

@@ -1,38 +1,21 @@
-use Rattle.std.proofs.Common.{refl, arith}
-use Rattle.request_queue.proofs.Taking as taking
+use Rattle.std.proofs.Common.{◌≡◌, Some, All, refl, sym, subst}
+use Rattle.std.proofs.lemmas.List.Elements.{All-contains}
+use Rattle.ata_types.specs.declared.request.RequestId.{RequestId}
+use Rattle.dma_frames.specs.FrameTables.{lent_to}
+use Rattle.request_queue.specs.BookEntries.{BookEntry, FramesAreLentToIt}
+use Rattle.request_queue.proofs.Changing.{there}
 use Rattle.request_queue.proofs.request_slab.RequestSlab.remove_and_give_back.Goals as goal
 
-pub give_back_at-requires : goal.give_back_at-requires
-give_back_at-requires c =
-    let its = taking.its_place c.self.inside.requests c.remove-request.new.self c.self.inside.loans.items c.self.inside.order.items c.args.self.now c.self.view_is c.self.invariant.0
-    c.args.place c.remove-freed.result c.requires.place_is_in_range c.remove-freed.ensures.value c.remove-request.ensures.updates c.index_mut.result.now c.index_mut.ensures.value in (
-      its.0,
-      its.1,
-      taking.may_go_back c.self.inside.requests c.remove-request.new.self c.self.inside.loans.items c.self.inside.order.items c.args.self.now c.self.view_is c.self.invariant.0
-          c.args.place c.remove-freed.result c.requires.place_is_in_range c.remove-freed.ensures.value c.remove-request.ensures.updates
-          c.index_mut.result.now c.index_mut.ensures.value c.remove-request.result its.0 c.remove-request.ensures.value its.1 c.args.table.now c.requires.frames_are_lent,
-    )
-
-pub invariant_of-self : goal.invariant_of-self
-invariant_of-self c = rw (c.give_back_at.ensures.place_is_empty, c.remove-freed.ensures.items) (
-  taking.still_sound c.self.inside.requests c.remove-request.new.self c.self.inside.loans.items c.self.inside.order.items c.args.self.now c.self.view_is c.self.invariant.0
-      c.args.place c.remove-freed.result c.requires.place_is_in_range c.remove-freed.ensures.value c.remove-request.ensures.updates c.remove-request.ensures.len c.remove-request.ensures.capacity,
-  omega (arith, c.remove-freed.ensures.capacity, c.self.invariant.1),
-)
+pub give_back-requires : goal.give_back-requires
+give_back-requires c =
+    let e : BookEntry = record { request = c.remove-loan.result.0; frames = c.remove-loan.result.1.frames } in
+    subst (λ (id : RequestId). All (λ f. lent_to c.args.table.now f ≡ Some id) c.remove-loan.result.1.frames) (sym c.remove-loan.ensures.id)
+    (All-contains (FramesAreLentToIt c.args.table.now) c.args.self.now e c.requires.frames_are_lent (there c.args.self.now c.args.place e c.remove-loan.ensures.entry))
 
 pub returns-clause-entry : goal.returns-clause-entry
-returns-clause-entry c =
-    let its = taking.its_place c.self.inside.requests c.remove-request.new.self c.self.inside.loans.items c.self.inside.order.items c.args.self.now c.self.view_is c.self.invariant.0
-    c.args.place c.remove-freed.result c.requires.place_is_in_range c.remove-freed.ensures.value c.remove-request.ensures.updates c.index_mut.result.now c.index_mut.ensures.value in (
-      record { request = c.remove-request.result; frames = its.0.frames },
-      taking.taken_is c.self.inside.requests c.remove-request.new.self c.self.inside.loans.items c.self.inside.order.items c.args.self.now c.self.view_is c.self.invariant.0
-          c.args.place c.remove-freed.result c.requires.place_is_in_range c.remove-freed.ensures.value c.remove-request.ensures.updates
-          c.index_mut.result.now c.index_mut.ensures.value c.remove-request.result its.0 c.remove-request.ensures.value its.1,
-      refl,
-      c.give_back_at.ensures.frames_are_returned its.0 its.1,
-    )
-
-pub returns-clause-request_is_removed : goal.returns-clause-request_is_removed
-returns-clause-request_is_removed c = rw (c.give_back_at.ensures.place_is_empty, c.remove-freed.ensures.items)
-    (taking.rest_is c.self.inside.requests c.remove-request.new.self c.self.inside.loans.items c.self.inside.order.items c.args.self.now c.self.view_is c.self.invariant.0
-    c.args.place c.remove-freed.result c.requires.place_is_in_range c.remove-freed.ensures.value c.remove-request.ensures.updates)
+returns-clause-entry c = (
+  record { request = c.remove-loan.result.0; frames = c.remove-loan.result.1.frames },
+  c.remove-loan.ensures.entry,
+  refl,
+  c.give_back.ensures,
+)

@@ -1,8 +1,8 @@
 use Rattle.std.proofs.Common.{ℕ, ◌≡◌, Equal, ap₂, subst, arith}
 use Rattle.ata_types.specs.declared.request.ClientId.{ClientId}
 use Rattle.grants.specs.NamedRows.{RowName, IsOrderOf}
-use Rattle.grants.proofs.key.GrantKey.order.Goals.{then-self-client, else-self-client+then-client-self, else-self-client+else-client-self+then-self-number, else-self-client+else-client-self+else-self-number+then-number-self, else-self-client+else-client-self+else-self-number+else-number-self}
-use Rattle.grants.proofs.key.GrantKey.order.Goals as goal
+use Rattle.grants.proofs.key.Key.order.Goals.{then-self-client, else-self-client+then-client-self, else-self-client+else-client-self+then-self-number, else-self-client+else-client-self+else-self-number+then-number-self, else-self-client+else-client-self+else-self-number+else-number-self}
+use Rattle.grants.proofs.key.Key.order.Goals as goal
 
 same : (a b : ClientId) (m n : ℕ) → a.0 ≡ b.0 → m ≡ n → IsOrderOf (a, m) (b, n) Equal
 same a b m n p q = ap₂ (λ (x : ℕ) (y : ℕ). (record { 0 = x }, y)) p q
