@@ -1,12 +1,14 @@
 #!/usr/bin/env python3
 """Checks that what the documents name is there: each definition of docs/DEFINITIONS.md in its file, each path, and each
-name in backticks somewhere in the crates or scripts; and that no name is defined in two crates. The last line is
-'N passed, M failed', of documents, and of all definitions together.
+name in backticks somewhere in the crates or scripts; that no name is defined in two crates; and that README.md names
+the logic of the toolchain that is installed. The last line is 'N passed, M failed', of documents, of all definitions
+together, and of the toolchain.
 """
 import collections
 import glob
 import os
 import re
+import subprocess
 import sys
 
 ROOT = os.path.dirname(os.path.dirname(os.path.realpath(__file__)))
@@ -87,6 +89,14 @@ def doubled():
     yield from (f"{', '.join(sorted(its))} define {name}" for name, its in sorted(crates.items()) if len(its) > 1)
 
 
+def other_logic():
+    """What is wrong with what README.md says of the toolchain, if anything is."""
+    version = subprocess.run(["rt", "version"], capture_output=True, text=True, check=True).stdout.strip()
+    logic = version.rpartition("logic ")[2]
+    is_named = f"`logic {logic}`" in read("README.md")
+    return None if is_named else f"README.md names another logic than that of this toolchain, {version}"
+
+
 def main():
     known, passed = words(), 0
     for document in DOCUMENTS:
@@ -100,8 +110,13 @@ def main():
     for line in twice:
         print(f"names: {line}")
     passed += not twice
-    print(f"names: {passed} passed, {len(DOCUMENTS) + 1 - passed} failed")
-    return 0 if passed == len(DOCUMENTS) + 1 else 1
+    other = other_logic()
+    if other:
+        print(f"names: {other}")
+    passed += not other
+    failed = len(DOCUMENTS) + 2 - passed
+    print(f"names: {passed} passed, {failed} failed")
+    return 1 if failed else 0
 
 
 if __name__ == "__main__":
