@@ -7,6 +7,7 @@ mod longest_trim;
 mod numbered_store;
 mod outputs;
 mod plans;
+mod server_boots;
 mod servers;
 mod shown;
 mod waits;
