@@ -264,7 +264,7 @@ impl Book {
         self.store.remove(place)
     }
 
-    /// Takes a request out, and gives back what was lent to it; the others stay in their order. So no loan is moved.
+    /// Takes a request out, and gives back what was lent to it; the others stay in their order.
     pub fn remove_and_give_back(&mut self, id: RequestId, table: &mut FrameTable) -> PendingRequest
         requires unanswered { IsUnanswered id self.old }
         requires frames_are_lent { All (FramesAreLentToIt table.old) self.old }

@@ -45,7 +45,7 @@ impl Conflicts {
         Ok(Conflicts { sectors, flushes })
     }
 
-    /// The blocker of a request: an earlier one of the book that it waits for.
+    /// The blocker of a request: an earlier one of the book that it waits for, if there is one.
     pub fn blocker(&self, request: &Unanswered) -> Blocker
         ensures { (book : List Unanswered) → AreConflictLists book self.now → IsBlockerOf book request.now result }
     {
