@@ -92,9 +92,9 @@ def doubled():
 def other_logic():
     """What is wrong with what README.md says of the toolchain, if anything is."""
     version = subprocess.run(["rt", "version"], capture_output=True, text=True, check=True).stdout.strip()
-    logic = version.rpartition("logic ")[2]
-    is_named = f"`logic {logic}`" in read("README.md")
-    return None if is_named else f"README.md names another logic than that of this toolchain, {version}"
+    logic = re.search(r"logic \w+", version)
+    is_named = logic and f"`{logic[0]}`" in read("README.md")
+    return None if is_named else f"README.md doesn't name the logic of this toolchain, which is {version}"
 
 
 def main():
