@@ -7,7 +7,7 @@ use Rattle.std.proofs.lemmas.Nat.Bits.{bit_at_clear_other, bit_at_clear_same, bi
 use Rattle.ata_types.specs.declared.memory.TheConstants.{MOST_FRAMES}
 use Rattle.dma_frames.specs.FrameBits.{frame_bit}
 
--- a word is put in the place of the frame's, with the other bits as they were
+-- where a word is put in the place of the frame's, with the other bits as they were
 module _ (words : List ℕ) (many : length words ≡ 16) (f w : ℕ) (within : f < MOST_FRAMES) where
   here : get_or (set words (f / 64) w) (f / 64) 0 ≡ w
   here = get_or-set_same words (f / 64) w 0 (omega (arith, many, within))

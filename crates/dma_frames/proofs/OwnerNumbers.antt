@@ -26,7 +26,7 @@ number_bits word k i lt = low_bits (word / 2 ^ (4 * k)) i lt ∙ bit_at_shifted 
 number_small : (word k : ℕ) → number_at word k < 2 ^ 4
 number_small word k = omega arith
 
--- two numbers are the same if their bits are
+-- two numbers are the same where their bits are
 same_number : (a b j k : ℕ) → ((i : ℕ) → i < 4 → bit_at a (4 * j + i) ≡ bit_at b (4 * k + i)) → number_at a j ≡ number_at b k
 same_number a b j k same = same_from_bits_below 4 (number_at a j) (number_at b k) (number_small a j) (number_small b k)
     (λ i lt. number_bits a j i lt ∙ (same i lt ∙ sym (number_bits b k i lt)))

@@ -1,4 +1,4 @@
--- The owners in words, and what one more number does to them.
+-- The owners in words, and what a number more does to them.
 use Rattle.std.proofs.Common.{ℕ, ◌≡◌, ◌≢◌, ◌==◌, ◌⊎◌, ◌*◌, ◌/◌, ◌%◌, ◌^◌, ◌<◌, ◌≤◌, List, length, get_or, set, bit_or, None, Some, sym, ap, ◌∙◌, arith, inl, inr}
 use Rattle.std.proofs.Math.Nat.{zero-div}
 use Rattle.std.proofs.lemmas.Bool.{cases_eq, cases_lt, cond-false, eqb-true, false_from_ne_true}
@@ -66,7 +66,7 @@ module _ (words : List ℕ) (f n : ℕ) (within : f < 16 * length words) (some :
           ∙ ap (λ (i : ℕ). client_of (number_at (get_or words i 0) (k % 16))) (sym same)))
       inside (inr not) = ap (λ (w : ℕ). client_of (number_at w (k % 16))) (get_or-set_other words (f / 16) (k / 16) (bit_or word (n * 2 ^ (4 * (f % 16)) % 2 ^ 64)) 0 not)
 
--- if all words are zero, nobody owns a frame
+-- where all words are zero, nobody owns a frame
 pub nobody_owns : (words : List ℕ) → ((i : ℕ) → get_or words i 0 ≡ 0) → (f : ℕ) → get_or (owners_of words) f None ≡ None
 nobody_owns words none f = elim (cases_lt f (16 * length words)) [
   | inl lt ↦ owner_is words f lt ∙ (ap (λ (w : ℕ). client_of (number_at w (f % 16))) (none (f / 16)) ∙ ap (λ (n : ℕ). client_of (n % 16)) (zero-div (2 ^ (4 * (f % 16)))))
