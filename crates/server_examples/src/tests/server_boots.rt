@@ -1,4 +1,4 @@
-// What a new server tells of a disk that lies of its page, and how long a reset waits.
+// The state that a new server reports if a disk lies about its page, and how long a reset waits.
 use super::boots::UNSIGNED_PAGE;
 use super::servers::{QUEUED_CONFIG, config, model_of};
 use super::watched::{Lie, NO_LIE, Watched, lie};
@@ -8,7 +8,7 @@ use block_server::Server;
 use std::alloc::Global;
 use std::test::Fail;
 
-/// The state of port 0 of a new server, whose disk of 70,000 sectors lies so of its page.
+/// The state of port 0 of a new server, whose disk of 70,000 sectors lies so about its page.
 fn state_by_page(alloc: Global, lies: [Lie; 2]) -> Result<PortState, Fail> {
     let config = config(alloc, QUEUED_CONFIG)?;
     let mut model = model_of(alloc, &config, 70_000)?;

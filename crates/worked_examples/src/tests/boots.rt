@@ -362,8 +362,8 @@ fn steps_before_any_access_change_nothing(rt: HostRuntime) -> Result<(), Fail> {
     Ok(())
 }
 
-/// IDENTIFY DEVICE fails as it is told before one access alone, at which it is issued and not taken yet: the first
-/// reading of PxCI. Its bit stays set, and no page comes.
+/// A device that is asked to fail IDENTIFY DEVICE does so before one access alone: the first reading of PxCI. There the
+/// command is issued, and not taken yet. Its bit stays set, and no page comes.
 #[test]
 fn one_access_fails_the_page(rt: HostRuntime) -> Result<(), Fail> {
     let mut has_failed = false;
