@@ -178,7 +178,7 @@ pub fn print_counts<W: io::Write>(alloc: Global, out: &mut W) -> Option<()> {
     let Ok(model) = new_model(alloc, &config, image, blank) else {
         return None;
     };
-    let Ok(server) = Server::new(alloc, &config, CountingAdapter::new(model)) else {
+    let Ok(server) = Server::new(alloc, config, CountingAdapter::new(model)) else {
         return None;
     };
     let mut server = server;

@@ -1,5 +1,5 @@
 // A script over a disk in memory.
-use play::{Ended, PlayInputs, play};
+use play::{Ended, PlayInputs, play_script};
 use sector_store::MemStore;
 use std::fs::{File, Files};
 use std::io::{BufWriter, Write};
@@ -27,7 +27,7 @@ pub fn play_files(
         blank,
         trace: false,
     };
-    let finished = play(rt.alloc(), inputs, &mut out);
+    let finished = play_script(rt.alloc(), inputs, &mut out);
     let written = out.flush();
     (finished.ended == Ended::Done && written.is_ok()).then_some(())
 }

@@ -42,11 +42,10 @@ use Rattle.server_history.specs.ServerState.{is_served, ports_of, state_of}
 use Rattle.block_server.specs.ClientPromise.{ConfinesMovesAndTrimClears, HoldsOfEachAdded, ClientPromiseInvariant, MatchesTape, PortStateIsJustified, IsSeenAt, FlushesSurviveReplugIfDisksTell}
 use Rattle.block_server.specs.InitialServer.{IsInitialServer}
 use Rattle.block_server.specs.Promise.{GoesWellForPortAndClients, RevokesWaitingOrAnswersEndedOk, Simulates, ServesPorts}
-use Rattle.block_server.specs.AbstractCalls.{abstract_call_of, machine_result_of}
+use Rattle.block_server.specs.AbstractCalls.{abstract_call_of}
 use Rattle.block_server.specs.ServerView.{ServerView, server_of, observed_state_of}
 use Rattle.arrayvec.specs.ArrayVec.{ArrayVec}
 use Rattle.ata_types.specs.declared.call.Call.{Call}
-use Rattle.ata_types.specs.declared.call.CallResult as call
 use Rattle.ata_types.specs.declared.request.Reply.{Reply}
 
 -- What the laws of histories say, each of every history.
@@ -264,7 +263,7 @@ module _ (laws : HistoryLaws) where
             subst (λ (d : Device). RunsWell (d.port port.0)) here.state_is_at_history_end.device_is served.0.port_runs_well,
           )
 
-    pub one_call : (old new : ServerView A) (event : Call DeviceStep) (one : call.CallResult (ArrayVec Reply)) → ExtendsHistory (server_of device old) (server_of device new) (abstract_call_of event) (machine_result_of one)
+    pub one_call : (old new : ServerView A) (event : Call DeviceStep) (one : AbstractCallResult) → ExtendsHistory (server_of device old) (server_of device new) (abstract_call_of event) one
         → new.wanted ≡ old.wanted → Simulates device old new (event ∷ []) (one ∷ [])
     one_call old new event one adds wanted first past leads =
         let x = adds first past leads in
@@ -301,7 +300,7 @@ module _ (laws : HistoryLaws) where
           };
         }
 
-    pub more_calls : (old mid new : ServerView A) (events further : List (Call DeviceStep)) (said more : List (call.CallResult (ArrayVec Reply))) → Simulates device old mid events said
+    pub more_calls : (old mid new : ServerView A) (events further : List (Call DeviceStep)) (said more : List AbstractCallResult) → Simulates device old mid events said
         → Simulates device mid new further more → Simulates device old new (events ++ further) (said ++ more)
     more_calls old mid new events further said more keeps goes_on first past leads =
         let a = keeps first past leads in
@@ -314,7 +313,7 @@ module _ (laws : HistoryLaws) where
           added = two ++ one;
           meets_client_promise = record {
             calls_are = mapped (λ h. h.event.call) one two _ _ a.meets_client_promise.calls_are b.meets_client_promise.calls_are ∙ sym (map-append abstract_call_of events further);
-            results_are = mapped (λ h. h.event.result) one two _ _ a.meets_client_promise.results_are b.meets_client_promise.results_are ∙ sym (map-append machine_result_of said more);
+            results_are = mapped (λ h. h.event.result) one two _ _ a.meets_client_promise.results_are b.meets_client_promise.results_are;
             wanted_is_unchanged = b.meets_client_promise.wanted_is_unchanged ∙ a.meets_client_promise.wanted_is_unchanged;
             starts_at = a.meets_client_promise.starts_at;
             ends_at = subst (λ (l : Calls). IsSeenAt (observed_state_of device new) (joint_state_after first l)) whole b.meets_client_promise.ends_at;

@@ -13,6 +13,7 @@ pub mod Standing
 pub mod Reviving
 pub mod Revoking
 mod Counting
+mod Saying
 mod Four
 mod Newest
 mod Becoming

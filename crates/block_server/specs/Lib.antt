@@ -4,7 +4,7 @@ pub mod FourPorts
 pub mod ServerFieldsView
 pub mod InitialServer
 pub mod Calls
-pub mod CallResults
+pub mod Said
 pub mod AbstractCalls
 pub mod Promise
 pub mod Resetting

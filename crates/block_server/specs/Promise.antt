@@ -1,19 +1,17 @@
 -- What the calls of a list keep: two promises to clients, and one of the device (this project's own).
 use Rattle.std.specs.Prelude.{ℕ, true, false, ◌≡◌, ◌≢◌, List, ◌++◌, Contains, length, map}
+use Rattle.std.specs.List.{flat_map}
 use Rattle.ata_types.specs.declared.Port.{Port}
 use Rattle.ata_types.specs.declared.PortState.TheVariants.{Ready}
-use Rattle.arrayvec.specs.ArrayVec.{ArrayVec}
 use Rattle.ata_types.specs.declared.call.Call.{Call}
-use Rattle.ata_types.specs.declared.call.CallResult.{CallResult}
 use Rattle.ata_types.specs.declared.request.Outcome.{Outcome}
 use Rattle.ata_types.specs.declared.request.Outcome.TheVariants as outcome
-use Rattle.ata_types.specs.declared.request.Reply.{Reply}
 use Rattle.ata_types.specs.declared.request.RequestId.{RequestId}
 use Rattle.adapter.specs.Device.{Device}
 use Rattle.adapter.specs.declared.access.DeviceStep.{DeviceStep}
 use Rattle.refinement.specs.PortFacts.{RunsWell}
 use Rattle.refinement.specs.Slots.{ServesRequest}
-use Rattle.block_machine.specs.Events.{CallRecord, AbstractCall, AbstractState, Reset, RevokeOf, Service, Tick, AnswersOkWhatHadEnded, TimesOutAtTick, IsIssuedInBook, abstract_after}
+use Rattle.block_machine.specs.Events.{CallRecord, AbstractCall, AbstractCallResult, AbstractState, Reset, RevokeOf, Service, Tick, AnswersOkWhatHadEnded, TimesOutAtTick, IsIssuedInBook, abstract_after}
 use Rattle.block_machine.specs.Histories.{JointEvent, JointState, joint_state_after}
 use Rattle.block_machine.specs.Ports.{SamePort}
 use Rattle.block_machine.specs.State.{Machine, Pending}
@@ -25,8 +23,10 @@ use Rattle.host_boot.specs.TakeOver.{probe_result_of}
 use Rattle.server_history.specs.Histories.{LeadsToServer}
 use Rattle.server_history.specs.ServerState.{state_of}
 use Rattle.block_server.specs.ClientPromise.{ConfinesMovesAndTrimClears, HoldsOfEachAdded, FlushesSurviveReplugIfDisksTell, MeetsClientPromise}
-use Rattle.block_server.specs.AbstractCalls.{abstract_call_of, machine_result_of}
+use Rattle.block_server.specs.AbstractCalls.{abstract_call_of}
+use Rattle.block_server.specs.Said.{said_of}
 use Rattle.block_server.specs.ServerView.{ServerView, server_of, observed_state_of}
+use Rattle.block_server.specs.declared.said.Said.{Said}
 
 -- What is told where nothing goes wrong. A call that revokes a grant tells Revoked, of requests that aren't issued
 -- (which ones: `AnswersRevoke`). Each other one tells Ok, of a request that was issued when the call began, of which
@@ -91,12 +91,12 @@ pub record DrivesDevice {A : Type 0} (device : A → Device) (first : JointState
 -- promised to clients, of the calls, of moves and of disks that come back, and of the device.
 pub record KeepsPromise {A : Type 0} (device : A → Device) (first : JointState Device)
     (past : List (JointEvent Device DeviceStep))
-    (old new : ServerView A) (calls : List (Call DeviceStep)) (said : List (CallResult (ArrayVec Reply))) : Type 0 where
+    (old new : ServerView A) (calls : List (Call DeviceStep)) (said : List AbstractCallResult) : Type 0 where
   pub added : List (JointEvent Device DeviceStep)
   pub meets_client_promise : MeetsClientPromise first past added (observed_state_of device old)
       (observed_state_of device new)
       (map abstract_call_of calls)
-      (map machine_result_of said)
+      said
   pub confines_moves_and_clears : ConfinesMovesAndTrimClears first past added
   pub flushes_survive_replug : FlushesSurviveReplugIfDisksTell first (added ++ past)
   pub drives_device : DrivesDevice device first past added old new
@@ -104,15 +104,16 @@ pub record KeepsPromise {A : Type 0} (device : A → Device) (first : JointState
 -- So it is after each such history. (There is one since the server was made: `begun` of `IsInitialServer`; and with the
 -- calls it leads to the server after them.)
 abbrev pub Simulates : {A : Type 0} → (A → Device) → ServerView A → ServerView A
-    → List (Call DeviceStep) → List (CallResult (ArrayVec Reply)) → Type 0
+    → List (Call DeviceStep) → List AbstractCallResult → Type 0
 Simulates device old new calls said = (first : JointState Device) (past : List
     (JointEvent Device DeviceStep))
     → LeadsToServer first past (server_of device old) → KeepsPromise device first past old new calls said
 
--- What the calls of a list said, one thing each, stands at the end of what had been said; and they keep the promise.
-pub record RunsAsPromised {A : Type 0} (device : A → Device) (old new : ServerView A) (calls : List (Call DeviceStep))
-    (before after : List (CallResult (ArrayVec Reply))) : Type 0 where
-  pub results : List (CallResult (ArrayVec Reply))
-  pub results_are : after ≡ before ++ results
-  pub one_result_a_call : length results ≡ length calls
-  pub simulates_calls : Simulates device old new calls results
+-- Behind what had been said stands what these events said: of each call's result what it is said as, in their order. And
+-- the calls with these results keep the promise.
+pub record RunsAsPromised {A : Type 0} (device : A → Device) (old new : ServerView A) (events : List (Call DeviceStep))
+    (before after : List Said) : Type 0 where
+  pub results : List AbstractCallResult
+  pub said_is : after ≡ before ++ flat_map said_of results
+  pub one_result_an_event : length results ≡ length events
+  pub simulates_calls : Simulates device old new events results

@@ -1,13 +1,13 @@
 // Laws of the definitions, for callers: the clause is the theorem. These functions do nothing.
-ghost use Rattle.std.specs.Prelude.{◌≡◌, ◌++◌, List, [], ◌∷◌};
-ghost use Rattle.arrayvec.specs.ArrayVec.{ArrayVec};
-ghost use Rattle.ata_types.specs.{declared.Port.{Port}, declared.PortState.TheVariants.{Ready}, declared.call.Call.{Call}, declared.call.CallResult.{CallResult}, declared.request.Reply.{Reply}};
+ghost use Rattle.std.specs.{Prelude.{◌≡◌, ◌++◌, List, [], ◌∷◌}, List.{flat_map}};
+ghost use Rattle.ata_types.specs.{declared.Port.{Port}, declared.PortState.TheVariants.{Ready}, declared.call.Call.{Call}};
+ghost use Rattle.block_machine.specs.Events.{AbstractCallResult};
 ghost use Rattle.adapter.specs.{Idle.{IsIdle}, declared.access.DeviceStep.{DeviceStep}};
 ghost use Rattle.refinement.specs.PortFacts.{RunsWell, Undisturbed};
 ghost use Rattle.configuration.specs.declared.Config.{Config};
 ghost use Rattle.host_boot.specs.TakeOver.{probe_result_of};
 ghost use Rattle.server_history.specs.{Histories.{ExtendsHistory}, ServerState.{state_of}};
-ghost use Rattle.block_server.specs.{Promise.{Simulates}, InitialServer.{IsInitialServer}, AbstractCalls.{abstract_call_of, machine_result_of}, ServerView.{ServerView, server_of}, Costs.{MOST_NEW_ACCESSES, MOST_RESET_ACCESSES, MOST_REVOKE_ACCESSES, MOST_SERVICE_ACCESSES, MOST_SUBMIT_ACCESSES, MOST_TICK_ACCESSES}};
+ghost use Rattle.block_server.specs.{Promise.{Simulates}, InitialServer.{IsInitialServer}, AbstractCalls.{abstract_call_of}, Said.{said_of}, ServerView.{ServerView, server_of}, Costs.{MOST_NEW_ACCESSES, MOST_RESET_ACCESSES, MOST_REVOKE_ACCESSES, MOST_SERVICE_ACCESSES, MOST_SUBMIT_ACCESSES, MOST_TICK_ACCESSES}};
 
 use adapter::Stepped;
 use driver_history::laws::{
@@ -27,12 +27,11 @@ use host_boot::laws::law_ready_ports_run_and_unusable_disks_show;
 /// restarts it.
 pub fn law_calls_that_extend_history_keep_promise<A: Stepped>()
     ensures no_calls { (s : ServerView A) → Simulates A.device s s [] [] }
-    ensures one_call { (old new : ServerView A) (call : Call DeviceStep) (one : CallResult (ArrayVec Reply))
-        → ExtendsHistory (server_of A.device old) (server_of A.device new) (abstract_call_of call)
-        (machine_result_of one)
+    ensures one_call { (old new : ServerView A) (call : Call DeviceStep) (one : AbstractCallResult)
+        → ExtendsHistory (server_of A.device old) (server_of A.device new) (abstract_call_of call) one
         → new.wanted ≡ old.wanted → Simulates A.device old new (call ∷ []) (one ∷ []) }
     ensures calls_join { (old mid new : ServerView A) (calls further : List (Call DeviceStep))
-        (said more : List (CallResult (ArrayVec Reply))) → Simulates A.device old mid calls said
+        (said more : List AbstractCallResult) → Simulates A.device old mid calls said
         → Simulates A.device mid new further more
         → Simulates A.device old new (calls ++ further) (said ++ more) }
 {
@@ -56,6 +55,11 @@ pub fn law_ready_ports_of_new_server_run_if_undisturbed<A: Stepped>()
 {
     law_ready_ports_run_and_unusable_disks_show();
 }
+
+/// What `Server::run` says can be read in one way only: other results are said otherwise.
+pub fn law_said_lists_are_unambiguous()
+    ensures { (one other : List AbstractCallResult) → flat_map said_of one ≡ flat_map said_of other → one ≡ other }
+{}
 
 /// How many accesses the calls make at most, in numbers: by the 64 readings of a wait, 32 slots and four ports.
 pub fn law_most_accesses_in_numbers()

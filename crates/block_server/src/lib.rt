@@ -11,14 +11,17 @@
 #![tactic(auto)]
 
 mod by_port;
-mod call_results;
 pub mod laws;
 mod limits;
 mod resetting;
 mod run;
+mod said;
 mod server;
 mod types;
 
-pub use call_results::CallResults;
+pub use configuration::{
+    ClientConfig, Config, ConfigFault, FaultKind, GrantConfig, PortConfig,
+};
+pub use said::{Event, MOST_SAID, Said};
 pub use server::Server;
 pub use types::{RunStopped, ServerError};

@@ -1,21 +1,22 @@
-// Calls from a list.
-ghost use Rattle.std.specs.{Prelude.{◌≡◌, ◌<◌, ◌≤◌, ◌+◌, OnOk, IfErr, IsOk, IsSome, length, take, min, vec_len}, Vec.{vec_capacity}};
-ghost use Rattle.block_server.specs.CallResults.{results_in, with_replies};
+// Events from a list.
+ghost use Rattle.std.specs.{Prelude.{◌≡◌, ◌<◌, ◌≤◌, ◌+◌, Ok, IfErr, IfOk, IsOk, OnOk, Err, length, take, min, vec_len}, Vec.{vec_capacity}};
+ghost use Rattle.block_server.specs.Said.{SaysResult, most_said_of, most_said_of_all};
 
 use crate::laws::law_calls_that_extend_history_keep_promise;
-use crate::{CallResults, RunStopped, Server};
-use adapter::{Adapter, DeviceStep, Stepped};
+use crate::said::{MOST_SAID, most_said, say_with_replies};
+use crate::{Event, RunStopped, Said, Server};
+use adapter::{Adapter, Stepped};
 use arrayvec::ArrayVec;
-use ata_types::{Call, CallResult, ClientId, Frame, MOST_CALL_BYTES, MemFault, Replies};
+use ata_types::{Call, ClientId, Frame, MOST_CALL_BYTES, MemFault};
 
 impl<A: Adapter> Server<A> {
-    ghost use Rattle.block_machine.specs.Events.{LoadAt};
-    ghost use Rattle.block_server.specs.{AbstractCalls.{machine_result_of}, ServerView.{server_of}};
+    ghost use Rattle.block_machine.specs.Events.{LoadAt, Loaded, Reset, RevokeOf, Service, Tick};
+    ghost use Rattle.block_server.specs.{Costs.{MOST_RESET_ACCESSES, MOST_REVOKE_ACCESSES, MOST_SERVICE_ACCESSES, MOST_TICK_ACCESSES}, ServerView.{server_of}};
     ghost use Rattle.server_history.specs.Histories.{ExtendsHistory};
     ghost use Rattle.adapter.specs.AccessBounds.{MakesAtMost};
 
     /// At most `MOST_CALL_BYTES` of a frame. A function of its own, since its caller would have room for them on its
-    /// stack else.
+    /// stack otherwise.
     #[inline(never)]
     fn load_few(
         &mut self,
@@ -24,8 +25,10 @@ impl<A: Adapter> Server<A> {
         offset: u32,
         count: u32,
     ) -> Result<ArrayVec<u8, MOST_CALL_BYTES>, MemFault>
-        ensures extends_history { ExtendsHistory (server_of A.device self.old) (server_of A.device self.new)
-            (LoadAt client frame offset (min count MOST_CALL_BYTES)) (machine_result_of (CallResult.Loaded result)) }
+        ensures loaded { IfOk result (λ bytes. ExtendsHistory (server_of A.device self.old) (server_of A.device self.new)
+            (LoadAt client frame offset (min count MOST_CALL_BYTES)) (Loaded (Ok bytes.items))) }
+        ensures refused { IfErr result (λ fault. ExtendsHistory (server_of A.device self.old) (server_of A.device
+            self.new) (LoadAt client frame offset (min count MOST_CALL_BYTES)) (Loaded (Err fault))) }
         ensures wanted_is_unchanged { self.new.wanted ≡ self.old.wanted }
         ensures cost { MakesAtMost 1 (A.access_count self.old.adapter) (A.access_count self.new.adapter) }
     {
@@ -36,84 +39,152 @@ impl<A: Adapter> Server<A> {
         bytes.try_extend_from_slice(part).unwrap();
         Ok(bytes)
     }
+
+    /// Does a service, and says what it answered. (This function and the next three are functions of their own, since
+    /// their caller would have room for all replies on its stack otherwise.)
+    #[inline(never)]
+    fn say_service(&mut self, out: &mut Vec<Said>)
+        requires { vec_len out.old + MOST_SAID ≤ vec_capacity out.old }
+        ensures says { SaysResult (server_of A.device self.old) (server_of A.device self.new) Service out.old.items
+            out.new.items }
+        ensures wanted_is_unchanged { self.new.wanted ≡ self.old.wanted }
+        ensures len { vec_len out.new ≤ vec_len out.old + MOST_SAID }
+        ensures capacity { vec_capacity out.new ≡ vec_capacity out.old }
+        ensures cost { MakesAtMost MOST_SERVICE_ACCESSES (A.access_count self.old.adapter)
+            (A.access_count self.new.adapter) }
+    {
+        let replies = self.service();
+        say_with_replies(out, Said::Replied(replies.len()), replies.as_slice());
+    }
+
+    /// Does a tick, and says what it answered.
+    #[inline(never)]
+    fn say_tick(&mut self, out: &mut Vec<Said>)
+        requires { vec_len out.old + MOST_SAID ≤ vec_capacity out.old }
+        ensures says { SaysResult (server_of A.device self.old) (server_of A.device self.new) Tick out.old.items
+            out.new.items }
+        ensures wanted_is_unchanged { self.new.wanted ≡ self.old.wanted }
+        ensures len { vec_len out.new ≤ vec_len out.old + MOST_SAID }
+        ensures capacity { vec_capacity out.new ≡ vec_capacity out.old }
+        ensures cost { MakesAtMost MOST_TICK_ACCESSES (A.access_count self.old.adapter)
+            (A.access_count self.new.adapter) }
+    {
+        let replies = self.tick();
+        say_with_replies(out, Said::Replied(replies.len()), replies.as_slice());
+    }
+
+    /// Does a reset, and says what it answered, or that the adapter got stuck.
+    #[inline(never)]
+    fn say_reset(&mut self, out: &mut Vec<Said>)
+        requires { vec_len out.old + MOST_SAID ≤ vec_capacity out.old }
+        ensures says { SaysResult (server_of A.device self.old) (server_of A.device self.new) Reset out.old.items
+            out.new.items }
+        ensures wanted_is_unchanged { self.new.wanted ≡ self.old.wanted }
+        ensures len { vec_len out.new ≤ vec_len out.old + MOST_SAID }
+        ensures capacity { vec_capacity out.new ≡ vec_capacity out.old }
+        ensures cost { MakesAtMost MOST_RESET_ACCESSES (A.access_count self.old.adapter)
+            (A.access_count self.new.adapter) }
+    {
+        match self.reset() {
+            Ok(replies) => {
+                say_with_replies(out, Said::WasReset(Ok(replies.len())), replies.as_slice());
+            }
+            Err(stuck) => out.push_reserved(Said::WasReset(Err(stuck))),
+        }
+    }
+
+    /// Revokes the client's grant of this number, and says what that answered, or that there is no such grant.
+    #[inline(never)]
+    fn say_revocation(&mut self, client: ClientId, number: u8, out: &mut Vec<Said>)
+        requires { vec_len out.old + MOST_SAID ≤ vec_capacity out.old }
+        ensures says { SaysResult (server_of A.device self.old) (server_of A.device self.new) (RevokeOf client number)
+            out.old.items out.new.items }
+        ensures wanted_is_unchanged { self.new.wanted ≡ self.old.wanted }
+        ensures len { vec_len out.new ≤ vec_len out.old + MOST_SAID }
+        ensures capacity { vec_capacity out.new ≡ vec_capacity out.old }
+        ensures cost { MakesAtMost MOST_REVOKE_ACCESSES (A.access_count self.old.adapter)
+            (A.access_count self.new.adapter) }
+    {
+        match self.revoke(client, number) {
+            Ok(replies) => {
+                say_with_replies(out, Said::WasRevoked(Ok(replies.len())), replies.as_slice());
+            }
+            Err(none) => out.push_reserved(Said::WasRevoked(Err(none))),
+        }
+    }
 }
 
 impl<A: Stepped> Server<A> {
-    ghost use Rattle.block_server.specs.{Promise.{RunsAsPromised}, AbstractCalls.{abstract_call_of, machine_result_of}, ServerView.{server_of}, Costs.{most_accesses_of, most_accesses_of_all}};
-    ghost use Rattle.server_history.specs.Histories.{ExtendsHistory};
+    ghost use Rattle.block_server.specs.{Promise.{RunsAsPromised}, AbstractCalls.{abstract_call_of}, ServerView.{server_of}, Costs.{most_accesses_of, most_accesses_of_all}};
     ghost use Rattle.adapter.specs.AccessBounds.{MakesAtMost};
 
-    /// Makes the call. What a service, a tick, a reset that ends, or a revocation of a grant that is there answered is
-    /// all that `replies` has then; of what it has after another call nothing is told.
-    fn make_call(&mut self, call: &Call<DeviceStep>, replies: &mut Replies) -> CallResult<()>
-        ensures extends_history { ExtendsHistory (server_of A.device self.old) (server_of A.device self.new)
-            (abstract_call_of call.now)
-            (machine_result_of (with_replies result replies.new.items)) }
+    /// Does what the event asks, and says what it says at the end of `out`, which has room for that.
+    fn say_event(&mut self, event: &Event, out: &mut Vec<Said>)
+        requires { vec_len out.old + most_said_of event.now ≤ vec_capacity out.old }
+        ensures says { SaysResult (server_of A.device self.old) (server_of A.device self.new) (abstract_call_of event.now)
+            out.old.items out.new.items }
         ensures wanted_is_unchanged { self.new.wanted ≡ self.old.wanted }
-        ensures cost { MakesAtMost (most_accesses_of call.now)
+        ensures len { vec_len out.new ≤ vec_len out.old + most_said_of event.now }
+        ensures capacity { vec_capacity out.new ≡ vec_capacity out.old }
+        ensures cost { MakesAtMost (most_accesses_of event.now)
             (A.access_count self.old.adapter) (A.access_count self.new.adapter) }
     {
-        match call {
-            Call::Submit(request) => CallResult::Submitted(self.submit(request)),
+        match event {
+            Call::Submit(request) => {
+                let result = self.submit(request);
+                out.push_reserved(Said::Submitted(result));
+            }
             Call::ClientStore {
                 client,
                 frame,
                 offset,
                 bytes,
             } => {
-                CallResult::Stored(self.client_store(*client, *frame, *offset, bytes.as_slice()))
+                let result = self.client_store(*client, *frame, *offset, bytes.as_slice());
+                out.push_reserved(Said::Stored(result));
             }
             Call::ClientLoad {
                 client,
                 frame,
                 offset,
                 length,
-            } => CallResult::Loaded(self.load_few(*client, *frame, *offset, *length)),
-            Call::Service => {
-                self.service_into(replies);
-                CallResult::Replied(())
+            } => {
+                let result = self.load_few(*client, *frame, *offset, *length);
+                out.push_reserved(Said::Loaded(result));
             }
-            Call::Tick => {
-                self.tick_into(replies);
-                CallResult::Replied(())
-            }
-            Call::Reset => CallResult::WasReset(self.reset_into(replies)),
-            Call::Revoke { client, number } => {
-                CallResult::WasRevoked(self.revoke_into(*client, *number, replies))
-            }
-            Call::State(port) => CallResult::State(self.state(*port)),
-            Call::Device(step) => CallResult::Stepped(self.device(step)),
+            Call::Service => self.say_service(out),
+            Call::Tick => self.say_tick(out),
+            Call::Reset => self.say_reset(out),
+            Call::Revoke { client, number } => self.say_revocation(*client, *number, out),
+            Call::State(port) => out.push_reserved(Said::State(self.state(*port))),
+            Call::Device(step) => out.push_reserved(Said::Stepped(self.device(step))),
         }
     }
 
-    /// Makes the calls in order, and puts what each said at the end of `out`. Room for it is made before each call;
-    /// where memory for that is refused, the calls before `at` are done, and no other. Room that there was stays.
-    pub fn run(
-        &mut self,
-        calls: &[Call<DeviceStep>],
-        out: &mut CallResults,
-    ) -> Result<(), RunStopped>
-        ensures done { OnOk result (RunsAsPromised A.device self.old self.new calls.now (results_in out.old)
-            (results_in out.new)) }
-        ensures stopped { IfErr result (λ e. e.at < length calls.now) }
-        ensures never_stops_with_room { vec_len out.old.earlier + length calls.now ≤ vec_capacity out.old.earlier
+    /// Does what the events ask, in their order, and puts what they say at the end of `out`. A load is of
+    /// `MOST_CALL_BYTES` at most.
+    ///
+    /// Before each event it makes room in `out` for the most that the event can say. If memory for that is refused, it
+    /// returns `RunStopped`: the events before `at` were done, and the event `at` wasn't begun. `out` keeps the room
+    /// that it had. No other memory is taken.
+    pub fn run(&mut self, events: &[Event], out: &mut Vec<Said>) -> Result<(), RunStopped>
+        ensures done { OnOk result (RunsAsPromised A.device self.old self.new events.now out.old.items
+            out.new.items) }
+        ensures stopped { IfErr result (λ e. e.at < length events.now) }
+        ensures never_stops_with_room { vec_len out.old + most_said_of_all events.now ≤ vec_capacity out.old
             → IsOk result }
-        ensures calls_before_stop_are_run { IfErr result
-            (λ e. RunsAsPromised A.device self.old self.new (take e.at calls.now)
-            (results_in out.old) (results_in out.new)) }
-        ensures last_result_is_there { OnOk result (1 ≤ length calls.now → IsSome out.new.last) }
-        ensures capacity_does_not_shrink { vec_capacity out.old.earlier ≤ vec_capacity out.new.earlier }
-        ensures cost { MakesAtMost (most_accesses_of_all calls.now)
+        ensures events_before_stop_are_run { IfErr result
+            (λ e. RunsAsPromised A.device self.old self.new (take e.at events.now) out.old.items out.new.items) }
+        ensures capacity_does_not_shrink { vec_capacity out.old ≤ vec_capacity out.new }
+        ensures cost { MakesAtMost (most_accesses_of_all events.now)
             (A.access_count self.old.adapter) (A.access_count self.new.adapter) }
     {
         law_calls_that_extend_history_keep_promise::<A>();
-        for (at, call) in calls.iter().enumerate() {
-            if out.reserve(1).is_err() {
+        for (at, event) in events.iter().enumerate() {
+            if out.reserve(most_said(event)).is_err() {
                 return Err(RunStopped { at });
             }
-            out.begin_next_result();
-            let said = self.make_call(call, &mut out.replies);
-            out.last = Some(said);
+            self.say_event(event, out);
         }
         Ok(())
     }

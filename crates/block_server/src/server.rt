@@ -81,15 +81,15 @@ impl<A: Adapter> Server<A> {
     /// Where the configuration breaks a rule, or else where memory is refused, no access is made, and the adapter comes
     /// back as it was.
     #[inline(never)]
-    pub fn new(alloc: Global, config: &Config, mut adapter: A) -> Result<Self, (ServerError, A)>
-        requires ready { IsReadyFor config.now (A.device adapter) }
-        ensures made { IfOk result (IsInitialServer A.device config.now adapter) }
-        ensures config_is_sound { OnOk result (LacksEveryFault config.now) }
-        ensures refused { IfErr result (λ e. IsLeastFaultOrSoundAndNoMemory config.now e.0 × (e.1 ≡ adapter)) }
+    pub fn new(alloc: Global, config: Config, mut adapter: A) -> Result<Self, (ServerError, A)>
+        requires ready { IsReadyFor config (A.device adapter) }
+        ensures made { IfOk result (IsInitialServer A.device config adapter) }
+        ensures config_is_sound { OnOk result (LacksEveryFault config) }
+        ensures refused { IfErr result (λ e. IsLeastFaultOrSoundAndNoMemory config e.0 × (e.1 ≡ adapter)) }
         ensures cost { IfOk result (λ server. MakesAtMost MOST_NEW_ACCESSES
             (A.access_count adapter) (A.access_count server.adapter)) }
     {
-        let plan = match Plan::of(config) {
+        let plan = match Plan::of(&config) {
             Ok(plan) => plan,
             Err(kind) => return Err((ServerError::BadConfig(kind), adapter)),
         };

@@ -2,7 +2,6 @@
 use Rattle.std.specs.Prelude.{ℕ, List, ◌++◌, codes, Ok, Err}
 use Rattle.std.specs.declared.result.Result.{Result}
 use Rattle.std.specs.Fmt.{decimal}
-use Rattle.configuration.specs.Rules.{kind_number}
 use Rattle.play.specs.declared.session.Ended.{Ended}
 use Rattle.play.specs.declared.session.Ended.TheVariants as ended
 use Rattle.blockd.specs.declared.fault.BlockdError.{BlockdError}
@@ -29,7 +28,7 @@ status_of Unwritten = 1
 -- what the program makes of how a script's play ended
 abbrev pub program_result_of : Ended → Result (Unit {0}) BlockdError
 program_result_of ended.Done = Ok tt
-program_result_of (ended.Config kind) = Err (Config (kind_number kind))
+program_result_of (ended.Config number) = Err (Config number)
 program_result_of (ended.Line number) = Err (Line number)
 program_result_of ended.NoMemory = Err NoMemory
 program_result_of ended.Unwritten = Err Unwritten

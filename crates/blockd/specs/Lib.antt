@@ -1,4 +1,3 @@
 -- The definitions that the contracts cite.
 pub mod Faults
 pub mod Program
-pub mod CommandLine

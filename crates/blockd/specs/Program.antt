@@ -1,5 +1,5 @@
 -- What the program makes of its files (this project's own).
-use Rattle.std.specs.Prelude.{ℕ, ◌≡◌, ◌⊎◌, Bool, List, Option, Ok, Err, replicate, string_bytes}
+use Rattle.std.specs.Prelude.{ℕ, ◌≡◌, ◌⊎◌, Bool, List, [], Option, Ok, Err, replicate, string_bytes}
 use Rattle.std.specs.Global.{Vec}
 use Rattle.std.specs.declared.result.Result.{Result}
 use Rattle.std.specs.Io.KnownBytes.{Keeps}
@@ -8,11 +8,11 @@ use Rattle.sector_store.specs.declared.disks.DiskStore.TheVariants.{File, Memory
 use Rattle.sector_store.specs.declared.file.FileStore.{FileStore}
 use Rattle.sector_store.specs.Stores.{filled_with_zeros_to_size}
 use Rattle.sector_store.specs.declared.store.MemStore.{MemStore}
-use Rattle.blockd.specs.declared.command_line.Args.{Args}
+use Rattle.command_line.specs.declared.Args.{Args}
 use Rattle.device_model.specs.declared.model.Model.{Model}
 use Rattle.play.specs.PlayedScript.{EndsPlay}
 use Rattle.play.specs.declared.session.Ended.{Ended}
-use Rattle.play.specs.declared.session.Ended.TheVariants.{Done}
+use Rattle.play.specs.declared.session.Ended.TheVariants.{Done, NoMemory as OutOfMemory}
 use Rattle.blockd.specs.Faults.{program_result_of}
 use Rattle.blockd.specs.declared.fault.BlockdError.{BlockdError}
 use Rattle.blockd.specs.declared.fault.BlockdError.TheVariants.{Config, Image, Script, Unwritten}
@@ -65,19 +65,22 @@ pub record IsImageAnd2048BlankSectors (image : FileStore) (first second : DiskSt
   pub blank_has_2048_sectors : blank.size ≡ 2048
   pub zeros : filled_with_zeros_to_size blank.size blank.written.items ≡ replicate 2048 (replicate 512 0)
 
--- What is told is how the play ended; or, where that was well, that the output failed to hand on what it had gathered.
-abbrev pub TellsEndOrUnwrittenAfterDone : Ended → Result (Unit {0}) BlockdError → Type 0
-TellsEndOrUnwrittenAfterDone ended result = (result ≡ program_result_of ended) ⊎ ((ended ≡ Done)
-    × (result ≡ Err Unwritten))
+-- What the program makes of how a play ended, with what the output still gathers then. If lines were played, it is the
+-- end and nothing is gathered any more, or the output failed to hand it on; if none was, it is the end.
+abbrev pub ReportsEndOrUnwritten : Ended → List ℕ → Result (Unit {0}) BlockdError → Type 0
+ReportsEndOrUnwritten Done gathered result = ((result ≡ Ok tt) × (gathered ≡ [])) ⊎ (result ≡ Err Unwritten)
+ReportsEndOrUnwritten OutOfMemory gathered result = ((result ≡ Err fault.NoMemory) × (gathered ≡ []))
+    ⊎ (result ≡ Err Unwritten)
+ReportsEndOrUnwritten ended gathered result = result ≡ program_result_of ended
 
--- The script was played over both disks, as far as it could be, and the output keeps what it took then. What is told is
--- how that ended.
+-- The script was played over both disks, as far as it could be, and the output keeps what it took then. The result is
+-- how that ended, as the program reports it.
 pub record RunsScript {S : Type 0} (size : S → ℕ) (told : S → Option (ℕ → List ℕ)) (config script : List ℕ)
     (image blank : S) (trace : Bool)
-    (old new : Option (List ℕ)) (result : Result (Unit {0}) BlockdError) : Type 0 where
+    (old new : Option (List ℕ)) (gathered : List ℕ) (result : Result (Unit {0}) BlockdError) : Type 0 where
   pub ended : Ended
   pub model : Option (Model S)
   pub printed : Option (List ℕ)
   pub ends : EndsPlay size told config script image blank trace old printed ended model
   pub output_is_kept : Keeps printed new
-  pub tells_end : TellsEndOrUnwrittenAfterDone ended result
+  pub reports_end : ReportsEndOrUnwritten ended gathered result

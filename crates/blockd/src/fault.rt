@@ -79,7 +79,7 @@ pub fn program_result(ended: Ended) -> Result<(), BlockdError>
 {
     match ended {
         Ended::Done => Ok(()),
-        Ended::Config(kind) => Err(BlockdError::Config(kind.number())),
+        Ended::Config(number) => Err(BlockdError::Config(number)),
         Ended::Line(number) => Err(BlockdError::Line(number)),
         Ended::NoMemory => Err(BlockdError::NoMemory),
         Ended::Unwritten => Err(BlockdError::Unwritten),

@@ -8,7 +8,6 @@
 
 use command_line::{Args, ArgsFault};
 use fault::BlockdError;
-use play::PlayInputs;
 use program::{FileError, FileSource, Inputs, image_and_2048_blank_sectors, load, run_script};
 use sector_store::FileStore;
 use std::fs::{self, File, Files};
@@ -17,7 +16,6 @@ use std::process::ExitCode;
 use std::rt::Env;
 use std::{env, str};
 
-mod command_line;
 mod fault;
 mod program;
 
@@ -113,19 +111,12 @@ fn print_played(
     trace: bool,
     is_watched: bool,
 ) -> Result<(), BlockdError> {
-    let (image, blank) = image_and_2048_blank_sectors(rt.alloc(), image)?;
+    let disks = image_and_2048_blank_sectors(rt.alloc(), image)?;
     let gathered = if is_watched { 0 } else { GATHERED };
     let mut out = BufWriter::with_capacity(rt.alloc(), gathered, io::writer(rt)).map_err(
         |error| unless_memory(&error, BlockdError::Unwritten),
     )?;
-    let inputs = PlayInputs {
-        config,
-        script,
-        image,
-        blank,
-        trace,
-    };
-    let ran = run_script(rt.alloc(), inputs, &mut out);
+    let ran = run_script(rt.alloc(), config, script, disks, trace, &mut out);
     // What couldn't be written isn't tried again.
     let (_writer, _unwritten) = out.into_parts();
     ran

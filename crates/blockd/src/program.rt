@@ -1,14 +1,16 @@
 // What the program makes of its files, once they are read: `main` hands over what the system gives.
-ghost use Rattle.std.specs.{Prelude.{◌≡◌, ℕ, IfOk, List}, Global.{Vec as VecOf}, Io.KnownBytes.{Keeps}, declared.result.Result.{Result as ResultOf}};
+ghost use Rattle.std.specs.{Prelude.{◌≡◌, ℕ, IfOk, List, Option}, Global.{Vec as VecOf}, Io.KnownBytes.{Keeps}, declared.result.Result.{Result as ResultOf}, Io.Buffered.{writer_buffer, writer_contents}};
 ghost use Rattle.sector_store.specs.declared.file.FileStore.{FileStore as FileStoreOf};
-ghost use Rattle.blockd.specs.{Program.{IsImageAnd2048BlankSectors, Loads, RunsScript, TellsEndOrUnwrittenAfterDone, file_fault_of}, declared.program.FileError.{FileError as UnreadOf}};
+ghost use Rattle.device_model.specs.declared.model.Model.{Model};
+ghost use Rattle.play.specs.PlayedScript.{EndsPlay};
+ghost use Rattle.blockd.specs.{Program.{IsImageAnd2048BlankSectors, Loads, RunsScript, ReportsEndOrUnwritten, file_fault_of}, declared.program.FileError.{FileError as UnreadOf}};
 
-use crate::command_line::Args;
 use crate::fault::{BlockdError, program_result};
-use play::{Ended, PlayInputs, play};
+use command_line::Args;
+use play::{Ended, PlayInputs, play_script};
 use sector_store::{DiskStore, FileStore, MemStore, SectorStore};
 use std::alloc::{AllocError, Global};
-use std::io;
+use std::io::{self, BufWriter};
 
 /// The sectors of the blank disk.
 const BLANK_SECTORS: u32 = 2048;
@@ -92,32 +94,64 @@ pub fn image_and_2048_blank_sectors(
     Ok((DiskStore::File(image), DiskStore::Memory(blank)))
 }
 
-/// What is told of how a play ended, once the output was asked to hand on what it gathered. One that failed isn't asked
-/// again; where all was played, and it fails now, it is that which is told.
-fn flush_output<W: io::Write>(ended: Ended, out: &mut W) -> Result<(), BlockdError>
-    ensures keeps { Keeps (W.contents out.old) (W.contents out.new) }
-    ensures tells { TellsEndOrUnwrittenAfterDone ended result }
+/// What the program makes of how a play ended. If lines were played, the output hands on what it has gathered first; if
+/// it fails to, that is the result. An output that had failed already isn't asked again, and if no line was played
+/// there is nothing to hand on.
+fn flush_output<W: io::Write + Drop>(
+    ended: Ended,
+    out: &mut BufWriter<W>,
+) -> Result<(), BlockdError>
+    ensures keeps { Keeps (writer_contents W.contents out.old) (writer_contents W.contents out.new) }
+    ensures reports { ReportsEndOrUnwritten ended (writer_buffer out.new) result }
 {
     match ended {
-        Ended::Unwritten => Err(BlockdError::Unwritten),
-        Ended::Done => out.flush().map_err(|_error| BlockdError::Unwritten),
-        _ => {
-            let _flushed = out.flush();
+        Ended::Done | Ended::NoMemory => {
+            out.flush().map_err(|_error| BlockdError::Unwritten)?;
             program_result(ended)
         }
+        Ended::Config(_) | Ended::Line(_) | Ended::Unwritten => program_result(ended),
     }
 }
 
-/// Plays a script over an image and a blank disk, and has the output hand on what it gathered.
-pub fn run_script<S: SectorStore, W: io::Write>(
+/// Plays a script against a new server over a modelled adapter, and prints at once what each line answers. The text of
+/// the configuration is read first, and then the whole script. The first fault that is found ends it. The image is disk
+/// 0 of port 0, which is in at first, and `blank` is its disk 1. With a trace, the moves, clears and ends of flushes
+/// stand before the answers of the line that they came with.
+pub fn play<S: SectorStore, W: io::Write>(
     alloc: Global,
-    inputs: PlayInputs<S>,
+    config: &[u8],
+    script: &[u8],
+    image: S,
+    blank: S,
+    trace: bool,
     out: &mut W,
-) -> Result<(), BlockdError>
-    ensures { let its = inputs.entry in RunsScript S.size S.told its.config.now its.script.now its.image its.blank
-        its.trace
-        (W.contents out.old) (W.contents out.new) result }
+) -> Ended
+    ensures { (model : Option (Model S)) × EndsPlay S.size S.told config.now script.now image blank trace
+        (W.contents out.old) (W.contents out.new) result model }
 {
-    let finished = play(alloc, inputs, out);
-    flush_output(finished.ended, out)
+    let inputs = PlayInputs {
+        config,
+        script,
+        image,
+        blank,
+        trace,
+    };
+    play_script(alloc, inputs, out).ended
+}
+
+/// Plays a script over an image and a blank disk, and has the output hand on what it gathered.
+pub fn run_script<S: SectorStore, W: io::Write + Drop>(
+    alloc: Global,
+    config: &[u8],
+    script: &[u8],
+    disks: (S, S),
+    trace: bool,
+    out: &mut BufWriter<W>,
+) -> Result<(), BlockdError>
+    ensures { RunsScript S.size S.told config.now script.now disks.0 disks.1 trace
+        (writer_contents W.contents out.old) (writer_contents W.contents out.new) (writer_buffer out.new) result }
+{
+    let (image, blank) = disks;
+    let ended = play(alloc, config, script, image, blank, trace, out);
+    flush_output(ended, out)
 }

@@ -45,7 +45,7 @@ impl From<AllocError> for FollowError {
 impl From<Ended> for FollowError {
     fn from(ended: Ended) -> FollowError {
         match ended {
-            Ended::Config(kind) => FollowError::Config(kind.number()),
+            Ended::Config(number) => FollowError::Config(number),
             Ended::Line(number) => FollowError::Line(number),
             Ended::Done | Ended::Unwritten => FollowError::Unwritten,
             Ended::NoMemory => FollowError::NoMemory,

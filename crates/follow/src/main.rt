@@ -138,7 +138,7 @@ fn run(
     let mut out = BufWriter::new(rt.alloc(), io::writer(rt)).map_err(unread)?;
     let (performed, adapter) = play_adapter(
         rt.alloc(),
-        &values,
+        values,
         script.as_slice(),
         followed,
         false,

@@ -1,10 +1,8 @@
 -- What the calls that were printed answered.
 use Rattle.std.proofs.Common.{ℕ, Bool, true, ◌≡◌, ◌&&◌, List, [], ◌∷◌, ◌++◌, Option, Some, None, refl, ap, ◌∙◌}
 use Rattle.std.specs.Prelude.{IsSome, is_some}
-use Rattle.arrayvec.specs.ArrayVec.{ArrayVec}
 use Rattle.ata_types.specs.declared.call.Call.{Call}
-use Rattle.ata_types.specs.declared.call.CallResult.{CallResult}
-use Rattle.ata_types.specs.declared.request.Reply.{Reply}
+use Rattle.block_machine.specs.Events.{AbstractCallResult}
 use Rattle.adapter.specs.Device.{Device}
 use Rattle.adapter.specs.declared.access.DeviceStep.{DeviceStep}
 use Rattle.configuration.specs.Document.{TextReadsAsValidConfig}
@@ -18,11 +16,11 @@ use Rattle.play.specs.PlayedScript.{CallsAnswerAndPrint, prints_nothing, prints_
 -- no call keeps the promise, nor do calls after others that keep it break it
 pub record GoOn {A : Type 0} (device : A → Device) : Type 0 where
   pub none : (s : ServerView A) → Simulates device s s [] []
-  pub more : (old mid new : ServerView A) (calls further : List (Call DeviceStep)) (said more : List (CallResult (ArrayVec Reply))) → Simulates device old mid calls said
+  pub more : (old mid new : ServerView A) (calls further : List (Call DeviceStep)) (said more : List AbstractCallResult) → Simulates device old mid calls said
       → Simulates device mid new further more → Simulates device old new (calls ++ further) (said ++ more)
 
 pub all_keep : {A : Type 0} (device : A → Device) (starved : A → Bool) (trace : Bool) → GoOn device → (old new : ServerView A) (shown : ℕ) (calls : List (Call DeviceStep))
-    (said : List (CallResult (ArrayVec Reply))) (text last : List ℕ) → CallsAnswerAndPrint device starved trace old new shown calls said text last → Simulates device old new calls said
+    (said : List AbstractCallResult) (text last : List ℕ) → CallsAnswerAndPrint device starved trace old new shown calls said text last → Simulates device old new calls said
 all_keep device starved trace laws old new shown calls said text last prints_nothing = laws.none old
 all_keep device starved trace laws old new shown all said text last (prints_call {mid = mid} {shown = before} {calls = calls} {asked = asked} {said = saying} {one = one} {before = printed} {last = latest} prints fed keeps) =
     laws.more old mid new calls (asked ∷ []) saying (one ∷ []) (all_keep device starved trace laws old mid before calls saying printed latest prints) keeps

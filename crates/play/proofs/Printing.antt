@@ -8,14 +8,13 @@ use Rattle.std.proofs.Math.Seq.{take-add}
 use Rattle.std.proofs.lemmas.Bool.{false≢true}
 use Rattle.std.proofs.lemmas.Grind.{common_steps}
 use Rattle.std.proofs.lemmas.List.{take_all}
-use Rattle.arrayvec.specs.ArrayVec.{ArrayVec}
 use Rattle.ata_types.specs.declared.call.Call.{Call}
-use Rattle.ata_types.specs.declared.call.CallResult.{CallResult}
-use Rattle.ata_types.specs.declared.request.Reply.{Reply}
+use Rattle.block_machine.specs.Events.{AbstractCallResult}
 use Rattle.adapter.specs.Device.{Device}
 use Rattle.adapter.specs.declared.access.DeviceStep.{DeviceStep}
 use Rattle.adapter.specs.declared.tape.Entry.{Entry}
 use Rattle.block_server.specs.Promise.{Simulates}
+use Rattle.block_server.specs.Said.{said_of}
 use Rattle.block_server.specs.ServerView.{ServerView}
 use Rattle.script.specs.Script.{Asks, AskForCalls, no_lines, IsFirstLine, IsScript, LineLaws, SplitsAt, asked_calls, lines_of, lines_after}
 use Rattle.play.specs.PrintedText.{call_text}
@@ -59,7 +58,7 @@ module _ {A : Type 0} (device : A → Device) (starved : A → Bool) (trace : Bo
     pub cut : all ≡ texts ++ lines_after left
     pub played : List (Call DeviceStep)
     pub asks : AskForCalls texts played
-    pub said : List (CallResult (ArrayVec Reply))
+    pub said : List AbstractCallResult
     pub text : List ℕ
     pub last : List ℕ
     pub prints : CallsAnswerAndPrint device starved trace first now shown played said text last
@@ -115,7 +114,7 @@ module _ {A : Type 0} (device : A → Device) (starved : A → Bool) (trace : Bo
     asks = asks_more laws so_far.texts so_far.played text (Some asked) so_far.asks asks;
     said = so_far.said ++ p.call_result ∷ [];
     text = so_far.text ++ so_far.last;
-    last = call_text trace shown (device next.adapter).tape p.call_result;
+    last = call_text trace shown (device next.adapter).tape (said_of p.call_result);
     prints = prints_call so_far.prints fed p.simulates;
     printed = appends_more before mid after (so_far.text ++ so_far.last) _ so_far.printed
         (subst (λ (printed : List ℕ). Appends mid after printed) (take_all p.part p.text whole ∙ p.text_is) p.part_is_printed);
@@ -138,7 +137,7 @@ module _ {A : Type 0} (device : A → Device) (starved : A → Bool) (trace : Bo
       shown_entry_count = length (device next.adapter).tape;
       call_results = so_far.said ++ p.call_result ∷ [];
       text = so_far.text ++ so_far.last;
-      last_text = call_text trace shown (device next.adapter).tape p.call_result;
+      last_text = call_text trace shown (device next.adapter).tape (said_of p.call_result);
       prints = prints_call so_far.prints fed p.simulates;
       part = p.part;
       text_is_printed = appends_more before mid after (so_far.text ++ so_far.last) _ so_far.printed
@@ -189,15 +188,15 @@ module _ {A : Type 0} (device : A → Device) (starved : A → Bool) (trace : Bo
   )
 
 -- a call whose text is these bytes, of which a part was printed
-abbrev pub part_of : {A : Type 0} (device : A → Device) (starved : A → Bool) (trace : Bool) (shown : ℕ) (asked : Call DeviceStep) (one : CallResult (ArrayVec Reply)) (old new : ServerView A)
+abbrev pub part_of : {A : Type 0} (device : A → Device) (starved : A → Bool) (trace : Bool) (shown : ℕ) (asked : Call DeviceStep) (one : AbstractCallResult) (old new : ServerView A)
     (before after : Option (List ℕ)) (part : ℕ) (bytes : List ℕ) (tape : List Entry) → Simulates device old new (asked ∷ []) (one ∷ [])
-    → tape ≡ (device new.adapter).tape → bytes ≡ call_text trace shown tape one → Appends before after (take part bytes)
+    → tape ≡ (device new.adapter).tape → bytes ≡ call_text trace shown tape (said_of one) → Appends before after (take part bytes)
     → (starved new.adapter ≡ true → part ≡ 0) → PrintsAllOrBeginning device starved trace shown asked old new before after
 part_of device starved trace shown asked one old new before after part bytes tape keeps tape_is bytes_are printed silent = record {
   call_result = one;
   simulates = keeps;
   text = bytes;
-  text_is = bytes_are ∙ ap (λ (t : List Entry). call_text trace shown t one) tape_is;
+  text_is = bytes_are ∙ ap (λ (t : List Entry). call_text trace shown t (said_of one)) tape_is;
   part = part;
   part_is_printed = printed;
   starved_prints_nothing = silent;

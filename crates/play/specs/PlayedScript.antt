@@ -1,20 +1,21 @@
 -- A script that is played against a server over a modelled adapter (this project's own).
 use Rattle.std.specs.Prelude.{ℕ, Bool, true, false, ◌≡◌, ◌≤◌, List, [], ◌∷◌, ◌++◌, Option, None, Some, IsSome, codes, length, string_bytes, take}
 use Rattle.std.specs.Io.KnownBytes.{Appends}
-use Rattle.arrayvec.specs.ArrayVec.{ArrayVec}
 use Rattle.ata_types.specs.declared.call.Call.{Call}
-use Rattle.ata_types.specs.declared.call.CallResult.{CallResult}
-use Rattle.ata_types.specs.declared.request.Reply.{Reply}
 use Rattle.adapter.specs.Device.{Device}
 use Rattle.adapter.specs.declared.access.DeviceStep.{DeviceStep}
+use Rattle.block_machine.specs.Events.{AbstractCallResult}
 use Rattle.block_machine.specs.Histories.{JointState}
 use Rattle.block_server.specs.InitialServer.{IsInitialServer}
 use Rattle.block_server.specs.Promise.{KeepsPromise, Simulates}
+use Rattle.block_server.specs.Said.{said_of}
 use Rattle.block_server.specs.ServerView.{ServerView, server_of}
 use Rattle.configuration.specs.Document.{TextReadsAsValidConfig, IsLeastTextFault}
 use Rattle.configuration.specs.declared.Config.{Config}
+use Rattle.configuration.specs.Rules.{kind_number}
 use Rattle.configuration.specs.declared.ConfigFault.{ConfigFault}
 use Rattle.configuration.specs.declared.ConfigFault.TheVariants as config
+use Rattle.configuration.specs.declared.FaultKind.{FaultKind}
 use Rattle.device_model.specs.Disks.{port_0_alone}
 use Rattle.device_model.specs.ModelState.{IsNewModel, device_at, is_starved}
 use Rattle.device_model.specs.declared.config.ModelConfig.{ModelConfig}
@@ -78,7 +79,7 @@ pub record IsNewServerOfNewModel {S : Type 0} (size : S → ℕ) (told : S → O
 pub record AnswersKeepPromise {S : Type 0} (size : S → ℕ) (told : S → Option (ℕ → List ℕ)) (config : Config)
     (image blank : S)
     (server last : ServerView (Model S)) (calls : List (Call DeviceStep))
-    (said : List (CallResult (ArrayVec Reply))) : Type 0 where
+    (said : List AbstractCallResult) : Type 0 where
   pub is_server_of_model : IsNewServerOfNewModel size told config image blank server
   pub initial_state : JointState Device
   pub history_begins : LeadsToServer initial_state [] (server_of (device_at size told) server)
@@ -89,27 +90,27 @@ pub record AnswersKeepPromise {S : Type 0} (size : S → ℕ) (told : S → Opti
 -- made of an adapter that is starved. The text of the last call stands by itself, after that of those before it; where
 -- there is none, both are empty. So many entries of the tape count as shown then: all, once a call was made.
 pub data CallsAnswerAndPrint {A : Type 0} (device : A → Device) (starved : A → Bool) (trace : Bool) (old : ServerView A)
-    : ServerView A → ℕ → List (Call DeviceStep) → List (CallResult (ArrayVec Reply)) → List ℕ → List ℕ → Type 0 where
+    : ServerView A → ℕ → List (Call DeviceStep) → List AbstractCallResult → List ℕ → List ℕ → Type 0 where
   prints_nothing : CallsAnswerAndPrint device starved trace old old 0 [] [] [] []
   prints_call : {mid new : ServerView A} {shown : ℕ} {calls : List (Call DeviceStep)} {asked : Call DeviceStep}
-      {said : List (CallResult (ArrayVec Reply))} {one : CallResult (ArrayVec Reply)}
+      {said : List AbstractCallResult} {one : AbstractCallResult}
       {before last : List ℕ}
       → CallsAnswerAndPrint device starved trace old mid shown calls said before last → starved mid.adapter ≡ false
       → Simulates device mid new (asked ∷ []) (one ∷ [])
       → CallsAnswerAndPrint device starved trace old new (length (device new.adapter).tape) (calls ++ asked ∷ [])
       (said ++ one ∷ [])
       (before ++ last)
-      (call_text trace shown (device new.adapter).tape one)
+      (call_text trace shown (device new.adapter).tape (said_of one))
 
 -- A call was made, which keeps the server's promise, and of what is printed of it a part was, from its beginning on:
 -- nothing, where it starved the adapter.
 pub record PrintsAllOrBeginning {A : Type 0} (device : A → Device) (starved : A → Bool) (trace : Bool) (shown : ℕ)
     (asked : Call DeviceStep) (old new : ServerView A)
     (before after : Option (List ℕ)) : Type 0 where
-  pub call_result : CallResult (ArrayVec Reply)
+  pub call_result : AbstractCallResult
   pub simulates : Simulates device old new (asked ∷ []) (call_result ∷ [])
   pub text : List ℕ
-  pub text_is : text ≡ call_text trace shown (device new.adapter).tape call_result
+  pub text_is : text ≡ call_text trace shown (device new.adapter).tape (said_of call_result)
   pub part : ℕ
   pub part_is_printed : Appends before after (take part text)
   pub starved_prints_nothing : starved new.adapter ≡ true → part ≡ 0
@@ -126,7 +127,7 @@ pub record RanFirstLines {A : Type 0} (device : A → Device) (starved : A → B
   pub rest : List (Call DeviceStep)
   pub is_script : IsScript script (played ++ rest)
   pub shown_entry_count : ℕ
-  pub call_results : List (CallResult (ArrayVec Reply))
+  pub call_results : List AbstractCallResult
   pub text : List ℕ
   pub last_text : List ℕ
   pub prints : CallsAnswerAndPrint device starved trace old new shown_entry_count played call_results text last_text
@@ -160,7 +161,7 @@ pub record PlaysFirstLines {S : Type 0} (size : S → ℕ) (told : S → Option 
 
 -- what a fault of a configuration's text ends a run as
 abbrev pub ended_by_config : ConfigFault → Ended
-ended_by_config (config.Refused kind) = BadConfig kind
+ended_by_config (config.Refused kind) = BadConfig (kind_number kind)
 ended_by_config config.NoMemory = NoMemory
 
 -- what a bad line ends it as
@@ -182,7 +183,8 @@ NoMemoryPrintsNoneUnwrittenIsNotStarved starved part stop.Unwritten = starved �
 -- Why nothing is played: the configuration has a fault, or it has none and the script has a bad line, or memory was
 -- refused.
 abbrev pub IsWhyNothingIsPlayed : List ℕ → List ℕ → Ended → Type 0
-IsWhyNothingIsPlayed config script (BadConfig kind) = IsLeastTextFault config kind
+IsWhyNothingIsPlayed config script (BadConfig number) = (kind : FaultKind) × (number ≡ kind_number kind)
+    × IsLeastTextFault config kind
 IsWhyNothingIsPlayed config script (BadLine number) = (values : Config) × TextReadsAsValidConfig config values
     × IsFirstBadLine script number
 IsWhyNothingIsPlayed config script NoMemory = Unit {0}

@@ -1,13 +1,11 @@
 -- What is printed of a call: what the tape gained, and what the call said (this project's own).
-use Rattle.std.specs.Prelude.{ℕ, Bool, true, false, List, [], ◌∷◌, ◌++◌, drop, Ok, Err}
+use Rattle.std.specs.Prelude.{ℕ, zero, suc, Bool, true, false, List, [], ◌∷◌, ◌++◌, drop, Ok, Err}
 use Rattle.std.specs.Borrow.{Bor}
 use Rattle.std.specs.List.{flat_map}
-use Rattle.arrayvec.specs.ArrayVec.{ArrayVec}
-use Rattle.ata_types.specs.declared.call.CallResult.{CallResult}
-use Rattle.ata_types.specs.declared.call.CallResult.TheVariants as said
+use Rattle.block_server.specs.declared.said.Said.{Said}
+use Rattle.block_server.specs.declared.said.Said.TheVariants as said
 use Rattle.ata_types.specs.declared.refusal.Refusal.TheVariants as refusal
 use Rattle.ata_types.specs.declared.refusal.Rule.TheVariants.{NoGrant}
-use Rattle.ata_types.specs.declared.request.Reply.{Reply}
 use Rattle.adapter.specs.declared.command.Operation.{Operation}
 use Rattle.adapter.specs.declared.command.Operation.TheVariants.{Flush}
 use Rattle.adapter.specs.declared.tape.Done.{Done}
@@ -20,30 +18,24 @@ use Rattle.script.specs.declared.answer.Answer.TheVariants as answer
 abbrev pub as_reference : {X : Type 0} → X → Bor X
 as_reference x = record { ref_ptr = (0, 0); now = x }
 
--- a line for each reply, or one that there is none
-abbrev pub quiet_or_replies_text : List Reply → List ℕ
-quiet_or_replies_text [] = answer_line answer.Quiet
-quiet_or_replies_text (reply ∷ replies) = flat_map (λ r. answer_line (answer.Replied r)) (reply ∷ replies)
-
--- that the call is done, and a line for each reply
-abbrev pub done_and_replies_text : List Reply → List ℕ
-done_and_replies_text replies = answer_line answer.Done ++ flat_map (λ r. answer_line (answer.Replied r)) replies
-
--- what a call said
-abbrev pub call_result_text : CallResult (ArrayVec Reply) → List ℕ
-call_result_text (said.Submitted (Ok id)) = answer_line (answer.Accepted id)
-call_result_text (said.Submitted (Err refusal)) = answer_line (answer.Refused refusal)
-call_result_text (said.Stored (Ok done)) = answer_line answer.Stored
-call_result_text (said.Stored (Err fault)) = answer_line (answer.AccessRefused fault)
-call_result_text (said.Loaded (Ok bytes)) = answer_line (answer.Bytes (as_reference bytes.items))
-call_result_text (said.Loaded (Err fault)) = answer_line (answer.AccessRefused fault)
-call_result_text (said.Replied replies) = quiet_or_replies_text replies.items
-call_result_text (said.WasReset (Ok replies)) = done_and_replies_text replies.items
-call_result_text (said.WasReset (Err stuck)) = answer_line answer.AdapterStuck
-call_result_text (said.WasRevoked (Ok replies)) = done_and_replies_text replies.items
-call_result_text (said.WasRevoked (Err none)) = answer_line (answer.Refused (refusal.Rule NoGrant))
-call_result_text (said.State state) = answer_line (answer.State state)
-call_result_text (said.Stepped done) = answer_line (answer.Stepped done)
+-- What is printed of one thing that was said. Where replies follow, their lines are what is printed of a service or a
+-- tick; where none follows, there is a line that it is quiet.
+abbrev pub said_text : Said → List ℕ
+said_text (said.Submitted (Ok id)) = answer_line (answer.Accepted id)
+said_text (said.Submitted (Err refusal)) = answer_line (answer.Refused refusal)
+said_text (said.Stored (Ok done)) = answer_line answer.Stored
+said_text (said.Stored (Err fault)) = answer_line (answer.AccessRefused fault)
+said_text (said.Loaded (Ok bytes)) = answer_line (answer.Bytes (as_reference bytes.items))
+said_text (said.Loaded (Err fault)) = answer_line (answer.AccessRefused fault)
+said_text (said.Replied zero) = answer_line answer.Quiet
+said_text (said.Replied (suc count)) = []
+said_text (said.WasReset (Ok count)) = answer_line answer.Done
+said_text (said.WasReset (Err stuck)) = answer_line answer.AdapterStuck
+said_text (said.WasRevoked (Ok count)) = answer_line answer.Done
+said_text (said.WasRevoked (Err none)) = answer_line (answer.Refused (refusal.Rule NoGrant))
+said_text (said.State state) = answer_line (answer.State state)
+said_text (said.Stepped done) = answer_line (answer.Stepped done)
+said_text (said.Reply reply) = answer_line (answer.Replied reply)
 
 -- a flush that has ended has a line, and no other command has
 abbrev pub line_of_ended_flush_else_empty : Operation → Done → List ℕ
@@ -70,5 +62,5 @@ trace_text false shown tape = []
 
 -- what is printed of a call: with a trace, what the tape has gained past the entries that were shown before, and then
 -- what the call said
-abbrev pub call_text : Bool → ℕ → List Entry → CallResult (ArrayVec Reply) → List ℕ
-call_text trace shown tape one = trace_text trace shown tape ++ call_result_text one
+abbrev pub call_text : Bool → ℕ → List Entry → List Said → List ℕ
+call_text trace shown tape said = trace_text trace shown tape ++ flat_map said_text said

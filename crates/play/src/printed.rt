@@ -1,11 +1,11 @@
 // What is printed of a call.
 ghost use Rattle.std.specs.{Prelude.{◌≡◌, ◌≢◌, ◌≤◌, ℕ, IfErr, OnOk, length, take}, Io.KnownBytes.{Appends}, declared.io.ErrorKind.TheVariants.{Interrupted}, List.{flat_map}};
-ghost use Rattle.block_server.specs.CallResults.{with_replies};
-ghost use Rattle.play.specs.PrintedText.{call_text, line_of_ended_flush_else_empty, entries_text, quiet_or_replies_text, done_and_replies_text, call_result_text, trace_text};
+ghost use Rattle.play.specs.PrintedText.{call_text, line_of_ended_flush_else_empty, entries_text, said_text, trace_text};
 ghost use Rattle.script.specs.Answer.{answer_line};
 
 use adapter::{Done, Entry, Operation};
-use ata_types::{CallResult, Refusal, Reply, Rule};
+use ata_types::{Refusal, Rule};
+use block_server::Said;
 use script::Answer;
 use std::io;
 
@@ -25,56 +25,37 @@ impl Unwritten {
     }
 }
 
-/// Prints a line for each reply.
-fn print_each<W: io::Write>(out: &mut W, replies: &[Reply]) -> io::Result<()>
-    ensures { OnOk result
-        (Appends (W.contents out.old) (W.contents out.new)
-        (flat_map (λ r. answer_line (Answer.Replied r)) replies.now)) }
-{
-    for reply in replies {
-        Answer::Replied(*reply).print(out)?;
-    }
-    Ok(())
-}
-
-/// Prints a line for each reply, or one that there is none.
-fn print_replies<W: io::Write>(out: &mut W, replies: &[Reply]) -> io::Result<()>
-    ensures { OnOk result (Appends (W.contents out.old) (W.contents out.new) (quiet_or_replies_text replies.now)) }
-{
-    if replies.is_empty() {
-        return Answer::Quiet.print(out);
-    }
-    print_each(out, replies)
-}
-
-/// Prints that the call is done, and a line for each reply.
-fn print_done<W: io::Write>(out: &mut W, replies: &[Reply]) -> io::Result<()>
-    ensures { OnOk result (Appends (W.contents out.old) (W.contents out.new) (done_and_replies_text replies.now)) }
-{
-    Answer::Done.print(out)?;
-    print_each(out, replies)
-}
-
-/// Prints what a call said, of which the replies of a service, a tick, a reset or a revocation stand in a list.
-fn print_said<W: io::Write>(out: &mut W, said: &CallResult<()>, replies: &[Reply]) -> io::Result<()>
-    ensures { OnOk result
-        (Appends (W.contents out.old) (W.contents out.new) (call_result_text (with_replies said.now replies.now))) }
+/// Prints what one thing that was said is told by. Of a service or a tick whose replies follow, these are all.
+fn print_one<W: io::Write>(out: &mut W, said: &Said) -> io::Result<()>
+    ensures { OnOk result (Appends (W.contents out.old) (W.contents out.new) (said_text said.now)) }
 {
     match said {
-        CallResult::Submitted(Ok(id)) => Answer::Accepted(*id).print(out),
-        CallResult::Submitted(Err(refusal)) => Answer::Refused(*refusal).print(out),
-        CallResult::Stored(Ok(())) => Answer::Stored.print(out),
-        CallResult::Loaded(Ok(bytes)) => Answer::Bytes(bytes.as_slice()).print(out),
-        CallResult::Stored(Err(fault)) | CallResult::Loaded(Err(fault)) => {
+        Said::Submitted(Ok(id)) => Answer::Accepted(*id).print(out),
+        Said::Submitted(Err(refusal)) => Answer::Refused(*refusal).print(out),
+        Said::Stored(Ok(())) => Answer::Stored.print(out),
+        Said::Loaded(Ok(bytes)) => Answer::Bytes(bytes.as_slice()).print(out),
+        Said::Stored(Err(fault)) | Said::Loaded(Err(fault)) => {
             Answer::AccessRefused(*fault).print(out)
         }
-        CallResult::Replied(()) => print_replies(out, replies),
-        CallResult::WasReset(Ok(())) | CallResult::WasRevoked(Ok(())) => print_done(out, replies),
-        CallResult::WasReset(Err(_)) => Answer::AdapterStuck.print(out),
-        CallResult::WasRevoked(Err(_)) => Answer::Refused(Refusal::Rule(Rule::NoGrant)).print(out),
-        CallResult::State(state) => Answer::State(*state).print(out),
-        CallResult::Stepped(did) => Answer::Stepped(*did).print(out),
+        Said::Replied(0) => Answer::Quiet.print(out),
+        Said::Replied(_) => Ok(()),
+        Said::WasReset(Ok(_)) | Said::WasRevoked(Ok(_)) => Answer::Done.print(out),
+        Said::WasReset(Err(_)) => Answer::AdapterStuck.print(out),
+        Said::WasRevoked(Err(_)) => Answer::Refused(Refusal::Rule(Rule::NoGrant)).print(out),
+        Said::State(state) => Answer::State(*state).print(out),
+        Said::Stepped(did) => Answer::Stepped(*did).print(out),
+        Said::Reply(reply) => Answer::Replied(*reply).print(out),
     }
+}
+
+/// Prints what a call said.
+fn print_said<W: io::Write>(out: &mut W, said: &[Said]) -> io::Result<()>
+    ensures { OnOk result (Appends (W.contents out.old) (W.contents out.new) (flat_map said_text said.now)) }
+{
+    for one in said {
+        print_one(out, one)?;
+    }
+    Ok(())
 }
 
 /// Prints a line for a command that has ended, if it was a flush.
@@ -118,22 +99,20 @@ fn print_trace<W: io::Write>(
     print_entries(out, tape.get(shown..).unwrap_or_default())
 }
 
-/// Writes what is printed of a call, in place of what the text had: with a trace, what the tape gained past so many
-/// entries, and then what the call said, of which the replies of a service, a tick, a reset or a revocation stand in a
-/// list. It fails where memory is refused.
+/// Puts what is printed of a call into `text`, in place of what it had: with a trace, what the tape gained past so many
+/// entries, and then what the call said. It fails only if memory is refused.
 pub fn set_call_text(
     text: &mut Vec<u8>,
     trace: bool,
     tape: &[Entry],
     shown: usize,
-    said: &CallResult<()>,
-    replies: &[Reply],
+    said: &[Said],
 ) -> io::Result<()>
-    ensures { OnOk result (text.new.items ≡ call_text trace shown tape.now (with_replies said.now replies.now)) }
+    ensures { OnOk result (text.new.items ≡ call_text trace shown tape.now said.now) }
 {
     text.clear();
     print_trace(text, trace, tape, shown)?;
-    print_said(text, said, replies)
+    print_said(text, said)
 }
 
 /// Writes bytes. Where the output fails, it has taken a beginning of them, which may be nothing; and never is it that a

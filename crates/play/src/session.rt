@@ -1,8 +1,9 @@
 // A script, played from its first line to its last.
 ghost use Rattle.std.specs.{Prelude.{◌≡◌, ◌≤◌, ◌∷◌, ◌⊎◌, [], false, List, None, Err, IfOk, IfErr, IfSome, OnOk, Some, length}, Vec.{vec_capacity}};
-ghost use Rattle.ata_types.specs.{declared.call.Call.{Call}, declared.call.CallResult.{CallResult}};
+ghost use Rattle.ata_types.specs.declared.call.Call.{Call};
+ghost use Rattle.block_machine.specs.Events.{AbstractCallResult};
 ghost use Rattle.adapter.specs.declared.access.DeviceStep.{DeviceStep};
-ghost use Rattle.block_server.specs.{CallResults.{with_replies}, InitialServer.{IsInitialServer, IsReadyFor}, Promise.{Simulates}, ServerView.{ServerView}};
+ghost use Rattle.block_server.specs.{InitialServer.{IsInitialServer, IsReadyFor}, Promise.{Simulates}, Said.{said_of}, ServerView.{ServerView}};
 ghost use Rattle.configuration.specs.{Document.{TextReadsAsValidConfig}, Rules.{LacksEveryFault}};
 ghost use Rattle.script.specs.Script.{IsScript};
 ghost use Rattle.device_model.specs.ModelState.{device_at, is_starved};
@@ -10,11 +11,10 @@ ghost use Rattle.play.specs.PlayedScript.{EndsPlay, IsWhyNothingIsPlayed, IsNewS
 
 use crate::model_setup::new_model;
 use crate::printed::{set_call_text, write_out};
-use adapter::{Adapter, DeviceStep, Stepped};
-use ata_types::Call;
+use adapter::{Adapter, Stepped};
 use block_server::laws::law_calls_that_extend_history_keep_promise;
-use block_server::{CallResults, Server};
-use configuration::{Config, ConfigFault, FaultKind};
+use block_server::{Event, MOST_SAID, Said, Server};
+use configuration::{Config, ConfigFault};
 use device_model::{Model, NoMemory, TapedAdapter};
 use script::laws::law_lines_are_asked_in_turn;
 use script::{BadLine, CallBuffer, check_script, first_line, parse_script_line};
@@ -27,8 +27,9 @@ use std::{io, slice};
 pub enum Ended {
     /// Every line was played, and all is printed.
     Done,
-    /// The configuration has a fault; of several that of the least number is told. Nothing is printed.
-    Config(FaultKind),
+    /// The configuration has a fault of the kind with this number, 1 to 8, and none of a lower number. Nothing is
+    /// printed.
+    Config(u8),
     /// The first line of the script that is spelled as none has this number. Nothing is printed.
     Line(u64),
     /// Memory was refused. Without a model, it was before the first line, and nothing is printed. With one, what the
@@ -75,7 +76,7 @@ impl From<PlayError> for Ended {
 #[derive(Drop)]
 struct Room {
     /// What the last call said, for which there is room from the start.
-    said: CallResults,
+    said: Vec<Said>,
     /// What is printed of one line.
     text: Vec<u8>,
 }
@@ -87,7 +88,7 @@ impl From<ConfigFault> for Ended {
 
     fn from(fault: ConfigFault) -> Ended {
         match fault {
-            ConfigFault::Refused(kind) => Ended::Config(kind),
+            ConfigFault::Refused(kind) => Ended::Config(kind.number()),
             ConfigFault::NoMemory => Ended::NoMemory,
         }
     }
@@ -143,14 +144,14 @@ fn close_server<A: Adapter>(server: Box<Server<A>>) -> A
 #[inline(never)]
 fn start<S: SectorStore>(
     alloc: Global,
-    config: &Config,
+    config: Config,
     image: S,
     blank: S,
 ) -> Result<Box<Server<Model<S>>>, NoMemory>
-    requires { LacksEveryFault config.now }
-    ensures { IfOk result (λ server. IsNewServerOfNewModel S.size S.told config.now image blank server.value) }
+    requires { LacksEveryFault config }
+    ensures { IfOk result (λ server. IsNewServerOfNewModel S.size S.told config image blank server.value) }
 {
-    let model = new_model(alloc, config, image, blank)?;
+    let model = new_model(alloc, &config, image, blank)?;
     // The configuration is sound, so memory is all that can be wanting.
     let Ok(server) = Server::new(alloc, config, model) else {
         return Err(NoMemory);
@@ -158,13 +159,12 @@ fn start<S: SectorStore>(
     on_heap(alloc, server)
 }
 
-/// Makes one call, for which there is room. What it said is all that was said then.
-fn make_call<A: Stepped>(server: &mut Server<A>, call: &Call<DeviceStep>, said: &mut CallResults)
-    requires { 1 ≤ vec_capacity said.old.earlier }
-    ensures keeps { (one : CallResult (Unit {0})) × (said.new.last ≡ Some one)
-        × Simulates A.device server.old server.new (call.now ∷ [])
-        (with_replies one said.new.replies.items ∷ []) }
-    ensures room { 1 ≤ vec_capacity said.new.earlier }
+/// Makes one call, for which there is room. `said` has what it said, and nothing more.
+fn make_call<A: Stepped>(server: &mut Server<A>, call: &Event, said: &mut Vec<Said>)
+    requires { MOST_SAID ≤ vec_capacity said.old }
+    ensures keeps { (one : AbstractCallResult) × (said.new.items ≡ said_of one)
+        × Simulates A.device server.old server.new (call.now ∷ []) (one ∷ []) }
+    ensures room { MOST_SAID ≤ vec_capacity said.new }
 {
     said.clear();
     // There is room for what one call says, so the run isn't stopped.
@@ -176,15 +176,15 @@ fn make_call<A: Stepped>(server: &mut Server<A>, call: &Call<DeviceStep>, said: 
 /// nothing.
 fn play_line<A: TapedAdapter, W: io::Write>(
     server: &mut Server<A>,
-    call: &Call<DeviceStep>,
+    call: &Event,
     room: &mut Room,
     trace: bool,
     shown: usize,
     out: &mut W,
 ) -> Result<usize, PlayError>
     requires fed { A.ended server.old.adapter ≡ false }
-    requires room { 1 ≤ vec_capacity room.old.said.earlier }
-    ensures room { 1 ≤ vec_capacity room.new.said.earlier }
+    requires room { MOST_SAID ≤ vec_capacity room.old.said }
+    ensures room { MOST_SAID ≤ vec_capacity room.new.said }
     ensures printed { (p : PrintsAllOrBeginning A.device A.ended trace shown call.now server.old server.new
         (W.contents out.old) (W.contents out.new))
         × OnOk result (length p.text ≤ p.part)
@@ -204,8 +204,7 @@ fn play_line<A: TapedAdapter, W: io::Write>(
         trace,
         tape,
         shown,
-        room.said.last().unwrap(),
-        room.said.replies(),
+        room.said.as_slice(),
     ) else {
         // A text in memory wants nothing but memory.
         return Err(PlayError::NoMemory);
@@ -237,8 +236,8 @@ fn play_lines<A: TapedAdapter, W: io::Write>(
     if server.adapter().is_exhausted() {
         return Err(PlayError::NoMemory);
     }
-    let mut said = CallResults::new(alloc);
-    if said.reserve(1).is_err() {
+    let mut said = Vec::new(alloc);
+    if said.reserve(MOST_SAID).is_err() {
         return Err(PlayError::NoMemory);
     }
     let mut room = Room {
@@ -288,19 +287,19 @@ fn unbegun<S: SectorStore>(ended: Ended) -> PlayResult<S>
 /// in: nothing is printed then either. Where it can't go on, `NoMemory` is told, too.
 pub fn play_adapter<A: TapedAdapter + Drop, W: io::Write>(
     alloc: Global,
-    config: &Config,
+    config: Config,
     script: &[u8],
     adapter: A,
     trace: bool,
     out: &mut W,
 ) -> (Result<(), PlayError>, Option<A>)
-    requires lacks_every_fault { LacksEveryFault config.now }
+    requires lacks_every_fault { LacksEveryFault config }
     requires is_script { (calls : List (Call DeviceStep)) × IsScript script.now calls }
-    requires is_ready_for_config { IsReadyFor config.now (A.device adapter) }
+    requires is_ready_for_config { IsReadyFor config (A.device adapter) }
     ensures given_back_adapter_is_as_played { IfSome result.1 (λ left. ((left ≡ adapter)
         × (result.0 ≡ Err PlayError.NoMemory)
         × (W.contents out.new ≡ W.contents out.old))
-        ⊎ ((server last : ServerView A) × IsInitialServer A.device config.now adapter server
+        ⊎ ((server last : ServerView A) × IsInitialServer A.device config adapter server
         × (left ≡ last.adapter)
         × (ran : RanFirstLines A.device A.ended trace script.now server last (W.contents out.old) (W.contents out.new))
         × OnOk result.0 (RanWholeScript ran)
@@ -330,7 +329,7 @@ pub fn play_adapter<A: TapedAdapter + Drop, W: io::Write>(
 /// Where the output fails, or memory is refused, the line that it happens at was the last one that was played, and
 /// those before it were printed. What the output has of that line then is a beginning of its text: nothing, where
 /// memory was refused. The model is given back as that line left it.
-pub fn play<S: SectorStore, W: io::Write>(
+pub fn play_script<S: SectorStore, W: io::Write>(
     alloc: Global,
     inputs: PlayInputs<S>,
     out: &mut W,
@@ -342,7 +341,7 @@ pub fn play<S: SectorStore, W: io::Write>(
         Ok(values) => values,
         Err(ended) => return unbegun(ended),
     };
-    let Ok(mut server) = start(alloc, &values, inputs.image, inputs.blank) else {
+    let Ok(mut server) = start(alloc, values, inputs.image, inputs.blank) else {
         return unbegun(Ended::NoMemory);
     };
     law_calls_that_extend_history_keep_promise::<Model<S>>();

@@ -38,36 +38,37 @@ use Rattle.machine_runs.specs.AnswerOrigins.{SubmitsAndIsGivenId, WasUnansweredB
 use Rattle.server_history.specs.Histories.{StartsHistory, LeadsToServer}
 use Rattle.server_history.specs.ServerState.{ServerState}
 use Rattle.block_server.specs.Promise.{RunsAsPromised}
-use Rattle.block_server.specs.AbstractCalls.{abstract_call_of, machine_result_of}
+use Rattle.block_server.specs.AbstractCalls.{abstract_call_of}
 use Rattle.block_server.specs.ServerView.{ServerView, server_of}
 use Rattle.ata_types.specs.declared.call.Call.TheVariants.{Submit, ClientStore, Service, Reset, State, Device as Tell}
-use Rattle.arrayvec.specs.ArrayVec.{ArrayVec}
 use Rattle.ata_types.specs.declared.call.Call.{Call}
-use Rattle.ata_types.specs.declared.call.CallResult.{CallResult}
-use Rattle.ata_types.specs.declared.call.CallResult.TheVariants as said
-use Rattle.server_examples.specs.ShownHistories.{CallsHaveHistory, ReleasesFrame, ShownRunLaws, ServesRead, ServesReadAnew}
+use Rattle.block_server.specs.Said.{said_of}
+use Rattle.block_server.specs.declared.said.Said.{Said}
+use Rattle.server_examples.specs.ShownHistories.{CallsHaveHistory, SaidHasHistory, ReleasesFrame, ShownRunLaws, ServesRead, ServesReadAnew}
 
-pub has_run : {A : Type 0} (device : A → Device) (old new : ServerView A) (events : List (Call DeviceStep)) (before after : List (CallResult (ArrayVec Reply))) → RunsAsPromised device old new events before after → before ≡ []
-    → StartsHistory (server_of device old) → (device old.adapter).disks_tell_sectors ≡ true → CallsHaveHistory device old new events after
+pub has_run : {A : Type 0} (device : A → Device) (old new : ServerView A) (events : List (Call DeviceStep)) (before after : List Said) → RunsAsPromised device old new events before after → before ≡ []
+    → StartsHistory (server_of device old) → (device old.adapter).disks_tell_sectors ≡ true → SaidHasHistory device old new events after
 has_run device old new events before after promised empty begun disks_tell_sectors =
     let kept = promised.simulates_calls begun.0 [] begun.1 in
-    let whole = append-nil kept.added in
-    let is : promised.results ≡ after = sym (promised.results_are ∙ ap (λ (xs : List (CallResult (ArrayVec Reply))). xs ++ promised.results) empty) in
-    subst (CallsHaveHistory device old new events) is (record {
-      initial_state = begun.0;
-      history_begins = begun.1;
-      past = kept.added;
-      asks_calls = kept.meets_client_promise.calls_are;
-      says_results = kept.meets_client_promise.results_are;
-      history_leads_to_new = subst (λ (past : List (JointEvent Device DeviceStep)). LeadsToServer begun.0 past (server_of device new)) whole kept.drives_device.history_leads_to_server;
-      is_run = subst (λ (past : List (JointEvent Device DeviceStep)). IsRun begun.0.abstract (events_of past)) whole kept.meets_client_promise.is_run;
-      every_read_holds = subst (λ (past : List (JointEvent Device DeviceStep)). EveryReadHoldsExpected begun.0.abstract (events_of past)) whole
-          (kept.meets_client_promise.reads_hold_if_disks_tell (ap (λ (d : Device). d.disks_tell_sectors) begun.1.state_is_at_history_end.device_is ∙ disks_tell_sectors));
-    })
+    let whole = append-nil kept.added in (
+      promised.results,
+      promised.said_is ∙ ap (λ (xs : List Said). xs ++ flat_map said_of promised.results) empty,
+      record {
+        initial_state = begun.0;
+        history_begins = begun.1;
+        past = kept.added;
+        asks_calls = kept.meets_client_promise.calls_are;
+        says_results = kept.meets_client_promise.results_are;
+        history_leads_to_new = subst (λ (past : List (JointEvent Device DeviceStep)). LeadsToServer begun.0 past (server_of device new)) whole kept.drives_device.history_leads_to_server;
+        is_run = subst (λ (past : List (JointEvent Device DeviceStep)). IsRun begun.0.abstract (events_of past)) whole kept.meets_client_promise.is_run;
+        every_read_holds = subst (λ (past : List (JointEvent Device DeviceStep)). EveryReadHoldsExpected begun.0.abstract (events_of past)) whole
+            (kept.meets_client_promise.reads_hold_if_disks_tell (ap (λ (d : Device). d.disks_tell_sectors) begun.1.state_is_at_history_end.device_is ∙ disks_tell_sectors));
+      },
+    )
 
 -- what calls asked and said
-abbrev unanswered_of : List (Call DeviceStep) → List (CallResult (ArrayVec Reply)) → List (AbstractCall DeviceStep × machine.AbstractCallResult)
-unanswered_of (event ∷ events) (one ∷ more) = (abstract_call_of event, machine_result_of one) ∷ unanswered_of events more
+abbrev unanswered_of : List (Call DeviceStep) → List machine.AbstractCallResult → List (AbstractCall DeviceStep × machine.AbstractCallResult)
+unanswered_of (event ∷ events) (one ∷ more) = (abstract_call_of event, one) ∷ unanswered_of events more
 unanswered_of _ _ = []
 
 -- a history has grown by calls that asked and said this
@@ -76,8 +77,8 @@ TapeGrows past [] later = later ≡ past
 TapeGrows past (one ∷ more) later = (h : JointEvent Device DeviceStep) × (h.event.call ≡ one.0) × (h.event.result ≡ one.1) × TapeGrows (h ∷ past) more later
 
 -- so it has by calls that stand in their order
-grows : (calls past : List (JointEvent Device DeviceStep)) (events : List (Call DeviceStep)) (some : List (CallResult (ArrayVec Reply))) → map (λ h. h.event.call) calls ≡ map abstract_call_of events
-    → map (λ h. h.event.result) calls ≡ map machine_result_of some → TapeGrows past (unanswered_of events some) (reverse calls ++ past)
+grows : (calls past : List (JointEvent Device DeviceStep)) (events : List (Call DeviceStep)) (some : List machine.AbstractCallResult) → map (λ h. h.event.call) calls ≡ map abstract_call_of events
+    → map (λ h. h.event.result) calls ≡ some → TapeGrows past (unanswered_of events some) (reverse calls ++ past)
 grows [] past [] [] asks says = refl
 grows [] past [] (one ∷ more) asks says = cc
 grows [] past (event ∷ events) some asks says = cc
@@ -85,18 +86,21 @@ grows (h ∷ calls) past [] some asks says = cc
 grows (h ∷ calls) past (event ∷ events) [] asks says = cc
 grows (h ∷ calls) past (event ∷ events) (one ∷ more) asks says =
     let asked : h.event.call ≡ abstract_call_of event = cc in
-    let told : h.event.result ≡ machine_result_of one = cc in
+    let told : h.event.result ≡ one = cc in
     let asks_on : map (λ h. h.event.call) calls ≡ map abstract_call_of events = cc in
-    let says_on : map (λ h. h.event.result) calls ≡ map machine_result_of more = cc in
+    let says_on : map (λ h. h.event.result) calls ≡ more = cc in
     let turned = ap (λ (l : List (JointEvent Device DeviceStep)). l ++ past) (reverse-append (h ∷ []) calls) ∙ append_assoc (reverse calls) (h ∷ []) past in
     (h, asked, told, subst (TapeGrows (h ∷ past) (unanswered_of events more)) (sym turned) (grows calls (h ∷ past) events more asks_on says_on))
 
-grown : {A : Type 0} {device : A → Device} {old new : ServerView A} {events : List (Call DeviceStep)} {some : List (CallResult (ArrayVec Reply))} (r : CallsHaveHistory device old new events some) → TapeGrows [] (unanswered_of events some) r.past
+grown : {A : Type 0} {device : A → Device} {old new : ServerView A} {events : List (Call DeviceStep)} {some : List machine.AbstractCallResult} (r : CallsHaveHistory device old new events some) → TapeGrows [] (unanswered_of events some) r.past
 grown {A} {device} {old} {new} {events} {some} r =
     subst (TapeGrows [] (unanswered_of events some)) (append-nil (reverse (reverse r.past)) ∙ reverse-reverse r.past) (grows (reverse r.past) [] events some r.asks_calls r.says_results)
 
-pub has_said : {A : Type 0} {device : A → Device} {old new : ServerView A} {events : List (Call DeviceStep)} {some other : List (CallResult (ArrayVec Reply))} → CallsHaveHistory device old new events some → some ≡ other → CallsHaveHistory device old new events other
-has_said {A} {device} {old} {new} {events} {some} {other} r is = subst (CallsHaveHistory device old new events) is r
+-- what was said has but one history: that of the results that it is read as
+pub has_said : {A : Type 0} {device : A → Device} {old new : ServerView A} {events : List (Call DeviceStep)} {said : List Said} {results : List machine.AbstractCallResult} → ShownRunLaws
+    → SaidHasHistory device old new events said → said ≡ flat_map said_of results → CallsHaveHistory device old new events results
+has_said {A} {device} {old} {new} {events} {said} {results} laws r is =
+    subst (CallsHaveHistory device old new events) (laws.said_is_unambiguous r.0 results (sym r.1 ∙ is)) r.2
 
 in_middle : {X : Type 0} (late : List X) (x : X) (early : List X) → Contains (late ++ x ∷ early) x
 in_middle late x early = Contains-append_right late (x ∷ early) x (Contains-append_left (x ∷ []) early x (Contains-push [] x))
@@ -146,7 +150,7 @@ served_last laws old new asked first begun past last leads run holds items reply
     }
 
 pub shows_a_read : {A : Type 0} (device : A → Device) (old new : ServerView A) (read : Request) (step : DeviceStep) (id : RequestId) (did : Bool) (replies : List Reply) (reply : Reply) → ShownRunLaws
-    → CallsHaveHistory device old new (Submit read ∷ Tell step ∷ Service ∷ []) (said.Submitted (Ok id) ∷ said.Stepped did ∷ said.Replied (record { items = replies }) ∷ [])
+    → CallsHaveHistory device old new (Submit read ∷ Tell step ∷ Service ∷ []) (Submitted (Ok id) ∷ Stepped did ∷ Replied replies ∷ [])
     → replies ≡ reply ∷ [] → reply.outcome ≡ outcome.Ok → read.op ≡ Read → ServesRead (server_of device old) (server_of device new) read
 shows_a_read device old new read step id did replies reply laws r only ok reads =
     let a = grown r in
@@ -397,8 +401,8 @@ went_again laws wanted first asked id submit one two three fatal service finish 
 pub shows_a_read_anew : {A : Type 0} (device : A → Device) (old new : ServerView A) (read : Request) (step : DeviceStep) (id : RequestId) (before replies : List Reply) (reply : Reply) → ShownRunLaws
     → CallsHaveHistory device old new
     (Submit read ∷ State (record { 0 = 1 }) ∷ State (record { 0 = 2 }) ∷ State (record { 0 = 3 }) ∷ Tell (Fatal port_0 Interface) ∷ Service ∷ Tell step ∷ Service ∷ [])
-    (said.Submitted (Ok id) ∷ said.State Absent ∷ said.State Absent ∷ said.State Absent ∷ said.Stepped true ∷ said.Replied (record { items = before }) ∷ said.Stepped true
-    ∷ said.Replied (record { items = replies }) ∷ [])
+    (Submitted (Ok id) ∷ PortStateShown Absent ∷ PortStateShown Absent ∷ PortStateShown Absent ∷ Stepped true ∷ Replied before ∷ Stepped true
+    ∷ Replied replies ∷ [])
     → replies ≡ reply ∷ [] → reply.outcome ≡ outcome.Ok → read.op ≡ Read → ServesReadAnew (server_of device old) (server_of device new) read
 unfolding served_last
 shows_a_read_anew device old new read step id before replies reply laws r only ok reads =
@@ -490,8 +494,8 @@ pub shows_a_release : {A : Type 0} (device : A → Device) (old new : ServerView
     (others : List Reply) → ShownRunLaws
     → CallsHaveHistory device old new
     (Tell (Hold port_0) ∷ Tell (Fatal port_0 HostBus) ∷ Submit request ∷ Service ∷ ClientStore client frame 0 (record { items = bytes }) ∷ Reset ∷ ClientStore client frame 0 (record { items = last_bytes }) ∷ [])
-    (said.Stepped true ∷ said.Stepped true ∷ said.Submitted (Ok id) ∷ said.Replied (record { items = replies }) ∷ said.Stored (Err FrameLent) ∷ said.WasReset (Ok (record { items = others }))
-    ∷ said.Stored (Ok tt) ∷ [])
+    (Stepped true ∷ Stepped true ∷ Submitted (Ok id) ∷ Replied replies ∷ Stored (Some FrameLent) ∷ WasReset (Some others)
+    ∷ Stored None ∷ [])
     → others ≡ [] → replies ≡ reply ∷ [] → reply.outcome ≡ outcome.PortDead → ReleasesFrame (server_of device old) (server_of device new) request frame
 shows_a_release device old new request client frame bytes last_bytes id replies reply others laws r silent only dead =
     let a = grown r in
@@ -539,8 +543,8 @@ shows_a_release device old new request client frame bytes last_bytes id replies 
       frame_is_given_back = store_done (abstract_after_all r.initial_state.abstract (events_of (f.0 ∷ past))) g.0.event client frame 0 last_bytes g.1 g.2 run.1.result_matches_steps;
     }
 
--- eight members, each by its place
-pub eight : {X : Type 0} (xs : List X) (a b c d e f g h : X) → length xs ≡ 8 → a ≡ get_or xs 0 a → b ≡ get_or xs 1 b → c ≡ get_or xs 2 c → d ≡ get_or xs 3 d → e ≡ get_or xs 4 e → f ≡ get_or xs 5 f
-    → g ≡ get_or xs 6 g → h ≡ get_or xs 7 h → xs ≡ a ∷ b ∷ c ∷ d ∷ e ∷ f ∷ g ∷ h ∷ []
-eight (k ∷ l ∷ m ∷ n ∷ o ∷ p ∷ q ∷ r ∷ []) a b c d e f g h len of_a of_b of_c of_d of_e of_f of_g of_h = cc
-eight _ a b c d e f g h len of_a of_b of_c of_d of_e of_f of_g of_h = absurd (omega (arith, len))
+-- nine members, each by its place
+pub nine : {X : Type 0} (xs : List X) (a b c d e f g h i : X) → length xs ≡ 9 → a ≡ get_or xs 0 a → b ≡ get_or xs 1 b → c ≡ get_or xs 2 c → d ≡ get_or xs 3 d → e ≡ get_or xs 4 e → f ≡ get_or xs 5 f
+    → g ≡ get_or xs 6 g → h ≡ get_or xs 7 h → i ≡ get_or xs 8 i → xs ≡ a ∷ b ∷ c ∷ d ∷ e ∷ f ∷ g ∷ h ∷ i ∷ []
+nine (k ∷ l ∷ m ∷ n ∷ o ∷ p ∷ q ∷ r ∷ s ∷ []) a b c d e f g h i len of_a of_b of_c of_d of_e of_f of_g of_h of_i = cc
+nine _ a b c d e f g h i len of_a of_b of_c of_d of_e of_f of_g of_h of_i = absurd (omega (arith, len))

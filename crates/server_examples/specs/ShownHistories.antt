@@ -12,7 +12,9 @@ use Rattle.ata_types.specs.declared.request.Outcome.{Outcome}
 use Rattle.ata_types.specs.declared.request.Outcome.TheVariants.{Ok, PortDead}
 use Rattle.adapter.specs.Device.{Device}
 use Rattle.adapter.specs.declared.access.DeviceStep.{DeviceStep}
-use Rattle.block_machine.specs.Events.{CallRecord, AbstractState, Reset, Service, EveryReadHoldsExpected, IsLawfulAnswer, IsRun, LastServiceOrResetIsStuckReset, answers_of, issues_id, abstract_after_all, replies_of, steps_of, AllEnabled}
+use Rattle.block_machine.specs.Events.{AbstractCallResult, CallRecord, AbstractState, Reset, Service, EveryReadHoldsExpected, IsLawfulAnswer, IsRun, LastServiceOrResetIsStuckReset, answers_of, issues_id, abstract_after_all, replies_of, steps_of, AllEnabled}
+use Rattle.block_machine.specs.Events as result
+use Rattle.std.specs.List.{flat_map}
 use Rattle.block_machine.specs.Confinement.{HasFrame, WasAccepted}
 use Rattle.block_machine.specs.Histories.{JointEvent, JointState, events_of, joint_state_after}
 use Rattle.block_machine.specs.Expected.{IsInitial, after}
@@ -25,27 +27,26 @@ use Rattle.identify.specs.declared.wanted.Wanted.{Wanted}
 use Rattle.machine_runs.specs.AnswerOrigins.{SubmitsAndIsGivenId, WasUnansweredBefore, CallAnswersOk, WasSubmittedAndGivenId, requeues_id}
 use Rattle.server_history.specs.Histories.{LeadsToServer, StartsHistory}
 use Rattle.server_history.specs.ServerState.{ServerState}
-use Rattle.block_server.specs.AbstractCalls.{abstract_call_of, machine_result_of}
+use Rattle.block_server.specs.AbstractCalls.{abstract_call_of}
 use Rattle.block_server.specs.ServerView.{ServerView, server_of}
-use Rattle.arrayvec.specs.ArrayVec.{ArrayVec}
 use Rattle.ata_types.specs.declared.call.Call.{Call}
-use Rattle.ata_types.specs.declared.call.CallResult.{CallResult}
-use Rattle.ata_types.specs.declared.call.CallResult.TheVariants as says
+use Rattle.block_server.specs.Said.{said_of}
+use Rattle.block_server.specs.declared.said.Said.{Said}
 
 -- A history begins with the new server, over disks that tell their sectors.
 pub record StartsToldHistory {A : Type 0} (device : A → Device) (s : ServerView A) : Type 0 where
   pub starts_history : StartsHistory (server_of device s)
   pub disks_tell_sectors : (device s.adapter).disks_tell_sectors ≡ true
 
--- These calls of a new server said this: a history leads to the server before them without calls, and with theirs to
+-- These calls of a new server had these results: a history leads to the server before them without calls, and with theirs to
 -- the server after them. It is a run, and each read that it answers Ok holds what was left.
 pub record CallsHaveHistory {A : Type 0} (device : A → Device) (old new : ServerView A) (asked : List (Call DeviceStep))
-    (said : List (CallResult (ArrayVec Reply))) : Type 0 where
+    (results : List AbstractCallResult) : Type 0 where
   pub initial_state : JointState Device
   pub history_begins : LeadsToServer initial_state [] (server_of device old)
   pub past : List (JointEvent Device DeviceStep)
   pub asks_calls : map (λ h. h.event.call) (reverse past) ≡ map abstract_call_of asked
-  pub says_results : map (λ h. h.event.result) (reverse past) ≡ map machine_result_of said
+  pub says_results : map (λ h. h.event.result) (reverse past) ≡ results
   pub history_leads_to_new : LeadsToServer initial_state past (server_of device new)
   pub is_run : IsRun initial_state.abstract (events_of past)
   pub every_read_holds : EveryReadHoldsExpected initial_state.abstract (events_of past)
@@ -91,30 +92,38 @@ pub record ReleasesFrame (old new : ServerState) (asked : Request) (frame : Fram
   pub reset_answers_none : answers_of reset.event.steps ≡ []
   pub frame_is_given_back : (joint_state_after initial_state (reset ∷ past)).abstract.machine.lent frame ≡ None
 
--- A request was accepted; the device did what it was told; and a service told one request Ok.
-abbrev pub SaysServedAtOnce : List (CallResult (ArrayVec Reply)) → Type 0
+-- What was said is what the results of these calls are said as, which have such a history.
+abbrev pub SaidHasHistory : {A : Type 0} → (A → Device) → ServerView A → ServerView A → List (Call DeviceStep)
+    → List Said → Type 0
+SaidHasHistory device old new asked said = (results : List AbstractCallResult) × (said ≡ flat_map said_of results)
+    × CallsHaveHistory device old new asked results
+
+-- A request was accepted; the device did what it was told; and a service answered one request, with Ok.
+abbrev pub SaysServedAtOnce : List Said → Type 0
 SaysServedAtOnce said = (id : RequestId) × (reply : Reply) × (reply.outcome ≡ Ok)
-    × (said ≡ says.Submitted (Done id) ∷ says.Stepped true ∷ says.Replied (record { items = reply ∷ [] }) ∷ [])
+    × (said ≡ flat_map said_of (result.Submitted (Done id) ∷ result.Stepped true ∷ result.Replied (reply ∷ []) ∷ []))
 
--- A request was accepted where three ports are absent; the device did what it was told; a service followed, the device
--- once more, and a service that told one request Ok.
-abbrev pub SaysServedAfterSecondService : List (CallResult (ArrayVec Reply)) → Type 0
-SaysServedAfterSecondService said = (id : RequestId) × (before : List Reply) × (reply : Reply) × (reply.outcome ≡ Ok)
-    × (said ≡ says.Submitted (Done id) ∷ says.State Absent ∷ says.State Absent ∷ says.State Absent ∷ says.Stepped true
-    ∷ says.Replied (record { items = before })
-    ∷ says.Stepped true ∷ says.Replied (record { items = reply ∷ [] }) ∷ [])
+-- A request was accepted, and three ports are absent; the device did what it was told; a service answered nobody; the
+-- device did once more what it was told; and a service answered one request, with Ok.
+abbrev pub SaysServedAfterSecondService : List Said → Type 0
+SaysServedAfterSecondService said = (id : RequestId) × (reply : Reply) × (reply.outcome ≡ Ok)
+    × (said ≡ flat_map said_of (result.Submitted (Done id) ∷ result.PortStateShown Absent ∷ result.PortStateShown Absent
+    ∷ result.PortStateShown Absent ∷ result.Stepped true ∷ result.Replied [] ∷ result.Stepped true
+    ∷ result.Replied (reply ∷ []) ∷ []))
 
--- The device did what it was told, twice; a request was accepted, and a service told one PortDead. A store was refused
--- since its frame is lent; and after a reset that answered nothing one was done.
-abbrev pub SaysFrameIsReleased : List (CallResult (ArrayVec Reply)) → Type 0
+-- The device did what it was told, twice; a request was accepted, and a service answered one, with PortDead. A store
+-- was refused since its frame is lent; and after a reset that answered nobody a store was done.
+abbrev pub SaysFrameIsReleased : List Said → Type 0
 SaysFrameIsReleased said = (id : RequestId) × (reply : Reply) × (reply.outcome ≡ PortDead)
-    × (said ≡ says.Stepped true ∷ says.Stepped true ∷ says.Submitted (Done id)
-    ∷ says.Replied (record { items = reply ∷ [] }) ∷ says.Stored (Err FrameLent)
-    ∷ says.WasReset (Done (record { items = [] })) ∷ says.Stored (Done tt) ∷ [])
+    × (said ≡ flat_map said_of (result.Stepped true ∷ result.Stepped true ∷ result.Submitted (Done id)
+    ∷ result.Replied (reply ∷ []) ∷ result.Stored (Some FrameLent) ∷ result.WasReset (Some [])
+    ∷ result.Stored None ∷ []))
 
--- What laws of `block_machine` and `machine_runs` say of runs, and one of `driver_history` of histories: what is shown
--- rests on them.
+-- What laws of `block_machine` and `machine_runs` say of runs, one of `driver_history` of histories, and one of
+-- `block_server` of what is said: what is shown rests on them.
 pub record ShownRunLaws : Type 0 where
+  pub said_is_unambiguous : (one other : List AbstractCallResult) → flat_map said_of one ≡ flat_map said_of other
+      → one ≡ other
   pub run_steps_are_enabled : (first : AbstractState) (run : List (CallRecord DeviceStep)) → IsRun first run
       → IsInitial first.machine × AllEnabled first.machine (steps_of run)
       × ((abstract_after_all first run).machine ≡ after first.machine (steps_of run))

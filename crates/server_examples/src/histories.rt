@@ -1,19 +1,19 @@
 //! Calls of a new server after which a history of it is proved to exist: each function makes its calls by
 //! `Server::run`, compares what they said, and answers yes where that is what was to be shown. Its contract says what
 //! is proved then; a test makes the server, and has it answer yes.
-ghost use Rattle.std.specs.Prelude.{◌≡◌, IfSome, IsTrue, List, [], ◌∷◌, Ok, Err, true};
+ghost use Rattle.std.specs.Prelude.{◌≡◌, IfSome, IsTrue, Ok, Err, true};
 ghost use Rattle.ata_types.specs.declared.request.Reply.{Reply};
-ghost use Rattle.server_examples.specs.ShownHistories.{CallsHaveHistory, SaysFrameIsReleased, SaysServedAfterSecondService, SaysServedAtOnce, ReleasesFrame, ShownRunLaws, ServesRead, ServesReadAnew, StartsToldHistory};
+ghost use Rattle.server_examples.specs.ShownHistories.{SaidHasHistory, SaysFrameIsReleased, SaysServedAfterSecondService, SaysServedAtOnce, ReleasesFrame, ShownRunLaws, ServesRead, ServesReadAnew, StartsToldHistory};
 ghost use Rattle.block_server.specs.ServerView.{server_of};
 
 use adapter::{DeviceStep, FatalError, Stepped};
 use arrayvec::ArrayVec;
 use ata_types::{
-    Call, CallResult, ClientId, Frame, MemFault, Op, Outcome, Port, PortState, Request, RequestId,
-    Slot,
+    Call, ClientId, Frame, MemFault, Op, Outcome, Port, PortState, Request, Slot,
 };
 use block_machine::laws::{law_lent_frame_is_of_accepted_request, law_run_steps_are_enabled};
-use block_server::{CallResults, Server};
+use block_server::laws::law_said_lists_are_unambiguous;
+use block_server::{Event, Said, Server};
 use driver_history::troubles::law_services_heed_shown_failures;
 use machine_runs::laws::{
     law_accepted_was_asked, law_answers_are_lawful, law_book_issue_counts_match_history,
@@ -37,94 +37,89 @@ fn law_shown_run_prerequisites()
     law_book_issue_counts_match_history();
     law_port_of_unanswered_is_ready_or_reset_stuck::<DeviceStep>();
     law_services_heed_shown_failures();
+    law_said_lists_are_unambiguous();
 }
 
-/// What calls of a new server say, one after another. None where memory for that is refused. It has the laws on runs.
-fn calls<A: Stepped>(
-    alloc: Global,
-    server: &mut Server<A>,
-    asked: &[Call<DeviceStep>],
-) -> Option<Vec<CallResult>>
+/// What calls of a new server say, one after another; `None` if memory for that is refused. It has the laws on runs.
+fn calls<A: Stepped>(alloc: Global, server: &mut Server<A>, asked: &[Event]) -> Option<Vec<Said>>
     requires { StartsToldHistory A.device server.old }
-    ensures has_run { IfSome result (λ said. CallsHaveHistory A.device server.old server.new asked.now said.items) }
+    ensures has_run { IfSome result (λ said. SaidHasHistory A.device server.old server.new asked.now said.items) }
     ensures laws { ShownRunLaws }
 {
     law_shown_run_prerequisites();
-    let mut said = CallResults::new(alloc);
+    let mut said = Vec::new(alloc);
     match server.run(asked, &mut said) {
-        Ok(()) => said.into_list().ok(),
+        Ok(()) => Some(said),
         Err(_) => None,
     }
 }
 
 /// Whether the call asks for a read.
-fn is_read(call: &Call<DeviceStep>) -> bool
+fn is_read(call: &Event) -> bool
     ensures { IsTrue result → (asked : Request) × (call.now ≡ Call.Submit asked) × (asked.op ≡ Op.Read) }
 {
     matches!(call, Call::Submit(asked) if asked.op == Op::Read)
 }
 
 /// Whether the call accepted a request.
-fn is_accepted(said: &CallResult) -> bool
-    ensures { IsTrue result → (id : RequestId) × (said.now ≡ CallResult.Submitted (Ok id)) }
+fn is_accepted(said: &Said) -> bool
+    ensures { IsTrue result → (id : RequestId) × (said.now ≡ Said.Submitted (Ok id)) }
 {
-    matches!(said, CallResult::Submitted(Ok(_)))
+    matches!(said, Said::Submitted(Ok(_)))
 }
 
-/// Whether the call told that a port is absent.
-fn is_absent(said: &CallResult) -> bool
-    ensures { IsTrue result → said.now ≡ CallResult.State PortState.Absent }
+/// Whether the call found a port absent.
+fn is_absent(said: &Said) -> bool
+    ensures { IsTrue result → said.now ≡ Said.State PortState.Absent }
 {
-    matches!(said, CallResult::State(PortState::Absent))
+    matches!(said, Said::State(PortState::Absent))
 }
 
 /// Whether the device did what it was told.
-fn is_done(said: &CallResult) -> bool
-    ensures { IsTrue result → said.now ≡ CallResult.Stepped true }
+fn is_done(said: &Said) -> bool
+    ensures { IsTrue result → said.now ≡ Said.Stepped true }
 {
-    matches!(said, CallResult::Stepped(true))
+    matches!(said, Said::Stepped(true))
 }
 
-/// Whether the call was a service or a tick.
-fn is_served(said: &CallResult) -> bool
-    ensures { IsTrue result → (replies : List Reply) × (said.now ≡ CallResult.Replied (record { items = replies })) }
+/// Whether the call was a service or a tick that answered nobody.
+fn is_quiet(said: &Said) -> bool
+    ensures { IsTrue result → said.now ≡ Said.Replied 0 }
 {
-    matches!(said, CallResult::Replied(_))
+    matches!(said, Said::Replied(0))
 }
 
-/// Whether a service or a tick told one request this outcome, and no other any.
-fn is_told(said: &CallResult, outcome: Outcome) -> bool
-    ensures { IsTrue result → (reply : Reply) × (said.now ≡ CallResult.Replied (record { items = reply ∷ [] }))
-        × (reply.outcome ≡ outcome) }
+/// Whether a service or a tick answered one request, with this outcome.
+fn is_answered(served: &Said, reply: &Said, outcome: Outcome) -> bool
+    ensures { IsTrue result → (one : Reply) × (served.now ≡ Said.Replied 1) × (reply.now ≡ Said.Reply one)
+        × (one.outcome ≡ outcome) }
 {
-    let CallResult::Replied(replies) = said else {
-        return false;
-    };
-    match replies.as_slice() {
-        [reply] => reply.outcome == outcome,
-        _ => false,
-    }
+    matches!(served, Said::Replied(1))
+        && match reply {
+            Said::Reply(one) => one.outcome == outcome,
+            _ => false,
+        }
 }
 
 /// Whether a store was refused since its frame is lent.
-fn is_refused(said: &CallResult) -> bool
-    ensures { IsTrue result → said.now ≡ CallResult.Stored (Err MemFault.FrameLent) }
+fn is_refused(said: &Said) -> bool
+    ensures { IsTrue result → said.now ≡ Said.Stored (Err MemFault.FrameLent) }
 {
-    matches!(said, CallResult::Stored(Err(MemFault::FrameLent)))
+    matches!(said, Said::Stored(Err(MemFault::FrameLent)))
 }
 
 /// Whether a store was done.
-fn is_stored(said: &CallResult) -> bool
-    ensures { IsTrue result → said.now ≡ CallResult.Stored (Ok tt) }
+fn is_stored(said: &Said) -> bool
+    ensures { IsTrue result → said.now ≡ Said.Stored (Ok tt) }
 {
-    matches!(said, CallResult::Stored(Ok(())))
+    matches!(said, Said::Stored(Ok(())))
 }
 
-/// Whether a reset ended, and answered nothing.
-fn is_reset(said: &CallResult) -> bool
-    ensures { IsTrue result → said.now ≡ CallResult.WasReset (Ok (record { items = [] })) }
+/// Whether a reset ended, and answered nobody.
+fn is_reset(said: &Said) -> bool
+    ensures { IsTrue result → said.now ≡ Said.WasReset (Ok 0) }
 {
-    matches!(said, CallResult::WasReset(Ok(replies)) if replies.is_empty())
+    matches!(said, Said::WasReset(Ok(0)))
 }
 
 /// A read is accepted, its device does all of it, and a service answers it Ok.
@@ -143,12 +138,14 @@ pub fn serves_a_read<A: Stepped>(alloc: Global, server: &mut Server<A>, read: Re
     }
 }
 
-/// Whether a request was accepted, the device did what it was told, and then one request was told Ok.
-fn is_served_at_once(said: &[CallResult]) -> bool
+/// Whether a request was accepted, the device did what it was told, and then one request was answered Ok.
+fn is_served_at_once(said: &[Said]) -> bool
     ensures { IsTrue result → SaysServedAtOnce said.now }
 {
     match said {
-        [first, done, last] => is_accepted(first) && is_done(done) && is_told(last, Outcome::Ok),
+        [first, done, served, reply] => {
+            is_accepted(first) && is_done(done) && is_answered(served, reply, Outcome::Ok)
+        }
         _ => false,
     }
 }
@@ -175,31 +172,32 @@ pub fn serves_a_read_anew<A: Stepped>(alloc: Global, server: &mut Server<A>, rea
     }
 }
 
-/// Whether a request was accepted where three other ports are absent.
-fn is_alone(first: &CallResult, one: &CallResult, two: &CallResult, three: &CallResult) -> bool
-    ensures { IsTrue result → (id : RequestId) × (first.now ≡ CallResult.Submitted (Ok id))
-        × (one.now ≡ CallResult.State PortState.Absent) × (two.now ≡ CallResult.State PortState.Absent)
-        × (three.now ≡ CallResult.State PortState.Absent) }
+/// Whether a request was accepted, and three other ports are absent.
+fn is_alone(first: &Said, one: &Said, two: &Said, three: &Said) -> bool
+    ensures { IsTrue result → (id : RequestId) × (first.now ≡ Said.Submitted (Ok id))
+        × (one.now ≡ Said.State PortState.Absent) × (two.now ≡ Said.State PortState.Absent)
+        × (three.now ≡ Said.State PortState.Absent) }
 {
     is_accepted(first) && is_absent(one) && is_absent(two) && is_absent(three)
 }
 
-/// Whether the device did something, and so once more after a service, and then one request was told Ok.
-fn is_mended(failed: &CallResult, served: &CallResult, done: &CallResult, last: &CallResult) -> bool
-    ensures { IsTrue result → (before : List Reply) × (reply : Reply) × (reply.outcome ≡ Outcome.Ok)
-        × (failed.now ≡ CallResult.Stepped true) × (served.now ≡ CallResult.Replied (record { items = before }))
-        × (done.now ≡ CallResult.Stepped true) × (last.now ≡ CallResult.Replied (record { items = reply ∷ [] })) }
+/// Whether the device did something, and so once more after a service that answered nobody.
+fn is_mended(failed: &Said, quiet: &Said, done: &Said) -> bool
+    ensures { IsTrue result → (failed.now ≡ Said.Stepped true) × (quiet.now ≡ Said.Replied 0)
+        × (done.now ≡ Said.Stepped true) }
 {
-    is_done(failed) && is_served(served) && is_done(done) && is_told(last, Outcome::Ok)
+    is_done(failed) && is_quiet(quiet) && is_done(done)
 }
 
 /// Whether all that was said in turn.
-fn is_served_anew(said: &[CallResult]) -> bool
+fn is_served_anew(said: &[Said]) -> bool
     ensures { IsTrue result → SaysServedAfterSecondService said.now }
 {
     match said {
-        [first, one, two, three, failed, served, done, last] => {
-            is_alone(first, one, two, three) && is_mended(failed, served, done, last)
+        [first, one, two, three, failed, quiet, done, served, reply] => {
+            is_alone(first, one, two, three)
+                && is_mended(failed, quiet, done)
+                && is_answered(served, reply, Outcome::Ok)
         }
         _ => false,
     }
@@ -243,17 +241,17 @@ pub fn releases_a_frame<A: Stepped>(
     }
 }
 
-/// Whether the device did two things, a request was accepted and told `PortDead`, and a store into a lent frame was
+/// Whether the device did two things, a request was accepted and answered `PortDead`, and a store into a lent frame was
 /// done only after a reset.
-fn is_released(said: &[CallResult]) -> bool
+fn is_released(said: &[Said]) -> bool
     ensures { IsTrue result → SaysFrameIsReleased said.now }
 {
     match said {
-        [held, failed, accepted, dead, refused, reset, stored] => {
+        [held, failed, accepted, served, reply, refused, reset, stored] => {
             is_done(held)
                 && is_done(failed)
                 && is_accepted(accepted)
-                && is_told(dead, Outcome::PortDead)
+                && is_answered(served, reply, Outcome::PortDead)
                 && is_refused(refused)
                 && is_reset(reset)
                 && is_stored(stored)

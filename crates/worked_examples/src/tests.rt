@@ -1,6 +1,7 @@
 // The tests, by what they are of.
 mod block_machine_calls;
 mod boots;
+mod command_lines;
 mod command_tables;
 mod disk_pages;
 mod dues_and_disks;

@@ -3,7 +3,7 @@
 use super::failing_store::OneFailureStore;
 use super::lists::image_of_numbers;
 use super::servers::{CACHED_CONFIG, QUEUED_CONFIG, UNQUEUED_CONFIG};
-use play::{Ended, PlayInputs, play};
+use play::{Ended, PlayInputs, play_script};
 use sector_store::{MemStore, SectorStore};
 use std::alloc::Global;
 use std::test::Fail;
@@ -421,7 +421,7 @@ pub fn is_told<S: SectorStore>(
         trace: false,
     };
     let mut printed = Vec::new(alloc);
-    let ended = play(alloc, inputs, &mut printed).ended;
+    let ended = play_script(alloc, inputs, &mut printed).ended;
     Ok(ended == Ended::Done && printed.as_slice() == wanted.as_str().as_bytes())
 }
 
@@ -492,7 +492,7 @@ fn a_sector_that_cannot_be_written_back_keeps_what_was_written(
             trace: false,
         };
         let mut printed = Vec::new(rt.alloc());
-        let ended = play(rt.alloc(), inputs, &mut printed).ended;
+        let ended = play_script(rt.alloc(), inputs, &mut printed).ended;
         let wanted = printed_of_losing(rt.alloc(), failing)?;
         assert_eq!(rt; ended, Ended::Done);
         assert!(rt;

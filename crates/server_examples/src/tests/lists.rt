@@ -1,9 +1,9 @@
-// What a list of calls says: a read that is asked for, done by the disk, answered, and looked at by its client.
+// What a list of events says: a read that is asked for, done by the disk, answered, and looked at by its client.
 use super::servers::{QUEUED_CONFIG, config, request};
 use adapter::DeviceStep;
 use arrayvec::ArrayVec;
-use ata_types::{Call, CallResult, ClientId, Frame, Op, Outcome, Port, Reply, RequestId, Slot};
-use block_server::{CallResults, Server};
+use ata_types::{Call, ClientId, Frame, Op, Outcome, Port, Reply, RequestId, Slot};
+use block_server::{Event, Said, Server};
 use device_model::Model;
 use play::new_model;
 use sector_store::{MemStore, SectorStore};
@@ -25,14 +25,14 @@ fn server_of_numbers(alloc: Global) -> Result<Server<Model<MemStore>>, Fail> {
     let config = config(alloc, QUEUED_CONFIG)?;
     let image = image_of_numbers(alloc, 356)?;
     let model = new_model(alloc, &config, image, MemStore::new(alloc, 0)?)?;
-    match Server::new(alloc, &config, model) {
+    match Server::new(alloc, config, model) {
         Ok(server) => Ok(server),
         Err(_) => Err(Fail::from("no server")),
     }
 }
 
 /// A look of client 1 at so many bytes of frame 76.
-fn look(offset: u32, length: u32) -> Call<DeviceStep> {
+fn look(offset: u32, length: u32) -> Event {
     Call::ClientLoad {
         client: ClientId(1),
         frame: Frame(76),
@@ -42,7 +42,7 @@ fn look(offset: u32, length: u32) -> Call<DeviceStep> {
 }
 
 /// The first calls of a read.
-fn first_calls() -> [Call<DeviceStep>; 2] {
+fn first_calls() -> [Event; 2] {
     [
         Call::Submit(request(Op::Read, 100, 8, 76, 1)),
         Call::Device(DeviceStep::Finish(Port(0), Slot(0))),
@@ -50,18 +50,19 @@ fn first_calls() -> [Call<DeviceStep>; 2] {
 }
 
 /// The others.
-fn last_calls() -> [Call<DeviceStep>; 3] {
+fn last_calls() -> [Event; 3] {
     [Call::Service, look(0, 4), look(512, 2)]
 }
 
-/// Whether the calls said what a read says; the last two, these bytes.
-fn is_of_a_read(said: &[CallResult]) -> bool {
+/// Whether the events said what a read says; the last two, these bytes.
+fn is_of_a_read(said: &[Said]) -> bool {
     let [
-        CallResult::Submitted(Ok(id)),
-        CallResult::Stepped(true),
-        CallResult::Replied(replies),
-        CallResult::Loaded(Ok(first)),
-        CallResult::Loaded(Ok(second)),
+        Said::Submitted(Ok(id)),
+        Said::Stepped(true),
+        Said::Replied(1),
+        Said::Reply(answer),
+        Said::Loaded(Ok(first)),
+        Said::Loaded(Ok(second)),
     ] = said
     else {
         return false;
@@ -72,35 +73,32 @@ fn is_of_a_read(said: &[CallResult]) -> bool {
         outcome: Outcome::Ok,
     };
     *id == RequestId(1)
-        && replies.as_slice() == [reply].as_slice()
+        && *answer == reply
         && first.as_slice() == [0x64; 4].as_slice()
         && second.as_slice() == [0x65; 2].as_slice()
 }
 
 #[test]
-fn a_list_of_calls_says_one_thing_each(rt: HostRuntime) -> Result<(), Fail> {
+fn a_list_of_events_says_what_each_says(rt: HostRuntime) -> Result<(), Fail> {
     let mut server = server_of_numbers(rt.alloc())?;
-    let mut said = CallResults::new(rt.alloc());
+    let mut said = Vec::new(rt.alloc());
     let mut ran = server.run(&first_calls(), &mut said);
     if ran.is_ok() {
         ran = server.run(&last_calls(), &mut said);
     }
     let _model = server.close();
-    let list = said.into_list()?;
     assert_eq!(rt; ran, Ok(()));
-    assert!(rt; is_of_a_read(list.as_slice()));
+    assert!(rt; is_of_a_read(said.as_slice()));
     Ok(())
 }
 
-// No more room is asked for than two calls need.
+// No more room is asked for than two such events need.
 #[test]
-fn two_calls_need_room_for_two(rt: HostRuntime) -> Result<(), Fail> {
-    let mut said = CallResults::new(rt.alloc());
-    said.reserve(2)?;
+fn two_events_need_room_for_two(rt: HostRuntime) -> Result<(), Fail> {
+    let mut said = Vec::with_capacity(rt.alloc(), 2)?;
     let mut server = server_of_numbers(rt.alloc())?;
     let ran = server.run(&first_calls(), &mut said);
     let _model = server.close();
-    let is_last = matches!(said.last(), Some(CallResult::Stepped(true)));
-    assert_eq!(rt; (ran, said.earlier().len(), is_last), (Ok(()), 1, true));
+    assert_eq!(rt; (ran, said.len(), said.capacity()), (Ok(()), 2, 2));
     Ok(())
 }

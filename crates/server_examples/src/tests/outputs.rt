@@ -1,5 +1,5 @@
 // Outputs that fail, or are interrupted, while a script is played.
-use play::{Ended, PlayInputs, play};
+use play::{Ended, PlayInputs, play_script};
 use sector_store::MemStore;
 use std::alloc::{AllocError, Global};
 use std::io;
@@ -68,7 +68,7 @@ fn ended<W: io::Write>(alloc: Global, script: &[u8], out: &mut W) -> Result<Ende
         blank,
         trace: false,
     };
-    Ok(play(alloc, inputs, out).ended)
+    Ok(play_script(alloc, inputs, out).ended)
 }
 
 // Two lines have 12 bytes.

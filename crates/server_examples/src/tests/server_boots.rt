@@ -15,7 +15,7 @@ fn state_by_page(alloc: Global, lies: [Lie; 2]) -> Result<PortState, Fail> {
     let [one, another] = lies;
     lie(&mut model, one);
     lie(&mut model, another);
-    let Ok(server) = Server::new(alloc, &config, model) else {
+    let Ok(server) = Server::new(alloc, config, model) else {
         return Err(Fail::from("no server"));
     };
     let state = server.state(Port(0));
@@ -46,7 +46,7 @@ fn a_new_server_tells_what_a_page_says(rt: HostRuntime) -> Result<(), Fail> {
 fn accesses_of_boot(alloc: Global) -> Result<u64, Fail> {
     let config = config(alloc, QUEUED_CONFIG)?;
     let watched = Watched::new(alloc, model_of(alloc, &config, 356)?)?;
-    let Ok(server) = Server::new(alloc, &config, watched) else {
+    let Ok(server) = Server::new(alloc, config, watched) else {
         return Err(Fail::from("no server"));
     };
     let count = server.adapter().accesses.len();
@@ -61,7 +61,7 @@ fn reset_released_before(alloc: Global, access: u64) -> Result<Result<(), Adapte
     let config = config(alloc, QUEUED_CONFIG)?;
     let mut model = model_of(alloc, &config, 356)?;
     model.queue_step(earlier.saturating_add(access), DeviceStep::Release(Port(0)))?;
-    let Ok(server) = Server::new(alloc, &config, model) else {
+    let Ok(server) = Server::new(alloc, config, model) else {
         return Err(Fail::from("no server"));
     };
     let mut server = server;

@@ -97,7 +97,7 @@ pub fn new_server(alloc: Global, text: &str) -> Result<Server<Model<MemStore>>, 
 {
     let config = config(alloc, text)?;
     let model = model_of(alloc, &config, 356)?;
-    match Server::new(alloc, &config, model) {
+    match Server::new(alloc, config, model) {
         Ok(server) => Ok(server),
         Err(_) => Err(Fail::from("no server")),
     }
@@ -140,7 +140,7 @@ fn served(
 ) -> Result<(Watched<Model<MemStore>>, usize), Fail> {
     let config = config(rt.alloc(), text)?;
     let watched = Watched::new(rt.alloc(), model_of(rt.alloc(), &config, 1124)?)?;
-    let Ok(server) = Server::new(rt.alloc(), &config, watched) else {
+    let Ok(server) = Server::new(rt.alloc(), config, watched) else {
         return Err(Fail::from("no server"));
     };
     let mut server = server;
@@ -358,7 +358,7 @@ fn issues(alloc: Global, text: &str, lies: [Lie; 2]) -> Result<(usize, usize), F
     let [one, another] = lies;
     lie(&mut model, one);
     lie(&mut model, another);
-    let Ok(server) = Server::new(alloc, &config, Watched::new(alloc, model)?) else {
+    let Ok(server) = Server::new(alloc, config, Watched::new(alloc, model)?) else {
         return Err(Fail::from("no server"));
     };
     let mut server = server;

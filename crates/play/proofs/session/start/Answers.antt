@@ -13,6 +13,6 @@ boxed P value (Err e) same given = tt
 
 pub returns : goal.returns
 returns g c =
-    let Started : ServerView (Model g.row.S.Denot) → Type 0 = λ server. IsNewServerOfNewModel g.S.SectorStore.size g.S.SectorStore.told c.args.config.now c.args.image c.args.blank server in
+    let Started : ServerView (Model g.row.S.Denot) → Type 0 = λ server. IsNewServerOfNewModel g.S.SectorStore.size g.S.SectorStore.told c.args.config c.args.image c.args.blank server in
     boxed Started c.in-Ok.server c.on_heap.result c.on_heap.ensures
     (record { model = c.in_ok-model.model; is_model = c.in_ok-model.ensures.is_model; is_initial_server = c.in-Ok.ensures.made })

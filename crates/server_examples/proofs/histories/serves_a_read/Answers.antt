@@ -14,7 +14,7 @@ returns-after-is_read g c = λ yes.
           let op = asks.2 in
           let reads : c.args.read.op ≡ Read = cc (is, op) in
           let told = w.is_served_at_once.ensures (sym w.result-is ∙ yes) in
-          let ran = has_said c.in-Some.ensures.has_run (sym w.deref.ensures.value ∙ told.3) in
+          let ran = has_said c.calls.ensures.laws c.in-Some.ensures.has_run (sym w.deref.ensures.value ∙ told.3) in
           shows_a_read g.A.Adapter.device c.args.server.now c.calls.new.server c.args.read _ told.0 true (told.1 ∷ []) told.1 c.calls.ensures.laws ran refl told.2 reads
       | else-is_read w ↦ absurd (true≢false (sym yes ∙ (w.result-is ∙ w.if-is_read.false)))
     ]
