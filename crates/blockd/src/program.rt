@@ -11,16 +11,19 @@ use play::{Ended, PlayInputs, play_script};
 use sector_store::{DiskStore, FileStore, MemStore, SectorStore};
 use std::alloc::{AllocError, Global};
 use std::io::{self, BufWriter};
+use thiserror::Error;
 
 /// The sectors of the blank disk.
 const BLANK_SECTORS: u32 = 2048;
 
 /// Why a file can't be had.
-#[derive(Clone, Copy, Debug, PartialEq, Eq)]
+#[derive(Clone, Copy, Debug, PartialEq, Eq, Error)]
 pub enum FileError {
     /// Memory was refused.
+    #[error("no memory")]
     NoMemory,
     /// The system doesn't give it.
+    #[error("the file can't be had")]
     Unavailable,
 }
 

@@ -8,9 +8,11 @@ use ata_types::{Refusal, Rule};
 use block_server::Said;
 use script::Answer;
 use std::io;
+use thiserror::Error;
 
 /// The output failed.
-#[derive(Clone, Copy, Debug, PartialEq, Eq)]
+#[derive(Clone, Copy, Debug, PartialEq, Eq, Error)]
+#[error("the output can't be written: {kind}")]
 pub struct Unwritten {
     /// How: of the write that failed, or `WriteZero` where one took nothing.
     pub kind: io::ErrorKind,

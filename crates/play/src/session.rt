@@ -21,6 +21,7 @@ use script::{BadLine, CallBuffer, check_script, first_line, parse_script_line};
 use sector_store::SectorStore;
 use std::alloc::{AllocFailed, Global};
 use std::{io, slice};
+use thiserror::Error;
 
 /// How a run ended.
 #[derive(Clone, Copy, Debug, PartialEq, Eq)]
@@ -51,11 +52,13 @@ pub struct PlayResult<S: SectorStore> {
 }
 
 /// Why a run stops before its script's end.
-#[derive(Clone, Copy, Debug, PartialEq, Eq)]
+#[derive(Clone, Copy, Debug, PartialEq, Eq, Error)]
 pub enum PlayError {
     /// Memory was refused, or the adapter can't go on.
+    #[error("no memory")]
     NoMemory,
     /// The output failed.
+    #[error("the output can't be written")]
     Unwritten,
 }
 
