@@ -255,11 +255,13 @@ impl<A: Adapter> Server<A> {
             age: 0,
             revoked: false,
         };
-        let table = &mut self.shared.table;
-        self.shared.book.accept(entry, r.frames.as_slice(), table);
         self.last = id.0;
-        let its = &mut self.ports[usize::from(port.0)];
-        its.issue_due(&mut self.adapter, &mut self.shared.book, port);
+        self.ports[usize::from(port.0)].submit(
+            &mut self.adapter,
+            &mut self.shared,
+            entry,
+            r.frames.as_slice(),
+        );
         id
     }
 
@@ -324,7 +326,7 @@ impl<A: Adapter> Server<A> {
             return self.fail_all(replies);
         }
         for number in 0..PORTS {
-            self.ports[number].take_service_turn(
+            self.ports[number].service(
                 &mut self.adapter,
                 &mut self.shared,
                 Port(number as u8),

@@ -1,15 +1,19 @@
 // What is due on a port is issued.
-ghost use Rattle.std.specs.{Prelude.{◌≡◌, ◌<◌, ◌≤◌, ◌/◌, ◌%◌, [], ◌∷◌, length}, List.{Contains}};
+ghost use Rattle.std.specs.{Prelude.{◌≡◌, ◌<◌, ◌≤◌, ◌/◌, ◌%◌, [], ◌∷◌, ◌++◌, All, Some, length}, List.{Contains}};
 ghost use Rattle.block_machine.specs.DueRequests.{IsDue};
 ghost use Rattle.port_driver.specs.{Issuing.{IssuesWhatIsDue, MayIssueDue}, LentSlots.{HasPortToIssue, FitsSlot, with_port_slots}};
 ghost use Rattle.commands.specs.{Issuing.{IsIssued, MayIssueTask}, Costs.{ISSUE_ACCESSES}};
-ghost use Rattle.request_queue.specs.BookEntries.{BookEntry, as_unanswered, unanswered_of, due_ids};
+ghost use Rattle.block_machine.specs.Rules.{HasNoFault};
+ghost use Rattle.dma_frames.specs.FrameTables.{OwnersAndLoans, SetsLoanOnly, lent_to, owner_of};
+ghost use Rattle.request_queue.specs.BookEntries.{BookEntry, IsNewlyAccepted, as_unanswered, entry_count_of_client, unanswered_of, due_ids};
 ghost use Rattle.server_history.specs.{IssuingAndAnswering.{IssuesTogether}, ServerState.{ServerState}};
 ghost use Rattle.adapter.specs.AccessBounds.{MakesAtMost};
 
-use crate::served_port::ServedPort;
+use crate::served_port::{ServedPort, Shared};
 use adapter::Adapter;
-use ata_types::{Frame, Op, Port, RequestId, Slot};
+use ata_types::{
+    Frame, MOST_REQUEST_FRAMES, MOST_UNANSWERED_OF_A_CLIENT, Op, Port, RequestId, Slot,
+};
 use block_machine::is_plain;
 use block_machine::laws::law_issuing_due_in_turn_leaves_none_due;
 use commands::laws::{law_batch_mask_gains_task_slot_bit, law_stored_task_extends_batch};
@@ -19,7 +23,7 @@ use host_boot::ProbeResult;
 use request_queue::laws::{
     law_an_id_is_one_request, law_book_stays_well_formed, law_unanswered_follow_book_operations,
 };
-use request_queue::{Book, DueIds};
+use request_queue::{Book, DueIds, PendingRequest};
 use server_history::laws::{
     law_a_due_request_finds_a_free_slot, law_due_requests_get_slots,
     law_resolved_errors_keep_in_call_invariant,
@@ -70,9 +74,39 @@ impl ServedPort {
         book.issue(id);
     }
 
-    /// Issues the due requests of the port, which is ready, in order of acceptance. No list of them is made where the
-    /// book has no request, or one alone.
-    pub fn issue_due<A: Adapter>(&mut self, adapter: &mut A, book: &mut Book, port: Port)
+    /// Accepts a request of the port, which is ready: it is put last into the book, and these frames are lent to it.
+    /// Then what is due on the port is issued.
+    pub fn submit<A: Adapter>(
+        &mut self,
+        adapter: &mut A,
+        shared: &mut Shared,
+        request: PendingRequest,
+        frames: &[Frame],
+    )
+        requires id_is_newest { All (λ e. e.request.id.0 < request.id.0) shared.old.book }
+        requires is_newly_accepted { IsNewlyAccepted request }
+        requires client_is_valid { (1 ≤ request.client.0) × (request.client.0 ≤ 8) }
+        requires client_has_room { entry_count_of_client shared.old.book request.client.0
+            < MOST_UNANSWERED_OF_A_CLIENT }
+        requires frames_have_no_fault_and_are_few { HasNoFault (owner_of shared.old.table.value)
+            (lent_to shared.old.table.value) request.client frames.now × (length frames.now ≤ MOST_REQUEST_FRAMES) }
+        requires may_issue_then { (table : OwnersAndLoans)
+            → SetsLoanOnly shared.old.table.value table frames.now (Some request.id)
+            → MayIssueDue A.device request.port self.old adapter.old
+            (shared.old.book ++ record { request = request; frames = frames.now } ∷ []) }
+        ensures frames_are_lent_to_request { SetsLoanOnly shared.old.table.value shared.new.table.value frames.now
+            (Some request.id) }
+        ensures issues_due { IssuesWhatIsDue A.device A.access_count request.port self.old self.new adapter.old
+            adapter.new (shared.old.book ++ record { request = request; frames = frames.now } ∷ []) shared.new.book }
+    {
+        let port = request.port;
+        shared.book.accept(request, frames, &mut shared.table);
+        self.issue_due(adapter, &mut shared.book, port);
+    }
+
+    /// Issues the due requests of the port, which is ready, in order of acceptance. No list of them is made if the book
+    /// has no request, or one alone.
+    fn issue_due<A: Adapter>(&mut self, adapter: &mut A, book: &mut Book, port: Port)
         requires { MayIssueDue A.device port self.old adapter.old book.old }
         ensures { IssuesWhatIsDue A.device A.access_count port self.old self.new adapter.old adapter.new
             book.old book.new }

@@ -5,7 +5,7 @@
 //! may be a part of: `with_served_port` is the server with the port, and what is shared, in their place.
 //!
 //! A caller has each port begin anew once its adapter was taken over (`replace_probe_result_and_free_slots`), and calls
-//! it by one number from then on. It calls `take_service_turn` in a service, and `tick` in a tick, in which requests
+//! it by one number from then on. It calls `service` in a service, and `tick` in a tick, in which requests
 //! got older before (`Book::tick`). After a reset that ended it gives back what is kept, has the adapter taken over and
 //! the port begin anew, calls `resolve_after_reset`, and then issues what is due (`issue_where_ready`). After one that
 //! got stuck it calls `note_stuck_reset`, and `resolve_after_reset` in the next service. Under a grant that is revoked

@@ -164,7 +164,7 @@ impl ServedPort {
 
     /// The port's turn in a service: a ready one is served, and another one that is served is probed. Of one that isn't
     /// served, or is dead, no access is made.
-    pub fn take_service_turn<A: Adapter>(
+    pub fn service<A: Adapter>(
         &mut self,
         adapter: &mut A,
         shared: &mut Shared,

@@ -14,8 +14,8 @@ use Rattle.block_server.proofs.server.Server.service_into.Given.{Over}
 use Rattle.block_server.proofs.server.Server.service_into.Goals as goal
 use Rattle.block_server.proofs.server.Server.service_into.Goals.{After-loop-number}
 
-pub take_service_turn-requires-clause-none_due : goal.take_service_turn-requires-clause-none_due
-take_service_turn-requires-clause-none_due g c =
+pub service-requires-clause-none_due : goal.service-requires-clause-none_due
+service-requires-clause-none_due g c =
     let device = g.A.Adapter.device in
     let v = c.loop-number.self-inside in
     let s = server_of device (server_view_of v) in (
@@ -35,14 +35,14 @@ loop-number-preserved g c =
     let first = server_of device c.args.self.now in
     let s = server_of device (server_view_of v) in
     let default = c.index-self-number.result in
-    let new = c.take_service_turn.new in
+    let new = c.service.new in
     record {
       first = so_far.first;
       turns = one_more ServicesPort ProbesUnready c.args.self.now.probe_results first s (device v.adapter) v.shared v.ports told number so_far.turns small so_far.first default (device new.adapter) new.shared new.self new.replies.items
-          (c.take_service_turn.ensures.turn s (its_part ServicesPort ProbesUnready c.args.self.now.probe_results first s (device v.adapter) v.shared v.ports told number so_far.turns small default));
-      room = c.take_service_turn.ensures.room;
+          (c.service.ensures.turn s (its_part ServicesPort ProbesUnready c.args.self.now.probe_results first s (device v.adapter) v.shared v.ports told number so_far.turns small default));
+      room = c.service.ensures.room;
       on = so_far.on;
-      cost = omega (arith, so_far.cost, c.take_service_turn.ensures.cost);
+      cost = omega (arith, so_far.cost, c.service.ensures.cost);
     }
 
 -- the ports had their turns

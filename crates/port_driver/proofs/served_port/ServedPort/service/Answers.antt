@@ -5,7 +5,7 @@ use Rattle.host_boot.specs.declared.ProbeResult.TheVariants.{Ready, Unready, Uns
 use Rattle.server_history.specs.ServerState.{ServerState}
 use Rattle.port_driver.specs.PortAndShared.{TakesTurn, ServesReadyOrProbesUnready, with_served_port}
 use Rattle.port_driver.proofs.Placing as placing
-use Rattle.port_driver.proofs.served_port.ServedPort.take_service_turn.Goals as goal
+use Rattle.port_driver.proofs.served_port.ServedPort.service.Goals as goal
 
 pub returns-in-Ready-clause-turn : goal.returns-in-Ready-clause-turn
 returns-in-Ready-clause-turn g c = λ s h.
