@@ -1,6 +1,6 @@
 //! The values of a configuration, read from the tables of a document.
 
-ghost use Rattle.std.specs.{Prelude.{◌≡◌, ℕ, Bool, List, Option, Some, None, IfOk, option_map, string_bytes}, List.{AllZip}};
+ghost use Rattle.std.specs.{Prelude.{◌≡◌, ℕ, Bool, List, Option, Some, None, IfErr, IfOk, option_map, string_bytes}, List.{AllZip}};
 ghost use Rattle.toml.specs.{Data.{Members}, View.{table_view, items_view}};
 ghost use Rattle.configuration.specs.TomlTables.{HasNumber, HasText, IsSetOrAbsent, HasTextOrIsAbsent, tables_of};
 
@@ -38,9 +38,11 @@ impl<T: Drop> From<AllocFailed<T>> for ReadFault {
     }
 }
 
+/// The number that a key has. No memory is taken.
 fn number(table: &Table, name: &str) -> Result<u64, ReadFault>
     ensures ok { IfOk result (HasNumber (table_view table.now) name.now) }
     ensures none { result ≡ Err ReadFault.NoValue → (n : ℕ) → HasNumber (table_view table.now) name.now n → ⊥ }
+    ensures wants_no_memory { IfErr result (λ fault. fault ≡ ReadFault.NoValue) }
 {
     match value_at(table, name).and_then(Value::as_integer) {
         Some(number) if number >= 0 => Ok(number as u64),
@@ -69,11 +71,12 @@ fn optional_text(alloc: Global, table: &Table, name: &str) -> Result<Option<Stri
     }
 }
 
-/// Whether a key is set; where there is none it isn't.
+/// Whether a key is set; it isn't if it isn't there. No memory is taken.
 fn is_set(table: &Table, name: &str) -> Result<bool, ReadFault>
     ensures ok { IfOk result (IsSetOrAbsent (table_view table.now) name.now) }
     ensures none { result ≡ Err ReadFault.NoValue
         → (is_set : Bool) → IsSetOrAbsent (table_view table.now) name.now is_set → ⊥ }
+    ensures wants_no_memory { IfErr result (λ fault. fault ≡ ReadFault.NoValue) }
 {
     match value_at(table, name) {
         Some(value) => value.as_bool().ok_or(ReadFault::NoValue),

@@ -1,0 +1,17 @@
+use Rattle.std.proofs.Common.{◌≡◌, ◌∙◌, ◌++◌, ◌∷◌, List, ap, map, length, arith}
+use Rattle.block_machine.specs.Events.{Replied}
+use Rattle.block_server.specs.Said.{said_of}
+use Rattle.block_server.specs.declared.said.Said.{Said}
+use Rattle.block_server.specs.declared.said.Said.TheVariants as said
+use Rattle.block_server.proofs.Wanted.{tick_wants}
+use Rattle.block_server.proofs.server.Server.say_tick.Goals as goal
+
+pub returns-clause-says : goal.returns-clause-says
+returns-clause-says g c =
+    let count = c.len.ensures.value in
+    let replies = c.as_slice.ensures.value in
+    let says = c.say_with_replies.ensures.said in
+    (Replied c.tick.result.items, c.tick.ensures.extends_history, cc (says, count, replies))
+
+pub returns-clause-wanted_is_unchanged : goal.returns-clause-wanted_is_unchanged
+returns-clause-wanted_is_unchanged g c = tick_wants g.A.Adapter.device c.args.self.now c.tick.new.self c.tick.result.items c.tick.ensures.ticks
