@@ -9,7 +9,7 @@ use Rattle.block_server.specs.declared.said.Said.{Said}
 use Rattle.block_server.specs.declared.said.Said.TheVariants as said
 
 -- so many replies are read off the front, as far as there are replies
-replies_read : ℕ → List Said → List Reply × List Said
+abbrev replies_read : ℕ → List Said → List Reply × List Said
 replies_read zero rest = ([], rest)
 replies_read (suc n) (said.Reply reply ∷ rest) = let more = replies_read n rest in (reply ∷ more.0, more.1)
 replies_read (suc n) rest = ([], rest)
@@ -19,7 +19,7 @@ replies_are_read [] rest = refl
 replies_are_read (reply ∷ replies) rest = ap (λ (more : List Reply × List Said). (reply ∷ more.0, more.1)) (replies_are_read replies rest)
 
 -- one result is read off the front, and the rest is left; of no result it is read that a step wasn't done
-result_read : List Said → AbstractCallResult × List Said
+abbrev result_read : List Said → AbstractCallResult × List Said
 result_read (said.Submitted result ∷ rest) = (Submitted result, rest)
 result_read (said.Stored (Ok done) ∷ rest) = (Stored None, rest)
 result_read (said.Stored (Err fault) ∷ rest) = (Stored (Some fault), rest)
@@ -50,18 +50,18 @@ result_is_read (Stepped done) rest = refl
 
 -- something is said of each result
 something_is_said : (result : AbstractCallResult) (rest : List Said) → (said_of result ++ rest ≡ []) → ⊥
-something_is_said (Submitted result) rest none = absurd none
-something_is_said (Stored None) rest none = absurd none
-something_is_said (Stored (Some fault)) rest none = absurd none
-something_is_said (Loaded (Ok bytes)) rest none = absurd none
-something_is_said (Loaded (Err fault)) rest none = absurd none
-something_is_said (Replied replies) rest none = absurd none
-something_is_said (WasReset (Some replies)) rest none = absurd none
-something_is_said (WasReset None) rest none = absurd none
-something_is_said (WasRevoked (Some replies)) rest none = absurd none
-something_is_said (WasRevoked None) rest none = absurd none
-something_is_said (PortStateShown state) rest none = absurd none
-something_is_said (Stepped done) rest none = absurd none
+something_is_said (Submitted result) rest none = cc
+something_is_said (Stored None) rest none = cc
+something_is_said (Stored (Some fault)) rest none = cc
+something_is_said (Loaded (Ok bytes)) rest none = cc
+something_is_said (Loaded (Err fault)) rest none = cc
+something_is_said (Replied replies) rest none = cc
+something_is_said (WasReset (Some replies)) rest none = cc
+something_is_said (WasReset None) rest none = cc
+something_is_said (WasRevoked (Some replies)) rest none = cc
+something_is_said (WasRevoked None) rest none = cc
+something_is_said (PortStateShown state) rest none = cc
+something_is_said (Stepped done) rest none = cc
 
 pub unambiguous : (one other : List AbstractCallResult) → flat_map said_of one ≡ flat_map said_of other → one ≡ other
 unambiguous [] [] same = refl

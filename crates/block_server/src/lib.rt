@@ -19,9 +19,7 @@ mod said;
 mod server;
 mod types;
 
-pub use configuration::{
-    ClientConfig, Config, ConfigFault, FaultKind, GrantConfig, PortConfig,
-};
+pub use configuration::{ClientConfig, Config, ConfigFault, FaultKind, GrantConfig, PortConfig};
 pub use said::{Event, MOST_SAID, Said};
 pub use server::Server;
 pub use types::{RunStopped, ServerError};

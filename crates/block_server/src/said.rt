@@ -1,5 +1,5 @@
 // What the events of a list are, and what they say.
-ghost use Rattle.std.specs.{Prelude.{◌≡◌, ◌+◌, ◌≤◌, ◌++◌, length, map, vec_len}, Vec.{vec_capacity}};
+ghost use Rattle.std.specs.{Prelude.{◌≡◌, ◌+◌, ◌≤◌, ◌++◌, ◌∷◌, length, map, vec_len}, Vec.{vec_capacity}};
 ghost use Rattle.block_server.specs.Said.{most_said_of};
 ghost use Rattle.block_server.specs.declared.said.Said.TheVariants.{Reply as OneReply};
 

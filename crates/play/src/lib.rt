@@ -11,4 +11,6 @@ mod printed;
 mod session;
 
 pub use model_setup::{new_model, new_model_of_disks};
-pub use session::{Ended, PlayError, PlayInputs, PlayResult, parse_inputs, play_adapter, play_script};
+pub use session::{
+    Ended, PlayError, PlayInputs, PlayResult, parse_inputs, play_adapter, play_script,
+};

@@ -202,13 +202,7 @@ fn play_line<A: TapedAdapter, W: io::Write>(
         return Err(PlayError::NoMemory);
     }
     let tape = adapter.tape();
-    let Ok(()) = set_call_text(
-        &mut room.text,
-        trace,
-        tape,
-        shown,
-        room.said.as_slice(),
-    ) else {
+    let Ok(()) = set_call_text(&mut room.text, trace, tape, shown, room.said.as_slice()) else {
         // A text in memory wants nothing but memory.
         return Err(PlayError::NoMemory);
     };

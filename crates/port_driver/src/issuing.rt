@@ -106,7 +106,7 @@ impl ServedPort {
 
     /// Issues the due requests of the port, which is ready, in order of acceptance. No list of them is made if the book
     /// has no request, or one alone.
-    fn issue_due<A: Adapter>(&mut self, adapter: &mut A, book: &mut Book, port: Port)
+    pub(crate) fn issue_due<A: Adapter>(&mut self, adapter: &mut A, book: &mut Book, port: Port)
         requires { MayIssueDue A.device port self.old adapter.old book.old }
         ensures { IssuesWhatIsDue A.device A.access_count port self.old self.new adapter.old adapter.new
             book.old book.new }

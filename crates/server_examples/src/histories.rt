@@ -8,9 +8,7 @@ ghost use Rattle.block_server.specs.ServerView.{server_of};
 
 use adapter::{DeviceStep, FatalError, Stepped};
 use arrayvec::ArrayVec;
-use ata_types::{
-    Call, ClientId, Frame, MemFault, Op, Outcome, Port, PortState, Request, Slot,
-};
+use ata_types::{Call, ClientId, Frame, MemFault, Op, Outcome, Port, PortState, Request, Slot};
 use block_machine::laws::{law_lent_frame_is_of_accepted_request, law_run_steps_are_enabled};
 use block_server::laws::law_said_lists_are_unambiguous;
 use block_server::{Event, Said, Server};
@@ -247,7 +245,16 @@ fn is_released(said: &[Said]) -> bool
     ensures { IsTrue result → SaysFrameIsReleased said.now }
 {
     match said {
-        [held, failed, accepted, served, reply, refused, reset, stored] => {
+        [
+            held,
+            failed,
+            accepted,
+            served,
+            reply,
+            refused,
+            reset,
+            stored,
+        ] => {
             is_done(held)
                 && is_done(failed)
                 && is_accepted(accepted)

@@ -64,3 +64,15 @@ returns-clause-cost g c = let all = most_taken c.loop-at.at c.args.events.now in
 
 pub returns-then-is_err-clause-cost : goal.returns-then-is_err-clause-cost
 returns-then-is_err-clause-cost g c = let all = most_taken c.loop-at.at c.args.events.now in omega (arith, all, c.loop-at.invariant.cost)
+
+pub returns-then-is_err-clause-never_stops_with_room : goal.returns-then-is_err-clause-never_stops_with_room
+returns-then-is_err-clause-never_stops_with_room g c room =
+    let below : c.loop-at.at < length c.args.events.now = omega arith in
+    let event = c.index-events-at.result in
+    let calls = ap (λ (e : Call DeviceStep). take c.loop-at.at c.args.events.now ++ e ∷ []) c.index-events-at.is ∙ sym (take_more c.args.events.now c.loop-at.at event below) in
+    let more = said_more (take c.loop-at.at c.args.events.now) event in
+    let fit : most_said_of_all (take c.loop-at.at c.args.events.now ++ event ∷ []) ≤ most_said_of_all c.args.events.now =
+    subst (λ (some : List (Call DeviceStep)). most_said_of_all some ≤ most_said_of_all c.args.events.now) (sym calls) (said_taken (c.loop-at.at + 1) c.args.events.now) in
+    let succeeds = c.reserve.ensures.succeeds (omega (arith, more, fit, c.most_said.ensures, c.loop-at.invariant.length, c.loop-at.invariant.room, room)) in
+    let fails = c.if-is_err.ensures.negation in
+    cc (succeeds, fails)

@@ -1,31 +1,61 @@
-use Rattle.std.proofs.Common.{sym, subst}
-use Rattle.block_machine.specs.Events.{PortStateShown}
-use Rattle.server_history.specs.Histories.{ExtendsHistory}
-use Rattle.block_server.specs.AbstractCalls.{abstract_call_of}
-use Rattle.block_server.specs.ServerView.{server_of}
-use Rattle.ata_types.specs.declared.call.Call.{Call}
+use Rattle.std.proofs.Common.{ℕ, ◌≡◌, ◌++◌, ◌∷◌, ◌∙◌, [], List, Ok, Err, sym, subst, ap, refl}
+use Rattle.std.specs.Prelude.{IfOk, IfErr}
+use Rattle.std.specs.declared.result.Result.{Result}
+use Rattle.arrayvec.specs.ArrayVec.{ArrayVec}
 use Rattle.adapter.specs.declared.access.DeviceStep.{DeviceStep}
-use Rattle.block_server.proofs.Wanted.{reset_wants, revoke_wants, service_wants, submit_wants, tick_wants}
-use Rattle.block_server.proofs.server.Server.make_call.Goals as goal
-
-pub returns-in-State-clause-extends_history : goal.returns-in-State-clause-extends_history
-returns-in-State-clause-extends_history g c =
-    let s = server_of g.A.Adapter.device c.args.self.now in
-    let P : Call DeviceStep → Type 0 = λ call. ExtendsHistory s s (abstract_call_of call) (PortStateShown c.state.result) in
-    subst P (sym c.in-State.is) c.state.ensures.extends_history
+use Rattle.ata_types.specs.declared.call.Call.{Call}
+use Rattle.ata_types.specs.declared.refusal.MemFault.{MemFault}
+use Rattle.block_machine.specs.Events.{AbstractCall, StoreAt, Loaded, PortStateShown, Stepped, Submitted}
+use Rattle.server_history.specs.Histories.{ExtendsHistory, store_result}
+use Rattle.server_history.specs.ServerState.{ServerState}
+use Rattle.block_server.specs.AbstractCalls.{abstract_call_of}
+use Rattle.block_server.specs.Said.{SaysResult, said_of}
+use Rattle.block_server.specs.ServerView.{server_of}
+use Rattle.block_server.specs.declared.said.Said.{Said}
+use Rattle.block_server.specs.declared.said.Said.TheVariants as said
+use Rattle.block_server.proofs.Wanted.{submit_wants}
+use Rattle.block_server.proofs.server.Server.say_event.Goals as goal
 
 pub returns-in-Submit-clause-wanted_is_unchanged : goal.returns-in-Submit-clause-wanted_is_unchanged
-returns-in-Submit-clause-wanted_is_unchanged g c = submit_wants g.A.Adapter.device c.args.self.now c.submit.new.self _ c.submit.result c.submit.ensures.submits
+returns-in-Submit-clause-wanted_is_unchanged g c = submit_wants g.A.Adapter.device c.args.self.now c.submit-result.new.self _ c.submit-result.result c.submit-result.ensures.submits
 
-pub returns-in-Service-clause-wanted_is_unchanged : goal.returns-in-Service-clause-wanted_is_unchanged
-returns-in-Service-clause-wanted_is_unchanged g c = service_wants g.A.Adapter.device c.args.self.now c.service_into.new.self c.service_into.new.replies.items c.service_into.ensures.services
+pub returns-in-Submit-clause-says : goal.returns-in-Submit-clause-says
+returns-in-Submit-clause-says g c =
+    subst (λ (event : Call DeviceStep). SaysResult (server_of g.A.Adapter.device c.args.self.now) (server_of g.A.Adapter.device c.submit-result.new.self) (abstract_call_of event) c.args.out.now.items c.push_reserved.new.self.items) (sym c.in-Submit.is)
+    (Submitted c.submit-result.result, c.submit-result.ensures.extends_history, c.push_reserved.ensures.items)
 
-pub returns-in-Tick-clause-wanted_is_unchanged : goal.returns-in-Tick-clause-wanted_is_unchanged
-returns-in-Tick-clause-wanted_is_unchanged g c = tick_wants g.A.Adapter.device c.args.self.now c.tick_into.new.self c.tick_into.new.replies.items c.tick_into.ensures.ticks
+stored_says : (result : Result (Unit {0}) MemFault) → said.Stored result ∷ [] ≡ said_of (store_result result)
+stored_says (Ok done) = refl
+stored_says (Err fault) = refl
 
-pub returns-in-Reset-clause-wanted_is_unchanged : goal.returns-in-Reset-clause-wanted_is_unchanged
-returns-in-Reset-clause-wanted_is_unchanged g c = reset_wants g.A.Adapter.device c.args.self.now c.reset_into.new.self c.reset_into.new.replies.items c.reset_into.result c.reset_into.ensures.resets
+pub returns-in-ClientStore-clause-says : goal.returns-in-ClientStore-clause-says
+returns-in-ClientStore-clause-says g c =
+    let old = server_of g.A.Adapter.device c.args.self.now in
+    let new = server_of g.A.Adapter.device c.client_store-result.new.self in
+    subst (λ (event : Call DeviceStep). SaysResult (server_of g.A.Adapter.device c.args.self.now) (server_of g.A.Adapter.device c.client_store-result.new.self) (abstract_call_of event) c.args.out.now.items c.push_reserved-in-ClientStore.new.self.items) (sym c.in-ClientStore.is) (
+      store_result c.client_store-result.result,
+      subst (λ (bytes : List ℕ). ExtendsHistory old new (StoreAt c.in-ClientStore.client c.in-ClientStore.frame c.in-ClientStore.offset bytes) (store_result c.client_store-result.result)) c.as_slice.ensures.value c.client_store-result.ensures.extends_history,
+      c.push_reserved-in-ClientStore.ensures.items ∙ ap (λ (l : List Said). c.args.out.now.items ++ l) (stored_says c.client_store-result.result),
+    )
 
-pub returns-in-Revoke-clause-wanted_is_unchanged : goal.returns-in-Revoke-clause-wanted_is_unchanged
-returns-in-Revoke-clause-wanted_is_unchanged g c =
-    revoke_wants g.A.Adapter.device c.args.self.now c.revoke_into.new.self _ _ c.revoke_into.new.replies.items c.revoke_into.result c.revoke_into.ensures.revokes
+loaded_says : (old new : ServerState) (asked : AbstractCall DeviceStep) (before after : List Said) (result : Result (ArrayVec ℕ) MemFault)
+    → IfOk result (λ bytes. ExtendsHistory old new asked (Loaded (Ok bytes.items))) → IfErr result (λ fault. ExtendsHistory old new asked (Loaded (Err fault)))
+    → after ≡ before ++ said.Loaded result ∷ [] → SaysResult old new asked before after
+loaded_says old new asked before after (Ok bytes) ok err is = (Loaded (Ok bytes.items), ok, is)
+loaded_says old new asked before after (Err fault) ok err is = (Loaded (Err fault), err, is)
+
+pub returns-in-ClientLoad-clause-says : goal.returns-in-ClientLoad-clause-says
+returns-in-ClientLoad-clause-says g c =
+    subst (λ (event : Call DeviceStep). SaysResult (server_of g.A.Adapter.device c.args.self.now) (server_of g.A.Adapter.device c.load_few-result.new.self) (abstract_call_of event) c.args.out.now.items c.push_reserved-in-ClientLoad.new.self.items) (sym c.in-ClientLoad.is)
+    (loaded_says (server_of g.A.Adapter.device c.args.self.now) (server_of g.A.Adapter.device c.load_few-result.new.self) _ c.args.out.now.items c.push_reserved-in-ClientLoad.new.self.items
+    c.load_few-result.result c.load_few-result.ensures.loaded c.load_few-result.ensures.refused c.push_reserved-in-ClientLoad.ensures.items)
+
+pub returns-in-State-clause-says : goal.returns-in-State-clause-says
+returns-in-State-clause-says g c =
+    subst (λ (event : Call DeviceStep). SaysResult (server_of g.A.Adapter.device c.args.self.now) (server_of g.A.Adapter.device c.args.self.now) (abstract_call_of event) c.args.out.now.items c.push_reserved-in-State.new.self.items) (sym c.in-State.is)
+    (PortStateShown c.state.result, c.state.ensures.extends_history, c.push_reserved-in-State.ensures.items)
+
+pub returns-in-Device-clause-says : goal.returns-in-Device-clause-says
+returns-in-Device-clause-says g c =
+    subst (λ (event : Call DeviceStep). SaysResult (server_of g.A.Adapter.device c.args.self.now) (server_of g.A.Adapter.device c.device.new.self) (abstract_call_of event) c.args.out.now.items c.push_reserved-in-Device.new.self.items) (sym c.in-Device.is)
+    (Stepped c.device.result, c.device.ensures.extends_history, c.push_reserved-in-Device.ensures.items)
