@@ -1,8 +1,8 @@
 #!/usr/bin/env python3
-"""Checks that what the documents name is there: each definition of docs/DEFINITIONS.md in its file, each path, each file
-and heading that a link leads to, and each name in backticks somewhere in the crates or scripts; that no name is defined
-in two crates; and that README.md names the logic of the toolchain that is installed. The last line is 'N passed, M
-failed', of documents, of all definitions together, and of the toolchain.
+"""Checks that what the documents name is there: each definition of docs/DEFINITIONS.md in its file, each path, each
+file and heading that a link leads to, and each name in backticks somewhere in the crates or scripts; that no name is
+defined in two crates; and that README.md names the logic of the toolchain that is installed. The last line is 'N
+passed, M failed', of documents, of all definitions together, and of the toolchain.
 """
 import collections
 import glob
