@@ -1,7 +1,6 @@
 #!/usr/bin/env bash
-# Runs the built program as people do: on the examples in docs/FORMATS.md and on the cases in examples/cases. BLOCKD
-# names the program that is run; without it, it is crates/blockd/out/blockd, which is built anew where it is older than
-# a source.
+# Runs the built program as people do: on the sessions in documents and on the cases in examples/cases. BLOCKD names the
+# program that is run; without it, it is crates/blockd/out/blockd, which is built anew where it is older than a source.
 set -euo pipefail
 cd "$(dirname "$0")/.."
 blockd=${BLOCKD:-crates/blockd/out/blockd}
@@ -18,4 +17,5 @@ scripts/changing_images.sh
 scripts/limited_runs.sh
 scripts/lying_pages.sh
 scripts/terminal_run.py "$blockd"
-exec scripts/run_cases.py "$blockd" docs/FORMATS.md examples/cases/*.{session,bad-lines,configurations}
+exec scripts/run_cases.py "$blockd" README.md docs/{FORMATS,TUTORIAL}.md \
+    examples/cases/*.{session,bad-lines,configurations}

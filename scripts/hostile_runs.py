@@ -411,7 +411,7 @@ def compiled(scratch):
 def parts(has_compiler):
     """The parts of the sweeps: the name of each sweep, and what it is given."""
     sessions = [case for case in cases_of("*.session") if case.answers and case.status == 0]
-    sessions += [case for case in run_cases.formats(ROOT / "docs/FORMATS.md") if case.answers and case.status == 0]
+    sessions += [case for case in run_cases.document(ROOT / "docs/FORMATS.md") if case.answers and case.status == 0]
     # (sessions of thousands of lines show nothing that shorter ones don't)
     short = [case for case in sessions if len(case.script) < 4000]
     if has_compiler:

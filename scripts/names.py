@@ -1,8 +1,8 @@
 #!/usr/bin/env python3
-"""Checks that what the documents name is there: each definition of docs/DEFINITIONS.md in its file, each path, and each
-name in backticks somewhere in the crates or scripts; that no name is defined in two crates; and that README.md names
-the logic of the toolchain that is installed. The last line is 'N passed, M failed', of documents, of all definitions
-together, and of the toolchain.
+"""Checks that what the documents name is there: each definition of docs/DEFINITIONS.md in its file, each path, each
+file and heading that a link leads to, and each name in backticks somewhere in the crates or scripts; that no name is
+defined in two crates; and that README.md names the logic of the toolchain that is installed. The last line is 'N
+passed, M failed', of documents, of all definitions together, and of the toolchain.
 """
 import collections
 import glob
@@ -21,6 +21,7 @@ CODE = (".rt", ".rs", ".antt", ".py", ".sh", ".toml", ".script", ".edit")
 MADE = re.compile(r"out/|/NAME|NAME\b|FILE|CRATE")
 PATH = re.compile(r"(?:crates|scripts|examples|bench|docs|src|specs|proofs)/[\w./+-]*[\w/+]")
 NAME = re.compile(r"[A-Za-z_]\w*(?:(?:::|\.)[A-Za-z_]\w*)*")
+LINK = re.compile(r"\]\(([^)\s]+)\)")
 
 
 def read(path):
@@ -65,10 +66,35 @@ def lacking_definitions(text):
             yield None
 
 
+def prose(document):
+    """The text of a document without its blocks of code."""
+    return re.sub(r"^```.*?^```$", "", read(document), flags=re.S | re.M)
+
+
+def headings(document):
+    """The headings of a document, as links name them."""
+    titles = re.findall(r"^#+ (.+)$", prose(document), re.M)
+    return {re.sub(r"[^\w -]", "", it.lower()).replace(" ", "-") for it in titles}
+
+
+def lacking_links(document):
+    """Of each link to a place in the repository what is wrong with it, if anything is."""
+    for target in LINK.findall(prose(document)):
+        file, _, heading = target.partition("#")
+        path = os.path.normpath(os.path.join(os.path.dirname(document), file)) if file else document
+        if "://" in target:
+            continue
+        if not os.path.exists(f"{ROOT}/{path}"):
+            yield f"{document}: there is no {path}"
+        elif heading and heading not in headings(path):
+            yield f"{document}: {path} has no heading {heading}"
+        else:
+            yield None
+
+
 def lacking_names(document, known):
     """Of each path and each name in backticks what is wrong with it, if anything is."""
-    text = re.sub(r"^```.*?^```$", "", read(document), flags=re.S | re.M)
-    for word in sorted({*re.findall(r"`([^`\n]+)`", text)}):
+    for word in sorted({*re.findall(r"`([^`\n]+)`", prose(document))}):
         if MADE.search(word):
             continue
         if PATH.fullmatch(word) and word.startswith(PLACES):
@@ -100,7 +126,7 @@ def other_logic():
 def main():
     known, passed = words(), 0
     for document in DOCUMENTS:
-        told = [*lacking_names(document, known)]
+        told = [*lacking_names(document, known), *lacking_links(document)]
         if document == "docs/DEFINITIONS.md":
             told += lacking_definitions(read(document))
         for line in filter(None, told):

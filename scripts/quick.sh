@@ -26,7 +26,8 @@ trap 'kill $(jobs -p) 2>/dev/null || true; rm -rf "$scratch"' EXIT
 # Plays all cases by a program that is built without proofs.
 play_cases() {
     scripts/compile_unproved.py blockd "$scratch/blockd" &&
-        scripts/run_cases.py "$scratch/blockd" docs/FORMATS.md examples/cases/*.{session,bad-lines,configurations}
+        scripts/run_cases.py "$scratch/blockd" README.md docs/{FORMATS,TUTORIAL}.md \
+            examples/cases/*.{session,bad-lines,configurations}
 }
 
 play_cases >"$scratch/played" 2>&1 &

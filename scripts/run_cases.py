@@ -1,9 +1,9 @@
 #!/usr/bin/env python3
 """Plays cases by a built blockd, each in a run of its own, and compares what comes of it with what is wanted.
 
-`run_cases.py PROGRAM FILE..`: the files are docs/FORMATS.md and those of examples/cases, whose README.md says how they
-are written. A case that comes out otherwise is told with its file and line, what was wanted and what was given; the
-status is 0 where none does.
+`run_cases.py PROGRAM FILE..`: the files are documents with sessions, and those of examples/cases, whose README.md says
+how they are written. A case that comes out otherwise is told with its file and line, what was wanted and what was
+given; the status is 0 where none does.
 """
 import concurrent.futures
 import dataclasses
@@ -186,17 +186,19 @@ def configurations(file):
             yield port_after_fault(dataclasses.replace(case, script=b"no line\n"), 1, f"config {int(kind)}")
 
 
-def formats(file):
-    """The sessions in docs/FORMATS.md, each over the configuration there and an image of 256 sectors."""
+def document(file):
+    """The sessions in a document, each over an image of 256 sectors and the document's one configuration, or, if it has
+    none, that of examples/blockd.toml. A session may begin with lines of a head."""
     text = file.read_text(encoding="utf-8")
-    (configuration,) = re.findall("^```toml\n(.*?)^```$", text, re.DOTALL | re.MULTILINE)
+    own = re.findall("^```toml\n(.*?)^```$", text, re.DOTALL | re.MULTILINE)
+    (configuration,) = [it.encode() for it in own] or [given("blockd.toml")]
     for found in re.finditer("^```session\n(.*?)^```$", text, re.DOTALL | re.MULTILINE):
         line = text.count("\n", 0, found.start()) + 1
-        case = Case(f"{file.name}:{line}: an example", configuration.encode(), image="256 sectors", written=None)
+        case = Case(f"{file.name}:{line}: an example", configuration, image="256 sectors", written=None)
         yield session(case, found[1].splitlines())
 
 
-READERS = {".session": sessions, ".bad-lines": bad_lines, ".configurations": configurations, ".md": formats}
+READERS = {".session": sessions, ".bad-lines": bad_lines, ".configurations": configurations, ".md": document}
 
 
 def fresh(size):
