@@ -84,6 +84,7 @@ def parts(processors):
     yield Part("layout", ["scripts/layout.py"])
     yield Part("crates", ["scripts/crates_table.py"])
     yield Part("believed", ["scripts/believed.py", "--check"])
+    yield Part("excerpts", ["scripts/excerpts.py"])
     for crate in toolchain.crates():
         folder = f"{crate.folder}/edits"
         edits = [it for it in os.listdir(folder) if it.endswith(".edit")] if os.path.isdir(folder) else []
