@@ -109,8 +109,8 @@ Simulates device old new calls said = (first : JointState Device) (past : List
     (JointEvent Device DeviceStep))
     → LeadsToServer first past (server_of device old) → KeepsPromise device first past old new calls said
 
--- Behind what had been said stands what these events said: of each call's result what it is said as, in their order. And
--- the calls with these results keep the promise.
+-- Behind what had been said stands what these events say: what the result of each is said as, in their order. And the
+-- calls with these results keep the promise.
 pub record RunsAsPromised {A : Type 0} (device : A → Device) (old new : ServerView A) (events : List (Call DeviceStep))
     (before after : List Said) : Type 0 where
   pub results : List AbstractCallResult

@@ -25,10 +25,12 @@ impl<A: Adapter> Server<A> {
         offset: u32,
         count: u32,
     ) -> Result<ArrayVec<u8, MOST_CALL_BYTES>, MemFault>
-        ensures loaded { IfOk result (λ bytes. ExtendsHistory (server_of A.device self.old) (server_of A.device self.new)
-            (LoadAt client frame offset (min count MOST_CALL_BYTES)) (Loaded (Ok bytes.items))) }
-        ensures refused { IfErr result (λ fault. ExtendsHistory (server_of A.device self.old) (server_of A.device
-            self.new) (LoadAt client frame offset (min count MOST_CALL_BYTES)) (Loaded (Err fault))) }
+        ensures loaded { IfOk result (λ bytes. ExtendsHistory (server_of A.device self.old)
+            (server_of A.device self.new) (LoadAt client frame offset (min count MOST_CALL_BYTES))
+            (Loaded (Ok bytes.items))) }
+        ensures refused { IfErr result (λ fault. ExtendsHistory (server_of A.device self.old)
+            (server_of A.device self.new) (LoadAt client frame offset (min count MOST_CALL_BYTES))
+            (Loaded (Err fault))) }
         ensures wanted_is_unchanged { self.new.wanted ≡ self.old.wanted }
         ensures cost { MakesAtMost 1 (A.access_count self.old.adapter) (A.access_count self.new.adapter) }
     {
@@ -121,8 +123,8 @@ impl<A: Stepped> Server<A> {
     /// Does what the event asks, and says what it says at the end of `out`, which has room for that.
     fn say_event(&mut self, event: &Event, out: &mut Vec<Said>)
         requires { vec_len out.old + most_said_of event.now ≤ vec_capacity out.old }
-        ensures says { SaysResult (server_of A.device self.old) (server_of A.device self.new) (abstract_call_of event.now)
-            out.old.items out.new.items }
+        ensures says { SaysResult (server_of A.device self.old) (server_of A.device self.new)
+            (abstract_call_of event.now) out.old.items out.new.items }
         ensures wanted_is_unchanged { self.new.wanted ≡ self.old.wanted }
         ensures len { vec_len out.new ≤ vec_len out.old + most_said_of event.now }
         ensures capacity { vec_capacity out.new ≡ vec_capacity out.old }

@@ -38,8 +38,8 @@ pub record StartsToldHistory {A : Type 0} (device : A → Device) (s : ServerVie
   pub starts_history : StartsHistory (server_of device s)
   pub disks_tell_sectors : (device s.adapter).disks_tell_sectors ≡ true
 
--- These calls of a new server had these results: a history leads to the server before them without calls, and with theirs to
--- the server after them. It is a run, and each read that it answers Ok holds what was left.
+-- These calls of a new server had these results: a history leads to the server before them without calls, and with
+-- theirs to the server after them. It is a run, and each read that it answers Ok holds what was left.
 pub record CallsHaveHistory {A : Type 0} (device : A → Device) (old new : ServerView A) (asked : List (Call DeviceStep))
     (results : List AbstractCallResult) : Type 0 where
   pub initial_state : JointState Device
