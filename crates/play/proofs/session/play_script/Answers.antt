@@ -26,8 +26,8 @@ returns-in-Ok-performed g c =
       ran.1,
     )
 
-pub returns : goal.returns
-returns g c =
+pub returns-in-Err-performed : goal.returns-in-Err-performed
+returns-in-Err-performed g c =
     let ran = c.in-Err-performed.ensures in
     let Started : ServerView (Model g.row.S.Denot) → Type 0 = λ server. IsNewServerOfNewModel g.S.SectorStore.size g.S.SectorStore.told c.in-Ok.values c.args.inputs.image c.args.inputs.blank server in
     let left : c.close_server.result ≡ c.play_lines-performed.new.server.adapter = c.close_server.ensures in
