@@ -1,5 +1,5 @@
 -- What calls of a new server show, by what they said.
-use Rattle.std.proofs.Common.{◌≡◌, ℕ, ◌+◌, ◌<◌, ◌≤◌, zero, suc, Bool, true, false, cond, ◌||◌, List, [], ◌∷◌, ◌++◌, length, get_or, Option, Some, None, Ok, Err, inl, ⊎_elim, refl, sym, ap, ◌∙◌, subst, arith, rules}
+use Rattle.std.proofs.Common.{flat_map, ◌≡◌, ℕ, ◌+◌, ◌<◌, ◌≤◌, zero, suc, Bool, true, false, cond, ◌||◌, List, [], ◌∷◌, ◌++◌, length, get_or, Option, Some, None, Ok, Err, inl, ⊎_elim, refl, sym, ap, ◌∙◌, subst, arith, rules}
 use Rattle.std.specs.Prelude.{IsSome, map, reverse}
 use Rattle.std.specs.List.{Contains, count_by, list_any}
 use Rattle.std.proofs.lemmas.Bool.{cases_Bool, false≢true}
@@ -542,6 +542,12 @@ shows_a_release device old new request client frame bytes last_bytes id replies 
       reset_answers_none = released.1;
       frame_is_given_back = store_done (abstract_after_all r.initial_state.abstract (events_of (f.0 ∷ past))) g.0.event client frame 0 last_bytes g.1 g.2 run.1.result_matches_steps;
     }
+
+-- eight members, each by its place
+pub eight : {X : Type 0} (xs : List X) (a b c d e f g h : X) → length xs ≡ 8 → a ≡ get_or xs 0 a → b ≡ get_or xs 1 b → c ≡ get_or xs 2 c → d ≡ get_or xs 3 d → e ≡ get_or xs 4 e → f ≡ get_or xs 5 f
+    → g ≡ get_or xs 6 g → h ≡ get_or xs 7 h → xs ≡ a ∷ b ∷ c ∷ d ∷ e ∷ f ∷ g ∷ h ∷ []
+eight (k ∷ l ∷ m ∷ n ∷ o ∷ p ∷ q ∷ r ∷ []) a b c d e f g h len of_a of_b of_c of_d of_e of_f of_g of_h = cc
+eight _ a b c d e f g h len of_a of_b of_c of_d of_e of_f of_g of_h = absurd (omega (arith, len))
 
 -- nine members, each by its place
 pub nine : {X : Type 0} (xs : List X) (a b c d e f g h i : X) → length xs ≡ 9 → a ≡ get_or xs 0 a → b ≡ get_or xs 1 b → c ≡ get_or xs 2 c → d ≡ get_or xs 3 d → e ≡ get_or xs 4 e → f ≡ get_or xs 5 f

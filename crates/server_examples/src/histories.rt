@@ -2,7 +2,7 @@
 //! `Server::run`, compares what they said, and answers yes where that is what was to be shown. Its contract says what
 //! is proved then; a test makes the server, and has it answer yes.
 ghost use Rattle.std.specs.Prelude.{◌≡◌, IfSome, IsTrue, Ok, Err, true};
-ghost use Rattle.ata_types.specs.declared.request.Reply.{Reply};
+ghost use Rattle.ata_types.specs.declared.request.{Reply.{Reply}, RequestId.{RequestId}};
 ghost use Rattle.server_examples.specs.ShownHistories.{SaidHasHistory, SaysFrameIsReleased, SaysServedAfterSecondService, SaysServedAtOnce, ReleasesFrame, ShownRunLaws, ServesRead, ServesReadAnew, StartsToldHistory};
 ghost use Rattle.block_server.specs.ServerView.{server_of};
 
@@ -179,12 +179,14 @@ fn is_alone(first: &Said, one: &Said, two: &Said, three: &Said) -> bool
     is_accepted(first) && is_absent(one) && is_absent(two) && is_absent(three)
 }
 
-/// Whether the device did something, and so once more after a service that answered nobody.
-fn is_mended(failed: &Said, quiet: &Said, done: &Said) -> bool
-    ensures { IsTrue result → (failed.now ≡ Said.Stepped true) × (quiet.now ≡ Said.Replied 0)
-        × (done.now ≡ Said.Stepped true) }
+/// Whether the device did something, and so once more after a service that answered nobody, and the next service
+/// answered one request, with Ok.
+fn is_mended(failed: &Said, quiet: &Said, done: &Said, served: &Said, reply: &Said) -> bool
+    ensures { IsTrue result → (one : Reply) × (one.outcome ≡ Outcome.Ok) × (failed.now ≡ Said.Stepped true)
+        × (quiet.now ≡ Said.Replied 0) × (done.now ≡ Said.Stepped true) × (served.now ≡ Said.Replied 1)
+        × (reply.now ≡ Said.Reply one) }
 {
-    is_done(failed) && is_quiet(quiet) && is_done(done)
+    is_done(failed) && is_quiet(quiet) && is_done(done) && is_answered(served, reply, Outcome::Ok)
 }
 
 /// Whether all that was said in turn.
@@ -193,9 +195,7 @@ fn is_served_anew(said: &[Said]) -> bool
 {
     match said {
         [first, one, two, three, failed, quiet, done, served, reply] => {
-            is_alone(first, one, two, three)
-                && is_mended(failed, quiet, done)
-                && is_answered(served, reply, Outcome::Ok)
+            is_alone(first, one, two, three) && is_mended(failed, quiet, done, served, reply)
         }
         _ => false,
     }
@@ -239,8 +239,27 @@ pub fn releases_a_frame<A: Stepped>(
     }
 }
 
-/// Whether the device did two things, a request was accepted and answered `PortDead`, and a store into a lent frame was
-/// done only after a reset.
+/// Whether the device did two things, and then a request was accepted and answered `PortDead`.
+fn is_stuck(held: &Said, failed: &Said, accepted: &Said, served: &Said, reply: &Said) -> bool
+    ensures { IsTrue result → (id : RequestId) × (one : Reply) × (one.outcome ≡ Outcome.PortDead)
+        × (held.now ≡ Said.Stepped true) × (failed.now ≡ Said.Stepped true)
+        × (accepted.now ≡ Said.Submitted (Ok id)) × (served.now ≡ Said.Replied 1) × (reply.now ≡ Said.Reply one) }
+{
+    is_done(held)
+        && is_done(failed)
+        && is_accepted(accepted)
+        && is_answered(served, reply, Outcome::PortDead)
+}
+
+/// Whether a store into a lent frame was done only after a reset.
+fn is_freed(refused: &Said, reset: &Said, stored: &Said) -> bool
+    ensures { IsTrue result → (refused.now ≡ Said.Stored (Err MemFault.FrameLent)) × (reset.now ≡ Said.WasReset (Ok 0))
+        × (stored.now ≡ Said.Stored (Ok tt)) }
+{
+    is_refused(refused) && is_reset(reset) && is_stored(stored)
+}
+
+/// Whether all that was said in turn.
 fn is_released(said: &[Said]) -> bool
     ensures { IsTrue result → SaysFrameIsReleased said.now }
 {
@@ -254,15 +273,7 @@ fn is_released(said: &[Said]) -> bool
             refused,
             reset,
             stored,
-        ] => {
-            is_done(held)
-                && is_done(failed)
-                && is_accepted(accepted)
-                && is_answered(served, reply, Outcome::PortDead)
-                && is_refused(refused)
-                && is_reset(reset)
-                && is_stored(stored)
-        }
+        ] => { is_stuck(held, failed, accepted, served, reply) && is_freed(refused, reset, stored) }
         _ => false,
     }
 }
