@@ -10,7 +10,7 @@ use command_line::Args;
 use play::{Ended, PlayInputs, play_script};
 use sector_store::{DiskStore, FileStore, MemStore, SectorStore};
 use std::alloc::{AllocError, Global};
-use std::io::{self, BufWriter};
+use std::io::{self, BufWriter, Write};
 use thiserror::Error;
 
 /// The sectors of the blank disk.
