@@ -44,9 +44,7 @@ use Rattle.block_server.specs.InitialServer.{IsInitialServer}
 use Rattle.block_server.specs.Promise.{GoesWellForPortAndClients, RevokesWaitingOrAnswersEndedOk, Simulates, ServesPorts}
 use Rattle.block_server.specs.AbstractCalls.{abstract_call_of}
 use Rattle.block_server.specs.ServerView.{ServerView, server_of, observed_state_of}
-use Rattle.arrayvec.specs.ArrayVec.{ArrayVec}
 use Rattle.ata_types.specs.declared.call.Call.{Call}
-use Rattle.ata_types.specs.declared.request.Reply.{Reply}
 
 -- What the laws of histories say, each of every history.
 pub record HistoryLaws : Type 0 where

@@ -1,7 +1,6 @@
 use Rattle.std.proofs.Common.{◌≡◌, ◌∙◌, refl, ap, sym, false}
 use Rattle.std.proofs.lemmas.Bool.{false≢true}
 use Rattle.block_server.specs.Said.{said_of}
-use Rattle.block_server.specs.declared.said.Said.{Said}
 use Rattle.play.specs.PrintedText.{call_text}
 use Rattle.play.proofs.Printing.{appends_none, part_of}
 use Rattle.play.proofs.session.play_line.Goals as goal

@@ -15,7 +15,6 @@ use Rattle.port_driver.specs.PortAndShared.{HasPortAt}
 use Rattle.block_server.specs.FourPorts.{by_port}
 use Rattle.port_driver.specs.LentSlots.{HasPortToIssue, with_port_slots}
 use Rattle.port_driver.specs.declared.served_port.ServedPort.{ServedPort}
-use Rattle.port_driver.specs.declared.served_port.Shared.{Shared}
 use Rattle.block_server.proofs.Placing as placing
 use Rattle.block_server.specs.ServerFieldsView.{server_view_of}
 use Rattle.block_server.specs.ServerView.{ServerView, server_of}

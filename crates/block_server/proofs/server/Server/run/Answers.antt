@@ -1,8 +1,7 @@
-use Rattle.std.proofs.Common.{◌<◌, ◌≤◌, vec_len, ◌≡◌, ◌+◌, ◌++◌, ◌∷◌, List, sym, ◌∙◌, ap, subst, [], append_assoc, append-nil, length, length-append, take, arith, refl, rules}
+use Rattle.std.proofs.Common.{◌<◌, ◌≤◌, vec_len, ◌≡◌, ◌+◌, ◌++◌, ◌∷◌, List, sym, ◌∙◌, ap, subst, [], append_assoc, append-nil, length, length-append, take, arith, refl}
 use Rattle.std.proofs.lemmas.List.{take_all, take_more}
 use Rattle.std.specs.List.{flat_map}
 use Rattle.adapter.specs.AccessBounds.{MakesAtMost}
-use Rattle.block_machine.specs.Events.{AbstractCallResult}
 use Rattle.block_server.specs.Costs.{most_accesses_of_all}
 use Rattle.block_server.specs.Said.{said_of, most_said_of_all}
 use Rattle.block_server.specs.declared.said.Said.{Said}

@@ -1,8 +1,4 @@
-use Rattle.std.proofs.Common.{◌≡◌, ◌∙◌, ◌++◌, ◌∷◌, List, ap, map, length, arith}
 use Rattle.block_machine.specs.Events.{Replied}
-use Rattle.block_server.specs.Said.{said_of}
-use Rattle.block_server.specs.declared.said.Said.{Said}
-use Rattle.block_server.specs.declared.said.Said.TheVariants as said
 use Rattle.block_server.proofs.Wanted.{tick_wants}
 use Rattle.block_server.proofs.server.Server.say_tick.Goals as goal
 

@@ -1,6 +1,4 @@
-use Rattle.std.proofs.Common.{◌≡◌, ◌∙◌, ◌++◌, ◌∷◌, [], List, sym, subst}
-use Rattle.std.specs.Prelude.{Some}
-use Rattle.dma_frames.specs.FrameTables.{OwnersAndLoans, SetsLoanOnly}
+use Rattle.std.proofs.Common.{List, sym, subst}
 use Rattle.request_queue.specs.BookEntries.{BookEntry}
 use Rattle.port_driver.specs.Issuing.{IssuesWhatIsDue, MayIssueDue}
 use Rattle.port_driver.proofs.served_port.ServedPort.submit.Goals as goal
