@@ -6,26 +6,17 @@
 //! 0 on, which hold the same sectors as the adapter's own. What the lines answer is printed. Where
 //! the two stray, the access is told on standard error, and the run ends.
 //!
-//! `followed` is the model beside another adapter, its peer: each access is made on both. Of the peer nothing is known.
-//! What it answers only chooses among the steps that the model may do, and what is answered is the model's own answer:
-//! so what holds of a server over the model holds over this. Once the two don't agree, no further access is made on the
-//! peer. (`qtest_peer` reaches it by lines of text, and `differences` has those that are passed over.)
+//! The crate `followed` makes the accesses on both, and compares.
 #![tactic(auto)]
 
 mod args;
-mod differences;
-mod divergence;
 mod error;
-mod followed;
-mod peer;
-mod qtest_peer;
 
 use args::FollowArgs;
 use device_model::{Disks, Model, ModelDisk, PortDisks};
 use error::{FollowError, no_memory_or};
-use followed::Followed;
+use followed::{Followed, QtestPeer};
 use play::{PlayError, new_model_of_disks, parse_inputs, play_adapter};
-use qtest_peer::QtestPeer;
 use sector_store::{DiskStore, FileStore, MemStore};
 use std::fs::{self, File, Files, OpenOptions};
 use std::io::{self, BufReader, BufWriter, Write};

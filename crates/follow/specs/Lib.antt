@@ -1,2 +1,0 @@
-pub mod ComparedBits
-pub mod DifferingSlots

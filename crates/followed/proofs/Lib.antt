@@ -1,0 +1,4 @@
+mod Asking
+mod Going
+mod Noting
+mod Pieces

@@ -1,0 +1,6 @@
+use Rattle.followed.proofs.qtest_peer.QtestPeerPeer.store.Given as goal
+
+abbrev pub invariant-loop-chunk : goal.invariant-loop-chunk
+invariant-loop-chunk g l =
+    (goal.iterator-loop-chunk g).can_next l.chunk-iterator
+    × (goal.iterator-loop-chunk g).is_finite l.chunk-iterator

@@ -1,0 +1,4 @@
+pub mod Asking
+pub mod ComparedBits
+pub mod ComparedBytes
+pub mod DifferingSlots
