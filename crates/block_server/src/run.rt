@@ -7,7 +7,7 @@ use crate::said::{MOST_SAID, most_said, say_with_replies};
 use crate::{Event, RunStopped, Said, Server};
 use adapter::{Adapter, Stepped};
 use arrayvec::ArrayVec;
-use ata_types::{Call, ClientId, Frame, MOST_CALL_BYTES, MemFault};
+use ata_types::{Call, ClientId, Frame, MOST_CALL_BYTES, MemFault, Replies};
 
 impl<A: Adapter> Server<A> {
     ghost use Rattle.block_machine.specs.Events.{LoadAt, Loaded, Reset, RevokeOf, Service, Tick};
@@ -55,7 +55,8 @@ impl<A: Adapter> Server<A> {
         ensures cost { MakesAtMost MOST_SERVICE_ACCESSES (A.access_count self.old.adapter)
             (A.access_count self.new.adapter) }
     {
-        let replies = self.service();
+        let mut replies = Replies::new();
+        self.service_into(&mut replies);
         say_with_replies(out, Said::Replied(replies.len()), replies.as_slice());
     }
 
@@ -71,7 +72,8 @@ impl<A: Adapter> Server<A> {
         ensures cost { MakesAtMost MOST_TICK_ACCESSES (A.access_count self.old.adapter)
             (A.access_count self.new.adapter) }
     {
-        let replies = self.tick();
+        let mut replies = Replies::new();
+        self.tick_into(&mut replies);
         say_with_replies(out, Said::Replied(replies.len()), replies.as_slice());
     }
 
@@ -87,8 +89,9 @@ impl<A: Adapter> Server<A> {
         ensures cost { MakesAtMost MOST_RESET_ACCESSES (A.access_count self.old.adapter)
             (A.access_count self.new.adapter) }
     {
-        match self.reset() {
-            Ok(replies) => {
+        let mut replies = Replies::new();
+        match self.reset_into(&mut replies) {
+            Ok(()) => {
                 say_with_replies(out, Said::WasReset(Ok(replies.len())), replies.as_slice());
             }
             Err(stuck) => out.push_reserved(Said::WasReset(Err(stuck))),
@@ -107,8 +110,9 @@ impl<A: Adapter> Server<A> {
         ensures cost { MakesAtMost MOST_REVOKE_ACCESSES (A.access_count self.old.adapter)
             (A.access_count self.new.adapter) }
     {
-        match self.revoke(client, number) {
-            Ok(replies) => {
+        let mut replies = Replies::new();
+        match self.revoke_into(client, number, &mut replies) {
+            Ok(()) => {
                 say_with_replies(out, Said::WasRevoked(Ok(replies.len())), replies.as_slice());
             }
             Err(none) => out.push_reserved(Said::WasRevoked(Err(none))),

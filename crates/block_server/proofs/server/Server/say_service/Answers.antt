@@ -7,7 +7,7 @@ returns-clause-says g c =
     let count = c.len.ensures.value in
     let replies = c.as_slice.ensures.value in
     let says = c.say_with_replies.ensures.said in
-    (Replied c.service-replies.result.items, c.service-replies.ensures.extends_history, cc (says, count, replies))
+    (Replied c.service_into.new.replies.items, c.service_into.ensures.extends_history, cc (says, count, replies))
 
 pub returns-clause-wanted_is_unchanged : goal.returns-clause-wanted_is_unchanged
-returns-clause-wanted_is_unchanged g c = service_wants g.A.Adapter.device c.args.self.now c.service-replies.new.self c.service-replies.result.items c.service-replies.ensures.services
+returns-clause-wanted_is_unchanged g c = service_wants g.A.Adapter.device c.args.self.now c.service_into.new.self c.service_into.new.replies.items c.service_into.ensures.services

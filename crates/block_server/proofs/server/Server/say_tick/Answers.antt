@@ -7,7 +7,7 @@ returns-clause-says g c =
     let count = c.len.ensures.value in
     let replies = c.as_slice.ensures.value in
     let says = c.say_with_replies.ensures.said in
-    (Replied c.tick-replies.result.items, c.tick-replies.ensures.extends_history, cc (says, count, replies))
+    (Replied c.tick_into.new.replies.items, c.tick_into.ensures.extends_history, cc (says, count, replies))
 
 pub returns-clause-wanted_is_unchanged : goal.returns-clause-wanted_is_unchanged
-returns-clause-wanted_is_unchanged g c = tick_wants g.A.Adapter.device c.args.self.now c.tick-replies.new.self c.tick-replies.result.items c.tick-replies.ensures.ticks
+returns-clause-wanted_is_unchanged g c = tick_wants g.A.Adapter.device c.args.self.now c.tick_into.new.self c.tick_into.new.replies.items c.tick_into.ensures.ticks
