@@ -1,5 +1,8 @@
 // Why the program ends without having played a script to its end.
 
+ghost use Rattle.std.specs.Prelude.{◌≡◌, ◌≢◌};
+ghost use Rattle.follow.specs.declared.error.FollowError.TheVariants.{CommandLine};
+
 use play::Ended;
 use std::alloc::AllocError;
 use std::{fmt, io};
@@ -26,8 +29,11 @@ pub enum FollowError {
 }
 
 impl FollowError {
-    /// The status with which the program ends: 2 for a bad command line, and else 1.
-    pub fn status(self) -> u8 {
+    /// The status with which the program ends: 2 for a bad command line, 1 for each other error.
+    pub fn status(self) -> u8
+        ensures command_line { self ≡ CommandLine → result ≡ 2 }
+        ensures others { self ≢ CommandLine → result ≡ 1 }
+    {
         match self {
             FollowError::CommandLine => 2,
             _ => 1,
@@ -41,7 +47,7 @@ impl From<AllocError> for FollowError {
     }
 }
 
-/// Of a play that didn't go well: one that did is an error only where its output wasn't handed on.
+/// An end of a play as an error. A play that came to its end is one only if its output couldn't be written.
 impl From<Ended> for FollowError {
     fn from(ended: Ended) -> FollowError {
         match ended {
@@ -53,7 +59,7 @@ impl From<Ended> for FollowError {
     }
 }
 
-/// Want of memory, where that is the error, or else this fault.
+/// `NoMemory` if memory was refused, and this fault if the error is another one.
 pub fn no_memory_or(error: &io::Error, fault: FollowError) -> FollowError {
     if error.kind() == io::ErrorKind::OutOfMemory {
         FollowError::NoMemory

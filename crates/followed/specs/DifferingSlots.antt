@@ -107,8 +107,8 @@ pub record ForgetsSlotsOf (port : ℕ) (old new : DifferingSlotMasks) : Type 0 w
   pub untaken_slots_of_others_stay : StaysElsewhere port old.untaken new.untaken
 
 -- no slot of any port is noted
-abbrev pub HasNoSlotsOfAnyPort : DifferingSlotMasks → Type 0
-HasNoSlotsOfAnyPort slots = (port : ℕ) → port < 4 → HasNoSlots port slots
+abbrev pub NoSlotsDiffer : DifferingSlotMasks → Type 0
+NoSlotsDiffer slots = (port : ℕ) → port < 4 → HasNoSlots port slots
 
 -- This write takes no port's ST to zero: it is no write of PxCMD with ST clear, and none of GHC with HR set, which
 -- resets the adapter.

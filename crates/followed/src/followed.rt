@@ -4,7 +4,7 @@ ghost use Rattle.adapter.specs.{Access.{Access.{Reading, Storing, Writing}, Load
 ghost use Rattle.hba_regs.specs.{Bits.{bit}, declared.reg.PortReg.{PortReg as PortRegOf}, declared.reg.PortReg.TheVariants.{Ci, Cmd, Sact}, declared.reg.Reg.TheVariants.{Ghc, Px}};
 ghost use Rattle.ata_types.specs.declared.Port.{Port as PortOf};
 ghost use Rattle.followed.specs.Asking.{AsksUntilDivergence, ComparesPieces, GoesOnAsking, KeepsNotes, LoadsAndCompares, MakesFirst, MakesLast, MakesOrNotesFault, NotesSlotsOnly, ReadsInFlight, ReadsOrNotesFault, StaysStrayed, value_for_peer};
-ghost use Rattle.followed.specs.{ComparedBits.{AgreesInComparedBits, shown_difference}, DifferingSlots.{ForgetsSlotsOf, GoesOnBySteps, HasNoSlotsOfAnyPort, LeavesStarted, NotesSlotsOf, slots_behind_difference, with_difference_met}};
+ghost use Rattle.followed.specs.{ComparedBits.{AgreesInComparedBits, shown_difference}, DifferingSlots.{ForgetsSlotsOf, GoesOnBySteps, NoSlotsDiffer, LeavesStarted, NotesSlotsOf, slots_behind_difference, with_difference_met}};
 
 mod following;
 
@@ -59,7 +59,7 @@ impl<A: Inspectable, P: Peer> Followed<A, P> {
         ensures model { result.model ≡ model }
         ensures peer { result.peer ≡ peer }
         ensures has_no_divergence { result.divergence ≡ None }
-        ensures has_no_slots { HasNoSlotsOfAnyPort result.differing }
+        ensures has_no_slots { NoSlotsDiffer result.differing }
     {
         Followed {
             model,
@@ -238,7 +238,7 @@ impl<A: Inspectable, P: Peer> Followed<A, P> {
         ensures asks { GoesOnAsking P.makes P.fails self.old self.new }
         ensures stopped { (port : PortOf) → r ≡ Px port Cmd → port.0 < 4 → bit v 0 ≡ false
             → ForgetsSlotsOf port.0 self.old.differing self.new.differing }
-        ensures reset { r ≡ Ghc → bit v 0 ≡ true → HasNoSlotsOfAnyPort self.new.differing }
+        ensures reset { r ≡ Ghc → bit v 0 ≡ true → NoSlotsDiffer self.new.differing }
         ensures started { LeavesStarted r v → self.new.differing ≡ self.old.differing }
         ensures rest { NotesSlotsOnly self.old self.new }
     {
@@ -464,7 +464,7 @@ impl<A: Inspectable, P: Peer> Adapter for Followed<A, P> {
         ensures stays { StaysStrayed self.old self.new }
         ensures stopped { (port : PortOf) → r ≡ Px port Cmd → port.0 < 4 → bit v 0 ≡ false
             → ForgetsSlotsOf port.0 self.old.differing self.new.differing }
-        ensures reset { r ≡ Ghc → bit v 0 ≡ true → HasNoSlotsOfAnyPort self.new.differing }
+        ensures reset { r ≡ Ghc → bit v 0 ≡ true → NoSlotsDiffer self.new.differing }
         ensures started { LeavesStarted r v → self.new.differing ≡ self.old.differing }
         ensures rest { NotesSlotsOnly self.old self.new }
     {
@@ -523,8 +523,8 @@ impl<A: Inspectable, P: Peer> TapedAdapter for Followed<A, P> {
 }
 
 impl<A: Inspectable, P: Peer> Stepped for Followed<A, P> {
-    /// A `Finish` waits until the peer has ended the slot's command, and then ends it in the model, too. Nothing else
-    /// can be told.
+    /// A `Finish` waits until the peer has ended the slot's command, and then ends it in the model, too. No other
+    /// step can be asked for.
     fn step(&mut self, s: &DeviceStep) -> bool
         ensures asked { result ≡ true → DoesOrFailsStep s.now (A.device self.old.model) (A.device self.new.model) }
         ensures steps { Steps (A.device self.old.model) (A.device self.new.model) }

@@ -27,7 +27,7 @@ impl Unwritten {
     }
 }
 
-/// Prints what one thing that was said is told by. Of a service or a tick whose replies follow, these are all.
+/// Prints the line of one thing that was said. `Replied` has one only if nobody was answered: each reply has its own.
 fn print_one<W: io::Write>(out: &mut W, said: &Said) -> io::Result<()>
     ensures { OnOk result (Appends (W.contents out.old) (W.contents out.new) (said_text said.now)) }
 {

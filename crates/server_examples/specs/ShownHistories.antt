@@ -98,20 +98,20 @@ abbrev pub SaidHasHistory : {A : Type 0} → (A → Device) → ServerView A →
 SaidHasHistory device old new asked said = (results : List AbstractCallResult) × (said ≡ flat_map said_of results)
     × CallsHaveHistory device old new asked results
 
--- A request was accepted; the device did what it was told; and a service answered one request, with Ok.
+-- A request was accepted; the device did the step; and a service answered one request, with Ok.
 abbrev pub SaysServedAtOnce : List Said → Type 0
 SaysServedAtOnce said = (id : RequestId) × (reply : Reply) × (reply.outcome ≡ Ok)
     × (said ≡ flat_map said_of (result.Submitted (Done id) ∷ result.Stepped true ∷ result.Replied (reply ∷ []) ∷ []))
 
--- A request was accepted, and three ports are absent; the device did what it was told; a service answered nobody; the
--- device did once more what it was told; and a service answered one request, with Ok.
+-- A request was accepted, and three ports are absent; the device did the step; a service answered nobody; the device
+-- did a second step; and a service answered one request, with Ok.
 abbrev pub SaysServedAfterSecondService : List Said → Type 0
 SaysServedAfterSecondService said = (id : RequestId) × (reply : Reply) × (reply.outcome ≡ Ok)
     × (said ≡ flat_map said_of (result.Submitted (Done id) ∷ result.PortStateShown Absent ∷ result.PortStateShown Absent
     ∷ result.PortStateShown Absent ∷ result.Stepped true ∷ result.Replied [] ∷ result.Stepped true
     ∷ result.Replied (reply ∷ []) ∷ []))
 
--- The device did what it was told, twice; a request was accepted, and a service answered one, with PortDead. A store
+-- The device did two steps; a request was accepted, and a service answered one, with PortDead. A store
 -- was refused since its frame is lent; and after a reset that answered nobody a store was done.
 abbrev pub SaysFrameIsReleased : List Said → Type 0
 SaysFrameIsReleased said = (id : RequestId) × (reply : Reply) × (reply.outcome ≡ PortDead)

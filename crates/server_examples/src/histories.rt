@@ -73,7 +73,7 @@ fn is_absent(said: &Said) -> bool
     matches!(said, Said::State(PortState::Absent))
 }
 
-/// Whether the device did what it was told.
+/// Whether the device did the step that was asked.
 fn is_done(said: &Said) -> bool
     ensures { IsTrue result → said.now ≡ Said.Stepped true }
 {
@@ -136,7 +136,7 @@ pub fn serves_a_read<A: Stepped>(alloc: Global, server: &mut Server<A>, read: Re
     }
 }
 
-/// Whether a request was accepted, the device did what it was told, and then one request was answered Ok.
+/// Whether a request was accepted, the device did the step, and then one request was answered Ok.
 fn is_served_at_once(said: &[Said]) -> bool
     ensures { IsTrue result → SaysServedAtOnce said.now }
 {

@@ -5,7 +5,7 @@ ghost use Rattle.adapter.specs.Access.Access.{Reading};
 ghost use Rattle.hba_regs.specs.{Bits.{bit}, declared.reg.PortReg.{PortReg as PortRegOf}, declared.reg.PortReg.TheVariants.{Ci, Cmd, Tfd}, declared.reg.Reg.TheVariants.{Px}};
 ghost use Rattle.followed.specs.Asking.{GoesOnAsking, KeepsNotes, LooksFirst, NotesFailuresOnly, NotesSlotsOnly, ReplacesByReading};
 ghost use Rattle.followed.specs.declared.differing.DifferingSlotMasks.{DifferingSlotMasks as DifferingSlotMasksOf};
-ghost use Rattle.followed.specs.DifferingSlots.{EndsOrFails, FailsLowest, ForgetsSlotsOf, GoesOnBySteps, GoesOnNotingSlots, HasNoSlotsOfAnyPort, IsInFlight, IsLowestBit, LacksBits, NotesFailed, taken_or_all_of};
+ghost use Rattle.followed.specs.DifferingSlots.{EndsOrFails, FailsLowest, ForgetsSlotsOf, GoesOnBySteps, GoesOnNotingSlots, NoSlotsDiffer, IsInFlight, IsLowestBit, LacksBits, NotesFailed, taken_or_all_of};
 
 use super::Followed;
 use crate::differences::agrees_in_compared_bits;
@@ -86,7 +86,7 @@ impl<A: Inspectable, P: Peer> Followed<A, P> {
         }
     }
 
-    /// Goes on with a slot whose bit of PxCI, or else of PxSACT, has fallen: then a queued command has ended.
+    /// Goes on with a slot whose bit of PxCI or PxSACT has fallen. If it is of PxSACT, a queued command has ended.
     fn leave_slot(&mut self, port: Port, r: PortReg, slot: u32)
         requires port { port.0 < 4 }
         requires slot { slot < 32 }
@@ -119,8 +119,7 @@ impl<A: Inspectable, P: Peer> Followed<A, P> {
         }
     }
 
-    /// Goes on with the slots whose bits of PxCI, or else of PxSACT, have fallen, but for those that are known to have
-    /// fallen otherwise.
+    /// Goes on with each slot whose bit of PxCI or PxSACT has fallen. Slots that are known to differ are passed over.
     fn follow_fallen(&mut self, port: Port, r: PortReg, said: u32)
         requires { port.0 < 4 }
         ensures goes { GoesOnBySteps (A.device self.old.model) (A.device self.new.model) }
@@ -367,7 +366,7 @@ impl<A: Inspectable, P: Peer> Followed<A, P> {
     {
         match r {
             Reg::Ghc if !GlobalControl(said).is_resetting() => {
-                // Where a reset is pending, it ends before the reading.
+                // A reset that is pending ends before the reading.
                 let _released = self.go(DeviceStep::Release(Port(0)));
             }
             Reg::Px(port, r) if port.0 < 4 => self.follow_port(port, r, said),
@@ -418,7 +417,7 @@ impl<A: Inspectable, P: Peer> Followed<A, P> {
         ensures goes { GoesOnBySteps (A.device self.old.model) (A.device self.new.model) }
         ensures counted { A.access_count self.new.model ≡ A.access_count self.old.model }
         ensures asks { GoesOnAsking P.makes P.fails self.old self.new }
-        ensures forgets { HasNoSlotsOfAnyPort self.new.differing }
+        ensures forgets { NoSlotsDiffer self.new.differing }
         ensures rest { NotesSlotsOnly self.old self.new }
     {
         for port in 0..PORTS {
