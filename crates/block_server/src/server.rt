@@ -41,17 +41,18 @@ use server_history::stuck_server::{
 use std::alloc::Global;
 use std::marker::Model;
 
-/// A server of reads, writes, trims and flushes on up to four ports of an adapter. It can't be dropped: `close` ends
-/// it.
+/// A server for reads, writes, trims and flushes on up to four ports of an adapter.
+///
+/// It can't be dropped, because it holds loans of clients' frames. `close` ends it.
 pub struct Server<A: Adapter> {
     adapter: A,
     grants: Grants,
     shared: Shared,
     ports: [ServedPort; PORTS],
-    /// The id that was handed out last, or 0.
+    /// The last id that was given to a request, or 0.
     last: u64,
-    /// Whether the last reset got stuck: the adapter isn't on, each port that is served is dead, and requests may wait
-    /// to be told so.
+    /// Whether the last reset got stuck. If so, the adapter isn't on, each served port is dead, and the next service
+    /// has to answer the requests that are left.
     stuck: bool,
 }
 
@@ -75,11 +76,19 @@ impl<A: Adapter> Server<A> {
     ghost use Rattle.ata_types.specs.declared.PortState.TheVariants.{Ready};
     ghost use Rattle.adapter.specs.AccessBounds.{MakesAtMost};
 
-    /// A server of an idle adapter, by a configuration: who owns which frames, which grants there are, and which disks
-    /// are wanted. Each port is booted in which a disk is wanted; nothing is asked yet.
+    /// Makes a server of an idle adapter, and boots each port that the configuration names. The configuration also says
+    /// which client owns which frames, and which grants there are.
     ///
-    /// Where the configuration breaks a rule, or else where memory is refused, no access is made, and the adapter comes
-    /// back as it was.
+    /// The adapter has to be idle: no reset is pending, the engines of all ports stand (ST, CR, FRE, FR, PxCI and
+    /// PxSACT are 0), and its memory has the size that the configuration names. `Config::check` finds every fault of a
+    /// configuration.
+    ///
+    /// # Errors
+    ///
+    /// - `BadConfig`: the configuration breaks a rule. It has the kind of the first fault.
+    /// - `NoMemory`: the configuration is sound, and memory was refused.
+    ///
+    /// In both cases no access was made, and the adapter comes back as it was.
     #[inline(never)]
     pub fn new(alloc: Global, config: Config, mut adapter: A) -> Result<Self, (ServerError, A)>
         requires ready { IsReadyFor config (A.device adapter) }
@@ -121,7 +130,7 @@ impl<A: Adapter> Server<A> {
         })
     }
 
-    /// The adapter behind the server.
+    /// Returns the adapter behind the server.
     pub fn adapter(&self) -> &A
         ensures { result.now ≡ self.now.adapter }
     {
@@ -138,7 +147,7 @@ impl<A: Adapter> Server<A> {
         }
     }
 
-    /// What a port is to its clients. One that isn't served is `Absent`.
+    /// Returns what a port is to its clients, as the last call found it. A port that isn't served is `Absent`.
     pub fn state(&self, port: Port) -> PortState
         ensures state { result ≡ state_of (probe_result_of self.now.probe_results port.0) }
         ensures extends_history { ExtendsHistory (server_of A.device self.now) (server_of A.device self.now)
@@ -165,7 +174,7 @@ impl<A: Adapter> Server<A> {
         }
     }
 
-    /// How many sectors that disk has; 0 where there is none.
+    /// How many sectors that disk has, or 0 if there is none.
     fn sectors(&self, port: Port) -> u64
         ensures { result
             ≡ last_sectors_of (last_disk_of (probe_result_of self.now.probe_results port.0)
@@ -177,8 +186,8 @@ impl<A: Adapter> Server<A> {
         }
     }
 
-    /// Whether a request is a trim, and the disk of its port doesn't take trims after which zeros are read. A port that
-    /// isn't ready has none that does.
+    /// Whether a request is a trim, and its port has no disk that promises zeros in trimmed sectors. A port that isn't
+    /// ready has none.
     fn lacks_trim(&self, r: &Request, port: Port) -> bool
         ensures { IsTrue result
             ↔ ((r.now.op ≡ Op.Trim) × (zeroes_after_trim_of (probe_result_of self.now.probe_results port.0) ≡ false)) }
@@ -190,7 +199,7 @@ impl<A: Adapter> Server<A> {
         r.op == Op::Trim && !trims
     }
 
-    /// The first cause to refuse the request, if there is one; else the port that it is for.
+    /// Returns the port that the request is for, or the first cause to refuse the request.
     fn admit(&self, r: &Request) -> Result<Port, Refusal>
         ensures admitted { IfOk result (λ port. IsAcceptable (admission_context (server_of A.device self.now)) r.now
             × IsRequestForPort self.now.grants r.now port) }
@@ -223,7 +232,7 @@ impl<A: Adapter> Server<A> {
         Ok(row.port)
     }
 
-    /// Puts the request last into the book, lends it its frames, and issues what is due on its port then.
+    /// Puts the request into the book, as its last, and lends it its frames. Then it issues what is due on the port.
     fn accept(&mut self, r: &Request, port: Port) -> RequestId
         requires on { self.old.stuck ≡ false }
         requires acceptable { IsAcceptable (admission_context (server_of A.device self.old)) r.now }
@@ -265,8 +274,15 @@ impl<A: Adapter> Server<A> {
         id
     }
 
-    /// Asks for a request. It is accepted exactly where no refusal applies, and then perhaps answered by a later call;
-    /// its frames are lent until then. Where refusals apply, the first of them is told, and nothing changes.
+    /// Asks for a request, and returns its id if it is accepted.
+    ///
+    /// A later `service`, `tick`, `reset` or `revoke` returns the reply, with this id. Until then the frames of the
+    /// request are lent to it, and its client can't load or store their bytes. Ids rise from 1.
+    ///
+    /// # Errors
+    ///
+    /// The request is accepted exactly if no `Refusal` applies. Otherwise the first one that applies is returned, and
+    /// nothing changes.
     pub fn submit(&mut self, r: &Request) -> Result<RequestId, Refusal>
         ensures submits { Submits A.device self.old self.new r.now result }
         ensures extends_history { ExtendsHistory (server_of A.device self.old) (server_of A.device self.new)
@@ -282,23 +298,31 @@ impl<A: Adapter> Server<A> {
         Ok(self.accept(r, port))
     }
 
-    /// Looks at all served ports, in rising number, and answers what has ended.
+    /// Looks at all served ports, in rising number, and returns the replies to the requests that have ended.
     ///
-    /// | A port | In its turn |
+    /// | The port | What happens in its turn |
     /// |---|---|
-    /// | that is ready | What is done is answered `Ok`. What is due then is issued. |
-    /// | with a failed command (TFES) | It is recovered (AHCI 1.3.1, 6.2.2). That request is told `DeviceError`. |
-    /// | with a fatal error (IFS, HBDS, HBFS) | It is stopped and booted anew. Nobody is told `DeviceError`. |
-    /// | whose disk went | It is stopped, and booted if a device shows. What isn't done is `Unplugged`. |
-    /// | that is absent | PxSSTS is read. Where DET is 3 the port is booted. |
-    /// | unfit or foreign | PxIS and PxSSTS are read. Where PCS or PRCS is set, or DET isn't 3, it is booted. |
-    /// | that is dead | It is left alone. After a reset that got stuck its requests are told `PortDead`. |
+    /// | is ready | Finished requests get `Ok`. Then the port issues what is due. |
+    /// | has a failed command (TFES) | It recovers (AHCI 1.3.1, 6.2.2). The failed request gets `DeviceError`. |
+    /// | has a fatal error (IFS, HBDS, HBFS) | It is stopped and booted anew. No request gets `DeviceError`. |
+    /// | has lost its disk | It is stopped, and booted if a device shows. Unfinished requests get `Unplugged`. |
+    /// | is absent | PxSSTS is read. If DET is 3, the port is booted. |
+    /// | is unfit or foreign | PxIS and PxSSTS are read. If PCS or PRCS is set, or DET isn't 3, it is booted. |
+    /// | is dead | It is left alone. After a reset that got stuck its requests get `PortDead`. |
     ///
-    /// After a recovery or a boot the requests that had been issued go again, or are `Revoked` where their grant was,
-    /// and else `Aborted` after the fourth issue; where the disk isn't the same, or the port isn't ready, they and
-    /// those that wait are `Unplugged`; and where the engine doesn't stop all are `PortDead`, and frames of those that
-    /// had been issued stay lent until a reset ends. A recovery waits for the disk at most so often as its parts tell,
-    /// and all ports wait meanwhile. The replies stand port by port, each port's in order of acceptance.
+    /// After a recovery or a boot, the unfinished requests of the port fare so:
+    ///
+    /// | The port | Issued requests | Waiting requests |
+    /// |---|---|---|
+    /// | is ready with the same disk | They are issued again (see below). | They go on waiting. |
+    /// | is ready with another disk, or isn't ready | `Unplugged` | `Unplugged` |
+    /// | has an engine that doesn't stop | `PortDead`; their frames stay lent until a reset finishes | `PortDead` |
+    ///
+    /// A request that would be issued again gets `Revoked` if its grant was revoked, and otherwise `Aborted` if it was
+    /// issued four times.
+    ///
+    /// All ports wait while one recovers or boots. Its waits are bounded: the clause `cost` bounds the accesses of the
+    /// whole call. The replies are sorted by port, and for each port by acceptance.
     pub fn service(&mut self) -> Replies
         ensures services { Services A.device self.old self.new result.items }
         ensures extends_history { ExtendsHistory (server_of A.device self.old) (server_of A.device self.new) Service
@@ -311,7 +335,7 @@ impl<A: Adapter> Server<A> {
         replies
     }
 
-    /// The same, where the replies stand in a list that the caller keeps, in place of what it had.
+    /// Does what `service` does, and puts the replies into a list of the caller, in place of what the list had.
     pub fn service_into(&mut self, replies: &mut Replies)
         ensures services { Services A.device self.old self.new replies.new.items }
         ensures extends_history { ExtendsHistory (server_of A.device self.old) (server_of A.device self.new) Service
@@ -335,8 +359,7 @@ impl<A: Adapter> Server<A> {
         }
     }
 
-    /// Tells the requests of dead ports so, since the last reset got stuck. Frames of those that had been issued stay
-    /// lent.
+    /// Answers all requests with `PortDead`, because the last reset got stuck. The frames of issued requests stay lent.
     fn fail_all(&mut self, replies: &mut Replies)
         requires stuck { self.old.stuck ≡ true }
         requires none { replies.old.items ≡ [] }
@@ -351,19 +374,18 @@ impl<A: Adapter> Server<A> {
         resolve_ports(&mut self.ports, &mut self.shared, replies);
     }
 
-    /// Notes that a tick has gone by, and restarts each ready port of which a request hangs.
+    /// Counts a tick, and restarts each ready port that has a request which hangs.
     ///
-    /// | A port | In its turn |
+    /// | The port | What happens in its turn |
     /// |---|---|
-    /// | that is ready | Each of its issued requests is a tick older. |
-    /// | of which one is three ticks old then | It is stopped and booted anew, and its requests fare as in `service`. |
-    /// | that isn't ready, or has none so old | It isn't looked at. |
+    /// | is ready | Each of its issued requests gets one tick older. |
+    /// | has a request that is three ticks old | It is stopped and booted anew. Its requests fare as in `service`. |
+    /// | isn't ready, or has no request so old | Nothing looks at it. |
     ///
-    /// The server reads no clock: its caller calls this by one, at a pace of its choosing. A request has between two
-    /// and three ticks from its issue until a `service` answers it: so `service` is called before each tick. A restart
-    /// costs the port's other issued requests one of their four issues, and all ports wait meanwhile. Which ports are
-    /// overdue is found out before any is restarted. A tick that restarts none makes no access. The replies stand as
-    /// those of `service`.
+    /// The server reads no clock. The caller calls `tick` in an interval of its choice, and should call `service`
+    /// before each tick: a request has between two and three ticks, from its issue until a `service` answers it. A
+    /// restart costs each other issued request of the port one of its four issues, and all ports wait meanwhile. A tick
+    /// that restarts no port makes no access. The replies are sorted as those of `service` are.
     pub fn tick(&mut self) -> Replies
         ensures ticks { TicksServer A.device self.old self.new result.items }
         ensures extends_history { ExtendsHistory (server_of A.device self.old) (server_of A.device self.new) Tick
@@ -376,7 +398,7 @@ impl<A: Adapter> Server<A> {
         replies
     }
 
-    /// The same, where the replies stand in a list that the caller keeps, in place of what it had.
+    /// Does what `tick` does, and puts the replies into a list of the caller, in place of what the list had.
     pub fn tick_into(&mut self, replies: &mut Replies)
         ensures ticks { TicksServer A.device self.old self.new replies.new.items }
         ensures extends_history { ExtendsHistory (server_of A.device self.old) (server_of A.device self.new) Tick
@@ -408,18 +430,22 @@ impl<A: Adapter> Server<A> {
 
     /// Resets the adapter (AHCI 1.3.1, 10.4.3), boots each served port anew, and issues what is due then.
     ///
-    /// | What | Then |
+    /// | What | What becomes of it |
     /// |---|---|
-    /// | frames that were kept of dead ports | They are given back. |
+    /// | frames that dead ports kept | They are given back. |
     /// | a port with the disk that it was last ready with | Its requests fare as after a boot in `service`. |
-    /// | a port with another disk, or that isn't ready | All its requests are `Unplugged`. |
-    /// | a port whose engine doesn't stop | All are `PortDead`. Frames of those issued stay lent. |
-    /// | a request that was done, but isn't answered | It fares as one that isn't done. |
+    /// | a port with another disk, or one that isn't ready | All its requests get `Unplugged`. |
+    /// | a port whose engine doesn't stop | All its requests get `PortDead`. Frames of issued ones stay lent. |
+    /// | a request that had finished without an answer | It fares as an unfinished one. |
     ///
-    /// A disk is the same by its serial and size: nobody is told of one that was out and in again. The replies stand as
-    /// those of `service`. `AdapterStuck` is told where HR of GHC is read 1 in 64 readings (that many are this
-    /// project's own). Then each served port is dead until a reset ends: the next `service` tells its requests
-    /// `PortDead`, and frames of those that had been issued stay lent. A tick does nothing meanwhile.
+    /// A disk is the same if serial number and size are. So nobody notices a disk that was out and is in again. The
+    /// replies are sorted as those of `service` are.
+    ///
+    /// # Errors
+    ///
+    /// `AdapterStuck`: HR of GHC was 1 in 64 readings (this number is this project's own). From then on each served
+    /// port is dead until a reset finishes. The next `service` answers their requests with `PortDead`, and frames of
+    /// issued requests stay lent. A tick does nothing meanwhile.
     pub fn reset(&mut self) -> Result<Replies, AdapterStuck>
         ensures done { IfOk result (λ replies. ResetsOrGetsStuck A.device self.old self.new replies.items (Ok tt)) }
         ensures stuck { IfErr result (λ why. ResetsOrGetsStuck A.device self.old self.new [] (Err why)) }
@@ -437,7 +463,7 @@ impl<A: Adapter> Server<A> {
         Ok(replies)
     }
 
-    /// The same, where the replies stand in a list that the caller keeps, in place of what it had.
+    /// Does what `reset` does, and puts the replies into a list of the caller, in place of what the list had.
     pub fn reset_into(&mut self, replies: &mut Replies) -> Result<(), AdapterStuck>
         ensures resets { ResetsOrGetsStuck A.device self.old self.new replies.new.items result }
         ensures extends_history { ExtendsHistory (server_of A.device self.old) (server_of A.device self.new) Reset
@@ -466,7 +492,8 @@ impl<A: Adapter> Server<A> {
         Ok(())
     }
 
-    /// Ends the server. The adapter comes back as it is: what is issued stays issued.
+    /// Ends the server, and returns the adapter as it is. Issued commands stay issued, and the device may still move
+    /// their data. So the memory of the clients' frames has to stay untouched until the adapter was reset.
     pub fn close(self) -> A
         ensures { result ≡ self.adapter }
     {
@@ -494,7 +521,7 @@ impl<A: Stepped> Server<A> {
     ghost use Rattle.server_history.specs.Histories.{ExtendsHistory};
     ghost use Rattle.adapter.specs.AccessBounds.{MakesAtMost};
 
-    /// Has the device do a step, if that is possible.
+    /// Has the device make a step, and returns whether it did. After `false` nothing has changed.
     pub fn device(&mut self, step: &DeviceStep) -> bool
         ensures steps { StepsDevice A.device self.old self.new step.now result }
         ensures extends_history { ExtendsHistory (server_of A.device self.old) (server_of A.device self.new)

@@ -1,4 +1,4 @@
-// Why a server isn't made, and why it does no more events of a list.
+// Why a server can't be made, and why it stops in a list of events.
 use configuration::FaultKind;
 use thiserror::Error;
 
@@ -13,10 +13,10 @@ pub enum ServerError {
     NoMemory,
 }
 
-/// Memory for what the event `at` says was refused: the events before it were done, and it wasn't begun.
+/// Memory for what the event `at` can say was refused. The events before it were done, and it wasn't begun.
 #[derive(Clone, Copy, Debug, PartialEq, Eq, Error)]
 #[error("no memory for what event {at} says")]
 pub struct RunStopped {
-    /// The place of the event in the list, from 0 on.
+    /// The place of the event in the list, counted from 0.
     pub at: usize,
 }

@@ -1,8 +1,8 @@
 //! Reads the configuration of a server and its model from TOML, checks it, and plans what is served.
 //!
-//! The format is this project's own (docs/FORMATS.md). Of several faults the least kind is told,
-//! and a text has one least kind at most. `Config::check` is for values that were read from no
-//! text. A `Plan` is what a server serves by it.
+//! The format is this project's own (docs/FORMATS.md). If a text has several faults, the one of the
+//! least kind is returned, and there is at most one least kind. `Config::check` is for values that
+//! didn't come from a text. A `Plan` is what a server serves by a configuration.
 #![tactic(auto)]
 
 ghost use Rattle.std.specs.Prelude.{◌≡◌};
@@ -26,7 +26,7 @@ use thiserror::Error;
 pub struct PortConfig {
     /// The port, 0 to 3.
     pub number: u64,
-    /// The serial number that its disk has to have, 1 to 20 printable ASCII characters; without one, any disk will do.
+    /// The serial number that its disk must have, 1 to 20 printable ASCII characters. `None` allows any disk.
     pub serial: Option<String>,
 }
 
@@ -35,9 +35,9 @@ pub struct PortConfig {
 pub struct ClientConfig {
     /// The client, 1 to 8.
     pub id: u64,
-    /// Its first frame, which is behind the driver's: `DRIVER_FRAMES` of ata_types or above.
+    /// Its first frame, which is above the driver's: `DRIVER_FRAMES` (76) or more.
     pub first_frame: u64,
-    /// How many frames it has: 1 or more, which end within the memory's.
+    /// How many frames it has, 1 or more. The last of them is within the memory.
     pub frames: u64,
 }
 
@@ -52,7 +52,7 @@ pub struct GrantConfig {
     pub port: u64,
     /// The first sector.
     pub first: u64,
-    /// How many sectors: 1 or more, which end at 2^48 at most.
+    /// How many sectors, 1 or more. The last of them is below 2^48.
     pub count: u64,
     /// What the client may do: some of `r` (read), `w` (write), `t` (trim) and `f` (flush), in this order.
     pub rights: String,
@@ -61,7 +61,7 @@ pub struct GrantConfig {
 /// The configuration of a block server and of the model behind it.
 #[derive(Debug, Drop)]
 pub struct Config {
-    /// How many frames the memory has, `FEWEST_FRAMES` to `MOST_FRAMES` of ata_types.
+    /// How many frames of 4096 bytes the memory has, `FEWEST_FRAMES` (77) to `MOST_FRAMES` (1024).
     pub frames: u64,
     /// How many command slots the adapter has, 1 to 32.
     pub slots: u64,
@@ -71,17 +71,18 @@ pub struct Config {
     pub depth: u64,
     /// The disk's promise on trims: `full`, `weak` or `none`.
     pub trim: String,
-    /// Whether the disks have a volatile write cache; no where the document has no such key.
+    /// Whether the disks have a volatile write cache. If a text has no such key, they have none.
     pub cache: bool,
     /// The ports, each once.
     pub port: Vec<PortConfig>,
-    /// The clients, each once, and no frame of two of them.
+    /// The clients, each once. No two of them own the same frame.
     pub client: Vec<ClientConfig>,
-    /// The grants, at most 64, each client's under numbers of their own, of clients and ports that are there.
+    /// The grants, at most 64. No client has two of the same number, and their clients and ports are in the lists.
     pub grant: Vec<GrantConfig>,
 }
 
-/// What is wrong with a configuration. Of several kinds that of the least number is told (this project's own).
+/// What is wrong with a configuration. If several kinds apply, the one of the least number is returned (this project's
+/// own).
 #[derive(Clone, Copy, Debug, PartialEq, Eq, Error)]
 pub enum FaultKind {
     /// The text isn't a TOML document in UTF-8.
@@ -96,8 +97,8 @@ pub enum FaultKind {
     /// A number or text is out of its range, or there are more than 64 grants.
     #[error("a number or text is out of its range, or there are more than 64 grants")]
     OutOfRange,
-    /// A port, a client, or the number of a client's grant stands twice.
-    #[error("a port, a client, or the number of a client's grant stands twice")]
+    /// A port, a client, or the number of a client's grant appears twice.
+    #[error("a port, a client, or the number of a client's grant appears twice")]
     Duplicate,
     /// A frame belongs to two clients.
     #[error("a frame belongs to two clients")]
@@ -111,7 +112,7 @@ pub enum FaultKind {
 }
 
 impl FaultKind {
-    /// The kind's number, 1 to 8: the least that applies is told.
+    /// Returns the kind's number, 1 to 8.
     pub fn number(self) -> u8
         ensures { result ≡ kind_number self }
     {

@@ -159,7 +159,7 @@ fn all_pass(check: KeyCheck, table: &Table) -> bool
 impl Config {
     ghost use Rattle.configuration.specs.Document.{IsNoMemoryOr, IsLeastDocumentFault, DocumentReadsAsValidConfig, TextReadsAsValidConfig, IsLeastTextFault};
 
-    /// The values of a document, or the least kind of fault that it has.
+    /// Returns the values of a document, or the least kind of fault that it has.
     fn from_document(alloc: Global, table: &Table) -> Result<Config, ConfigFault>
         ensures ok { IfOk result (DocumentReadsAsValidConfig (table_view table.now)) }
         ensures refused { IfErr result (IsNoMemoryOr (IsLeastDocumentFault (table_view table.now))) }
@@ -183,9 +183,13 @@ impl Config {
         }
     }
 
-    /// Reads a configuration from the bytes of a TOML document. Where it has faults, the least kind that applies is
-    /// told. A number that isn't within 64 bits with a sign is of the kind `NotToml`; a negative one is out of range
-    /// (this project's own).
+    /// Reads a configuration from the bytes of a TOML document.
+    ///
+    /// # Errors
+    ///
+    /// - `Refused`: the document has faults. The least kind that applies is returned. A number that doesn't fit into 64
+    ///   bits with a sign is a fault of the kind `NotToml`, and a negative one is out of range (this project's own).
+    /// - `NoMemory`: memory was refused.
     pub fn parse(alloc: Global, text: &[u8]) -> Result<Config, ConfigFault>
         ensures ok { IfOk result (TextReadsAsValidConfig text.now) }
         ensures refused { IfErr result (IsNoMemoryOr (IsLeastTextFault text.now)) }

@@ -270,8 +270,11 @@ impl Config {
         have_ports(self.grant.as_slice(), self.port.as_slice())
     }
 
-    /// Says whether these values may configure a server, and else which kind of fault they have: of the kinds 4 to 8
-    /// the least that applies (this project's own). What `parse` gives has none.
+    /// Checks whether these values may configure a server. Values that `parse` returns may.
+    ///
+    /// # Errors
+    ///
+    /// The least that applies of the kinds 4 to 8 (this project's own).
     pub fn check(&self) -> Result<(), FaultKind>
         ensures lacks_every_fault { OnOk result (LacksEveryFault self.now) }
         ensures least_fault_is_told { IfErr result (IsLeastFault self.now) }

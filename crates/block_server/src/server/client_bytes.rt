@@ -1,4 +1,4 @@
-// The calls by which a client's own bytes are stored and loaded.
+// The calls that store and load a client's own bytes.
 ghost use Rattle.std.specs.Prelude.{◌≡◌, ◌+◌, ◌*◌, ℕ, Err, IfErr, IfOk, List, length};
 
 use super::Server;
@@ -17,9 +17,9 @@ impl<A: Adapter> Server<A> {
     ghost use Rattle.dma_frames.specs.FrameTables.{lent_to, owner_of};
     ghost use Rattle.server_history.specs.Histories.{ExtendsHistory, load_result, store_result};
 
-    /// Where in memory so many bytes of a client's own frame begin, from an offset in bytes on: they may be stored and
-    /// loaded there. The first that applies of `FrameForeign`, `FrameLent` and `OutsideFrame` is told; a store or load
-    /// that is refused so adds its event to the history.
+    /// Returns the address of `count` bytes of a client's own frame, which begin at an offset in bytes. They may be
+    /// stored and loaded there. Otherwise it returns the first that applies of `FrameForeign`, `FrameLent` and
+    /// `OutsideFrame`. A store or load that is refused so adds its event to the history.
     fn open_frame_address(
         &self,
         client: ClientId,
@@ -56,10 +56,15 @@ impl<A: Adapter> Server<A> {
         Ok(FRAME_BYTES * frame.0 as u32 + offset)
     }
 
-    /// Copies bytes into a client's own frame, from an offset in bytes on. Not while the frame is lent.
+    /// Copies bytes into a client's own frame. `offset` is the place of the first one, in bytes, and a frame has 4096.
     ///
-    /// The first that applies of `FrameForeign`, `FrameLent` and `OutsideFrame` is told, and then nothing changes, and
-    /// no access is made. No byte may go past the end of the frame; none at all may be stored there.
+    /// # Errors
+    ///
+    /// The first that applies is returned. Then nothing changes, and no access is made.
+    ///
+    /// - `FrameForeign`: the client doesn't own the frame.
+    /// - `FrameLent`: the frame is lent to a request.
+    /// - `OutsideFrame`: a byte would be past the end of the frame. An offset of 4096 is allowed for no bytes.
     pub fn client_store(
         &mut self,
         client: ClientId,
@@ -78,7 +83,11 @@ impl<A: Adapter> Server<A> {
         Ok(())
     }
 
-    /// Copies bytes of a client's own frame out, from an offset in bytes on. Not while the frame is lent.
+    /// Copies bytes of a client's own frame into `out`, as many as it has. `offset` is the place of the first one.
+    ///
+    /// # Errors
+    ///
+    /// Those of `client_store`, in the same order. Then `out` stays as it was, and no access is made.
     pub fn client_load(
         &mut self,
         client: ClientId,

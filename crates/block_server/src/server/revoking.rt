@@ -1,4 +1,4 @@
-// The call by which a client's grant is revoked.
+// The call that revokes a client's grant.
 ghost use Rattle.std.specs.Prelude.{[], IfErr, IfOk, None, Ok, Err, Some};
 
 use super::Server;
@@ -20,16 +20,19 @@ impl<A: Adapter> Server<A> {
 
     /// Revokes the client's grant of this number.
     ///
-    /// | What | Then |
+    /// | What | What becomes of it |
     /// |---|---|
-    /// | the grant | It is gone: a request that names it is refused (`NoGrant`), and none is issued under it. |
-    /// | a request that waits under it | It is told `Revoked`, and its frames are given back. |
-    /// | one that is issued | It goes on, with its frames. Where it would go again, or be `Aborted`, it is `Revoked`. |
-    /// | the grant's port, if it is ready | What is due there by now is issued. Else no access is made. |
+    /// | the grant | It is gone: a request that names it gets `NoGrant`, and no request is issued under it. |
+    /// | a request that waits under it | It gets `Revoked`, and its frames are given back. |
+    /// | a request that is issued | It goes on, with its frames. It gets `Revoked` when it would be issued again. |
+    /// | the grant's port | If it is ready, it issues what is due by now. Otherwise no access is made. |
     ///
-    /// Which requests go again `service`, `tick` and `reset` say. The replies stand in order of acceptance.
-    /// `NoSuchGrant` is told where the client has no grant of this number: then nothing changes, and no access is made.
-    /// No memory is taken. (All of this is this project's own.)
+    /// `service`, `tick` and `reset` say when a request is issued again. The replies are sorted by acceptance. The call
+    /// takes no memory. (All of this is this project's own.)
+    ///
+    /// # Errors
+    ///
+    /// `NoSuchGrant`: the client has no grant of this number. Then nothing changes, and no access is made.
     pub fn revoke(&mut self, client: ClientId, number: u8) -> Result<Replies, NoSuchGrant>
         ensures revoked { IfOk result (λ replies. Revokes A.device self.old self.new client number replies.items (Ok
             tt)) }
@@ -48,7 +51,7 @@ impl<A: Adapter> Server<A> {
         Ok(replies)
     }
 
-    /// The same, where the replies stand in a list that the caller keeps, in place of what it had.
+    /// Does what `revoke` does, and puts the replies into a list of the caller, in place of what the list had.
     pub fn revoke_into(
         &mut self,
         client: ClientId,
