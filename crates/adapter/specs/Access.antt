@@ -56,6 +56,8 @@ enables_unnamed_causes ie = not (nat_eq (bit_and ie named_causes_mask) ie)
 abbrev pub ShowsPendingAndPerhapsUnnamedCause : Bool → DevicePort → Type 0
 ShowsPendingAndPerhapsUnnamedCause shown p = (is_ips_set p ≡ true) ⊎ (p.other_causes ≡ false) → shown ≡ is_ips_set p
 
+-- A register of a port shows this value (AHCI 1.3.1, 3.3). Bits that the line of the register does not name may have
+-- any value.
 abbrev pub PortShows : PortReg → ℕ → DevicePort → Type 0
 PortShows Clb v p = p.bases.clb_set ≡ true → v ≡ p.bases.clb
 PortShows Clbu v p = p.bases.clbu_set ≡ true → v ≡ 0
@@ -72,6 +74,7 @@ PortShows Sact v p = (slot : ℕ) → slot < 32 → bit v slot ≡ p.sact slot
 PortShows Is v p = (place : ℕ) → is_named_cause place ≡ true → bit v place ≡ shown_interrupt p place
 PortShows Ie v p = (place : ℕ) → is_named_cause place ≡ true → bit v place ≡ bit p.ie place
 
+-- A register of the adapter or of a port shows this value (AHCI 1.3.1, 3.1 and 3.3).
 abbrev pub Shows : Reg → ℕ → Device → Type 0
 Shows Cap v d = v ≡ d.cap
 Shows Pi v d = v ≡ d.pi
@@ -97,6 +100,7 @@ link_wait_count_full_once_linked det n = if nat_eq det 3 then MOST_READINGS else
 abbrev pub while_sctl_det_is_zero : DevicePort → ℕ → ℕ → ℕ
 while_sctl_det_is_zero p new old = if nat_eq p.sctl_det 0 then new else old
 
+-- The notes of a port after a register of it showed this value.
 abbrev pub notes_after_reading : PortReg → ℕ → DevicePort → Notes
 notes_after_reading Cmd v p =
     record p.notes {
@@ -128,6 +132,7 @@ notes_after_reading Sact v p = record p.notes { last_sact = v }
 notes_after_reading Is v p = record p.notes { acknowledged = false }
 notes_after_reading _ v p = p.notes
 
+-- A reading changes the notes alone.
 abbrev pub device_after_reading : Reg → ℕ → Device → Device
 device_after_reading (Px port r) v d = with_port d port.0
     (record (d.port port.0) { notes = notes_after_reading r v (d.port port.0) })
@@ -173,6 +178,7 @@ port_after_det_write det tape_length p =
       };
     }
 
+-- A port after this value was written to a register of it (AHCI 1.3.1, 3.3). The tape then has this length.
 abbrev pub port_after_write : PortReg → ℕ → ℕ → DevicePort → DevicePort
 port_after_write Clb v tape_length p = record p { bases = record p.bases { clb = v; clb_set = true } }
 port_after_write Clbu v tape_length p = record p { bases = record p.bases { clbu_set = true } }
@@ -208,6 +214,7 @@ port_after_hba_is_write p =
       notes = record p.notes { acknowledged = false };
     }
 
+-- The device after this value was written to a register (AHCI 1.3.1, 3.1 and 3.3).
 abbrev pub device_after_write : Reg → ℕ → Device → Device
 device_after_write Ghc v d = record d { hr = d.hr || bit v 0; ae = bit v 31; ie = bit v 1 }
 device_after_write adapter.Is v d = record d {
@@ -218,21 +225,25 @@ device_after_write _ v d = d
 
 -- ---- the calls
 
+-- A register is read: after any steps it shows this value, and the reading is noted.
 pub record Reads (r : Reg) (v : ℕ) (old new : Device) : Type 0 where
   pub at_access : Device
   pub steps : Steps old at_access
   pub shows : Shows r v at_access
   pub effect : new ≡ device_after_reading r v at_access
 
+-- A register is written: after any steps the device takes the value.
 pub record Writes (r : Reg) (v : ℕ) (old new : Device) : Type 0 where
   pub at_access : Device
   pub steps : Steps old at_access
   pub effect : new ≡ device_after_write r v at_access
 
+-- Bytes are loaded: after any steps the memory has these bytes from this address on.
 pub record Loads (at : ℕ) (bytes : List ℕ) (old new : Device) : Type 0 where
   pub steps : Steps old new
   pub shows : bytes ≡ bytes_at new.memory at (length bytes)
 
+-- Bytes are stored: after any steps the memory has these bytes from this address on, and is as it was elsewhere.
 pub record Stores (at : ℕ) (bytes : List ℕ) (old new : Device) : Type 0 where
   pub at_access : Device
   pub steps : Steps old at_access
@@ -240,18 +251,21 @@ pub record Stores (at : ℕ) (bytes : List ℕ) (old new : Device) : Type 0 wher
 
 -- ---- one call after another
 
+-- One access of an adapter, with the value or the bytes that it showed or that were written.
 pub data Access : Type 0 where
   Reading : (r : Reg) (v : ℕ) → Access
   Writing : (r : Reg) (v : ℕ) → Access
   Loading : (at : ℕ) (bytes : List ℕ) → Access
   Storing : (at : ℕ) (bytes : List ℕ) → Access
 
+-- The access leads from the one device to the other.
 abbrev pub Does : Access → Device → Device → Type 0
 Does (Reading r v) old new = Reads r v old new
 Does (Writing r v) old new = Writes r v old new
 Does (Loading at bytes) old new = Loads at bytes old new
 Does (Storing at bytes) old new = Stores at bytes old new
 
+-- The accesses lead from the one device to the other, one after another.
 abbrev pub DoesAll : List Access → Device → Device → Type 0
 DoesAll [] old new = new ≡ old
 DoesAll (access ∷ accesses) old new = (mid : Device) × Does access old mid × DoesAll accesses mid new

@@ -7,6 +7,7 @@ use Rattle.adapter.specs.declared.command.Command.{Command}
 use Rattle.adapter.specs.declared.command.Direction.{Direction}
 use Rattle.adapter.specs.declared.command.Direction.TheVariants.{ToMemory, FromMemory}
 
+-- The command with these fields.
 abbrev pub command_with_fields : (code features count lba device : ℕ) → Command
 command_with_fields code features count lba device =
     record { code = code; features = features; count = count; lba = lba; device = device }

@@ -25,9 +25,11 @@ first_memory = patched (patched (patched (λ _. 0) 0 header_up_to_ctba) 0x1000 c
 unfoldable pub first_disk_sector : ℕ → List ℕ
 first_disk_sector k = replicate 512 k
 
+-- The disk of the example: 256 sectors.
 abbrev pub first_disk : Disk
 first_disk = record { name = 0; sector_count = 256; sectors = Some first_disk_sector }
 
+-- A port of the example without a disk.
 abbrev pub no_disk : Disk
 no_disk = record { name = 0; sector_count = 0; sectors = Some (λ k. []) }
 

@@ -32,12 +32,14 @@ pub record KeepsControlsFlagsRise (old new : DevicePort) : Type 0 where
   pub serr_x_stays_set : old.serr_x ≡ true → new.serr_x ≡ true
   pub engine_stays_running : old.st ≡ true → old.cr ≡ true → new.cr ≡ true
 
+-- While no reset is pending, steps begin none, and keep AE, IE and the controls of each port.
 pub record KeepsOutsideReset (old new : Device) : Type 0 where
   pub no_reset : new.hr ≡ false
   pub ae_is_kept : new.ae ≡ old.ae
   pub ie_is_kept : new.ie ≡ old.ie
   pub controls_are_kept : (port : ℕ) → KeepsControlsFlagsRise (old.port port) (new.port port)
 
+-- What any steps keep of the whole device: its sizes and capabilities, the notes, and the tape so far.
 pub record KeepsOverSteps (old new : Device) : Type 0 where
   pub disks_tell_sectors_is_kept : new.disks_tell_sectors ≡ old.disks_tell_sectors
   pub memory_size_is_kept : new.memory_size ≡ old.memory_size

@@ -50,6 +50,7 @@ pub record SlotDecodesToCommand (d : Device) (port slot : ℕ) : Type 0 where
   pub places : List ℕ
   pub says : DecodesTo d.memory (d.port port).bases.clb slot meaning places
 
+-- The places of the command in the slot: its header, its table and its pieces, and the FIS area of its port.
 abbrev pub layout_of : (d : Device) (port slot : ℕ) → SlotDecodesToCommand d port slot → CommandLayout
 layout_of d port slot c =
     record {

@@ -56,13 +56,16 @@ interrupting_port _ = None
 abbrev pub flush_taken : FetchedCommand
 flush_taken = newly_fetched (record { operation = Flush; first = 0; count = 0 }) []
 
+-- The example device with a flush that was taken, and with the named causes enabled.
 abbrev pub flushing : Device
 flushing =
     with_port first_read_device 0
     (record reading_port { ie = named_causes_mask; taken = changed reading_port.taken 0 (Some flush_taken) })
 
+-- The same after the flush ended.
 abbrev pub flushed : Device
 flushed = device_after (Done 0 0 0 flush_taken) flushing
 
+-- The same after the cause was written back to PxIS.
 abbrev pub flush_cause_cleared : Device
 flush_cause_cleared = device_after_write (Px (record { 0 = 0 }) Is) 1 flushed

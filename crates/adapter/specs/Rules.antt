@@ -25,6 +25,7 @@ pub record IsOn (d : Device) : Type 0 where
 abbrev pub HasPort : Device → ℕ → Type 0
 HasPort d port = (port < 4) × (bit d.pi port ≡ true)
 
+-- The driver may read the register (AHCI 1.3.1, 3.1.2): GHC always, any other while the adapter is on.
 abbrev pub MayRead : Reg → Device → Type 0
 MayRead Ghc d = Unit {0}
 MayRead (Px port r) d = IsOn d × HasPort d port.0
@@ -78,6 +79,8 @@ pub record MayIssue (d : Device) (p : DevicePort) (v : ℕ) : Type 0 where
   pub sact_is_set : (slot : ℕ) (meaning : Meaning) (places : List ℕ) → bit v slot ≡ true →
       DecodesTo d.memory p.bases.clb slot meaning places → is_queued meaning.operation ≡ true → p.sact slot ≡ true
 
+-- The driver may write this value to the register of a port (AHCI 1.3.1, 3.3). Registers without a line are never
+-- written.
 abbrev pub MayWritePort : PortReg → ℕ → Device → DevicePort → Type 0
 MayWritePort Cmd v d p = MayWriteCmd p v
 MayWritePort Sctl v d p = (p.st ≡ false) × ((v % 16 ≡ 0) ⊎ (v % 16 ≡ 1))
@@ -99,6 +102,7 @@ MayWritePort _ v d p = ⊥
 abbrev pub PxIsWasWrittenOfClearedPorts : Device → ℕ → Type 0
 PxIsWasWrittenOfClearedPorts d v = (port : ℕ) → port < 32 → bit v port ≡ true → (d.port port).notes.acknowledged ≡ true
 
+-- The driver may write this value to the register (AHCI 1.3.1, 3.1 and 3.3).
 abbrev pub MayWrite : Reg → ℕ → Device → Type 0
 MayWrite Ghc v d = Unit {0}
 MayWrite adapter.Is v d = IsOn d × PxIsWasWrittenOfClearedPorts d v

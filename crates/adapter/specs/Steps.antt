@@ -15,6 +15,7 @@ use Rattle.adapter.specs.declared.tape.Move as tape_move
 use Rattle.adapter.specs.declared.tape.Entry.{Entry}
 use Rattle.adapter.specs.declared.tape.Entry.TheVariants as entry
 
+-- One step of the device, with the choices that the device makes in it.
 pub data DeviceTransition : Type 0 where
   -- an issued command is taken; its bytes mean no command; a piece is moved; sectors of a trim are cleared
   Fetch : (port slot : ℕ) (meaning : Meaning) (places : List ℕ) → DeviceTransition
@@ -37,16 +38,19 @@ pub data DeviceTransition : Type 0 where
 
 -- ---- halts: which commands a port takes and works on, what a fault makes of it, and what setting ST makes of it
 
+-- A halted port takes no command and works on none, except READ LOG EXT once ST was set after a queued command failed.
 abbrev pub admits : Halt → Operation → Bool
 admits NotHalted operation = true
 admits LogOnly ReadLog = true
 admits _ operation = false
 
+-- The halt of a port after a command failed. After a queued one it lasts through the next start.
 abbrev pub halt_after_fault : Halt → Bool → Halt
 halt_after_fault HaltedByQueued queued = HaltedByQueued
 halt_after_fault LogOnly queued = HaltedByQueued
 halt_after_fault _ queued = if queued then HaltedByQueued else HaltedByPlain
 
+-- The halt of a port after ST was set.
 abbrev pub halt_after_start : Halt → Halt
 halt_after_start HaltedByQueued = LogOnly
 halt_after_start LogOnly = LogOnly
@@ -85,12 +89,14 @@ AreBsyDrqBits kept_bits = bit_and kept_bits 0x88 ≡ kept_bits
 
 -- ---- Fetch
 
+-- The command of the slot may be taken: its bytes mean this, with these places of its pieces (AHCI 1.3.1, 5.3).
 pub record MayFetch (d : Device) (port slot : ℕ) (meaning : Meaning) (places : List ℕ) : Type 0 where
   pub fetchable : IsFetchable (d.port port) slot
   pub working : IsWorking (d.port port) meaning.operation
   pub is_alone_or_all_are_queued : IsAloneOrAllAreQueued (d.port port) meaning.operation
   pub says : DecodesTo d.memory (d.port port).bases.clb slot meaning places
 
+-- The port may fail at a slot whose bytes mean no command.
 pub record MayFetchFault (d : Device) (port slot kept_bits : ℕ) : Type 0 where
   pub fetchable : IsFetchable (d.port port) slot
   pub working : IsWorking (d.port port) Identify
@@ -99,9 +105,11 @@ pub record MayFetchFault (d : Device) (port slot kept_bits : ℕ) : Type 0 where
       → ⊥
   pub kept_bits_are_allowed : AreBsyDrqBits kept_bits
 
+-- A command as it is taken, with nothing moved or cleared.
 abbrev pub newly_fetched : Meaning → List ℕ → FetchedCommand
 newly_fetched meaning places = record { meaning = meaning; places = places; moved = 0; block = []; cleared = 0 }
 
+-- The port after it took the command: a queued one leaves CI, and a plain one sets BSY.
 abbrev pub port_after_fetch : DevicePort → ℕ → Meaning → List ℕ → DevicePort
 port_after_fetch p slot meaning places =
     record p {
@@ -149,6 +157,7 @@ abbrev pub disk_with_sector : Disk → ℕ → List ℕ → Disk
 disk_with_sector disk sector bytes =
     record disk { sectors = option_map (λ told. changed told sector bytes) disk.sectors }
 
+-- The disk after a piece moved: a write puts the bytes into the sector.
 abbrev pub disk_after : Operation → Disk → ℕ → List ℕ → Disk
 disk_after Write disk sector bytes = disk_with_sector disk sector bytes
 disk_after WriteQueued disk sector bytes = disk_with_sector disk sector bytes
@@ -159,6 +168,7 @@ abbrev pub block_after : Operation → List ℕ → List ℕ → List ℕ
 block_after Trim bytes old = bytes
 block_after _ bytes old = old
 
+-- The port after the next piece of the command moved.
 abbrev pub port_after_move : DevicePort → ℕ → FetchedCommand → List ℕ → DevicePort
 port_after_move p slot t bytes =
     record p {
@@ -167,6 +177,7 @@ port_after_move p slot t bytes =
       disk = disk_after t.meaning.operation p.disk (next_sector t) bytes;
     }
 
+-- The memory after the next piece of the command moved, which a command that reads the disk puts there.
 abbrev pub memory_after_move : (ℕ → ℕ) → FetchedCommand → List ℕ → ℕ → ℕ
 memory_after_move memory t bytes = if reads_memory t.meaning.operation then memory
     else patched memory (next_place t) bytes
@@ -183,6 +194,7 @@ pub record MayClear (d : Device) (port slot : ℕ) (t : FetchedCommand) (first c
   pub sectors_follow : take count (drop t.cleared (trim_sectors t.block)) ≡ consecutive first count
   pub inside : (count ≡ 0) ⊎ (first + count ≤ (d.port port).disk.sector_count)
 
+-- The disk with zeros in these sectors.
 abbrev pub disk_cleared : Disk → ℕ → ℕ → Disk
 disk_cleared disk first count =
     record disk {
@@ -190,6 +202,7 @@ disk_cleared disk first count =
           disk.sectors;
     }
 
+-- The port after these sectors of the trim were cleared.
 abbrev pub port_after_clear : DevicePort → ℕ → FetchedCommand → ℕ → ℕ → DevicePort
 port_after_clear p slot t first count =
     record p {
@@ -204,6 +217,7 @@ pub record IsFinished (t : FetchedCommand) : Type 0 where
   pub all_is_moved : t.moved ≡ length t.places
   pub all_is_cleared : t.meaning.operation ≡ Trim → t.cleared ≡ length (trim_sectors t.block)
 
+-- The command of the slot may end without error.
 pub record MayBeDone (d : Device) (port slot cause_bit : ℕ) (t : FetchedCommand) : Type 0 where
   pub works : WorksOn (d.port port) slot t t.meaning.operation
   pub finished : IsFinished t
@@ -215,11 +229,13 @@ abbrev pub lasting_after : Operation → DurableState → Disk → ℕ → Durab
 lasting_after Flush lasting disk here = record { sectors = disk.sectors; tape_length = here }
 lasting_after _ lasting disk here = lasting
 
+-- The port with what is lasting after a command of this operation ended.
 abbrev pub port_with_lasting_after_operation : DevicePort → Operation → ℕ → DevicePort
 port_with_lasting_after_operation p operation here = record p {
   lasting = lasting_after operation p.lasting p.disk here;
 }
 
+-- The port after the command ended: the bit of its slot, BSY and a halt are cleared, and its cause is set.
 abbrev pub port_after_done_except_lasting : DevicePort → ℕ → ℕ → Operation → DevicePort
 port_after_done_except_lasting p slot cause_bit operation =
     record p {
@@ -233,6 +249,7 @@ port_after_done_except_lasting p slot cause_bit operation =
 
 -- ---- Fault
 
+-- The command of the slot may fail with this error, and leave these bits of BSY and DRQ set.
 pub record MayFault (p : DevicePort) (slot error kept_bits : ℕ) (t : FetchedCommand) : Type 0 where
   pub taken : p.taken slot ≡ Some t
   pub cr_is_set : p.cr ≡ true
@@ -241,6 +258,7 @@ pub record MayFault (p : DevicePort) (slot error kept_bits : ℕ) (t : FetchedCo
 
 -- ---- LinkUp
 
+-- The link may come up: a disk is in, and a COMRESET has ended (AHCI 1.3.1, 10.4.2).
 pub record MayLinkUp (p : DevicePort) (sig : ℕ) : Type 0 where
   pub present : p.present ≡ true
   pub no_comreset : p.sctl_det ≡ 0
@@ -334,6 +352,7 @@ lasting_after_plug_or_replug lasting last disk here =
 
 -- ---- all steps: when each is possible
 
+-- The step is possible.
 abbrev pub Can : DeviceTransition → Device → Type 0
 Can (Fetch port slot meaning places) d = MayFetch d port slot meaning places
 Can (FetchFault port slot queued kept_bits) d = MayFetchFault d port slot kept_bits
@@ -354,6 +373,7 @@ Can (Scribble port slot at bytes) d = MayScribble (d.port port) slot at bytes
 
 -- ---- all steps: what each changes
 
+-- The device with another state of this port.
 abbrev pub with_port : Device → ℕ → DevicePort → Device
 with_port d port new = record d { port = changed d.port port new }
 
@@ -365,6 +385,7 @@ with_port_and_entry d port new entry = record d { port = changed d.port port new
 abbrev pub snapshot_of_bytes : List ℕ → Snapshot (List ℕ)
 snapshot_of_bytes bytes = record { marker = record {}; value = bytes }
 
+-- The entry of a move.
 abbrev pub move_of : ℕ → ℕ → FetchedCommand → List ℕ → tape_move.Move
 move_of port slot t bytes = record {
   port = record { 0 = port };
@@ -376,14 +397,17 @@ move_of port slot t bytes = record {
   bytes = snapshot_of_bytes bytes;
 }
 
+-- The entry of a clear.
 abbrev pub clear_entry : ℕ → ℕ → ℕ → ℕ → Entry
 clear_entry port slot first count =
     entry.Clear (record { port = record { 0 = port }; slot = record { 0 = slot }; first = first; count = count })
 
+-- The entry of an end.
 abbrev pub done_entry : ℕ → ℕ → Operation → Entry
 done_entry port slot operation =
     entry.Done (record { port = record { 0 = port }; slot = record { 0 = slot }; operation = operation })
 
+-- The entry of a fault.
 abbrev pub fault_entry : ℕ → ℕ → ℕ → ℕ → Entry
 fault_entry port slot error kept_bits =
     entry.Fault (record {
@@ -394,6 +418,7 @@ fault_entry port slot error kept_bits =
       error = error;
     })
 
+-- The device after the step.
 abbrev pub device_after : DeviceTransition → Device → Device
 device_after (Fetch port slot meaning places) d = with_port d port (port_after_fetch (d.port port) slot meaning places)
 device_after (FetchFault port slot queued kept_bits) d =
@@ -441,6 +466,7 @@ device_after (Scribble port slot at bytes) d = record d { memory = patched d.mem
 
 -- ---- lists of steps
 
+-- The steps, each possible when it comes, lead from the one device to the other.
 abbrev pub TransitionsLead : List DeviceTransition → Device → Device → Type 0
 TransitionsLead [] old new = new ≡ old
 TransitionsLead (step ∷ steps) old new = Can step old × TransitionsLead steps (device_after step old) new

@@ -8,6 +8,7 @@ use Rattle.block_server.specs.FourPorts.{by_port}
 use Rattle.block_server.specs.declared.server.Server.TheInside.{Inside}
 use Rattle.block_server.specs.ServerView.{ServerView, server_of}
 
+-- The fields of a server as contracts see them.
 abbrev pub server_view_of : {A : Type 0} → Inside A → ServerView A
 server_view_of s = record {
   adapter = s.adapter;

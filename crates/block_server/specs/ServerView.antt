@@ -14,6 +14,7 @@ use Rattle.server_history.specs.ServerState.{ServerState, state_of}
 use Rattle.slots.specs.SlotUses.{PortSlots}
 use Rattle.block_server.specs.ClientPromise.{ObservedState}
 
+-- The parts of a server, as lists by port, by frame and by request.
 pub record ServerView (A : Type 0) : Type 0 where
   pub adapter : A
   -- the grants, and by frame its owner and the request that it is lent to

@@ -7,6 +7,7 @@ use Rattle.play.specs.declared.session.Ended.TheVariants as ended
 use Rattle.blockd.specs.declared.fault.BlockdError.{BlockdError}
 use Rattle.blockd.specs.declared.fault.BlockdError.TheVariants.{CommandLine, Config, Image, Script, Line, NoMemory, Unwritten}
 
+-- The words of a fault on standard error.
 abbrev pub fault_text : BlockdError → List ℕ
 fault_text CommandLine = codes "bad command line"
 fault_text (Config kind) = codes "config " ++ decimal kind
@@ -16,6 +17,7 @@ fault_text (Line number) = codes "line " ++ decimal number ++ codes ": bad"
 fault_text NoMemory = codes "no memory"
 fault_text Unwritten = codes "output"
 
+-- The status with which the program ends.
 abbrev pub status_of : BlockdError → ℕ
 status_of CommandLine = 2
 status_of (Config kind) = 1

@@ -23,10 +23,12 @@ pub data AccessPurpose : Type 0 where
   Tables : (port slot : ℕ) → AccessPurpose
   TablesAndBlock : (port : ℕ) → AccessPurpose
 
+-- The accesses that a part of a call makes, by its purpose.
 abbrev pub accesses_for : AccessPurpose → Access → Type 0
 accesses_for (Tables port slot) = IsHeaderOrTableStore port slot
 accesses_for (TablesAndBlock port) = IsHeaderTableOrBlockStore port 0
 
+-- What a part of a call needs of the slots, by its purpose.
 abbrev pub slot_uses_for : AccessPurpose → SlotStates → Type 0
 slot_uses_for (Tables port slot) = IsSlotStateFree port slot
 slot_uses_for (TablesAndBlock port) = IsSlotStateFree port 0
@@ -44,6 +46,7 @@ pub record MemoryLaws : Type 0 where
   pub byte_at_index : (memory : ℕ → ℕ) (at count i : ℕ) → i < count
       → slice_index (bytes_at memory at count) i ≡ memory (at + i)
 
+-- The laws of the crates below that the proofs of this crate use.
 pub record Laws : Type 0 where
   pub memory : MemoryLaws
   pub access_keeps_on : (access : Access) (old new : Device) → IsOn old

@@ -7,6 +7,7 @@ use Rattle.byteorder.specs.Endian.{little_from}
 abbrev pub entry_first : List ℕ → ℕ → ℕ
 entry_first block place = little_from (8 * place) 6 block
 
+-- The number of sectors in an entry of the block.
 abbrev pub entry_length : List ℕ → ℕ → ℕ
 entry_length block place = little_from (8 * place + 6) 2 block
 
@@ -14,6 +15,7 @@ entry_length block place = little_from (8 * place + 6) 2 block
 abbrev pub wanted_entry_length : (count place : ℕ) → ℕ
 wanted_entry_length count place = min (count - 65535 * place) 65535
 
+-- The first sector of the entry, or 0 if the range has no sector left for it.
 abbrev pub wanted_entry_first : (first count place : ℕ) → ℕ
 wanted_entry_first first count place = if nat_lt (65535 * place) count then first + 65535 * place else 0
 

@@ -12,6 +12,7 @@ pub record IsSerialText (text : List ℕ) : Type 0 where
   pub at_most_20 : length text ≤ 20
   pub printable : All (λ c. (32 ≤ c) × (c ≤ 126)) text
 
+-- The port is 0 to 3, and its serial number, if it has one, is a text of a disk.
 pub record IsPortInRange (p : PortConfig) : Type 0 where
   pub number : p.number ≤ 3
   pub serial : IfSome p.serial (λ s. IsSerialText (string_bytes s))
@@ -40,6 +41,8 @@ pub record IsRightsText (text : List ℕ) : Type 0 where
       × (text ≡ letter_if r (codes "r") ++ (letter_if w (codes "w") ++ (letter_if t (codes "t") ++ letter_if f (codes
       "f"))))
 
+-- The numbers of the grant are in their ranges, its sectors end at 2^48 or before, and its rights are a choice of
+-- letters.
 pub record IsGrantInRange (g : GrantConfig) : Type 0 where
   pub client_is_positive : 1 ≤ g.client
   pub client_is_a_clients : g.client ≤ CLIENTS

@@ -12,15 +12,18 @@ use Rattle.configuration.specs.declared.FaultKind.{FaultKind}
 use Rattle.configuration.specs.declared.FaultKind.TheVariants.{NotToml, WrongKeys, WrongTypes, OutOfRange, Duplicate, SharedFrames, UnknownClient, UnknownPort}
 use Rattle.configuration.specs.Ranges.{IsPortInRange, IsClientInRange, IsGrantInRange}
 
+-- The numbers outside of the lists are in their ranges, and there are at most 64 grants.
 pub record HasOwnNumbersInRange (c : Config) : Type 0 where
   pub frames : (FEWEST_FRAMES ≤ c.frames) × (c.frames ≤ MOST_FRAMES)
   pub slots : (1 ≤ c.slots) × (c.slots ≤ SLOTS)
   pub depth : (1 ≤ c.depth) × (c.depth ≤ SLOTS)
   pub at_most_64_grants : length c.grant.items ≤ MOST_GRANTS
 
+-- The promise on trims is one of three words.
 abbrev pub IsTrimWord : List ℕ → Type 0
 IsTrimWord text = (text ≡ codes "full") ⊎ ((text ≡ codes "weak") ⊎ (text ≡ codes "none"))
 
+-- Each port, client and grant is in its ranges.
 pub record HasPartsInRange (c : Config) : Type 0 where
   pub ports : All IsPortInRange c.port.items
   pub clients : All (IsClientInRange c.frames) c.client.items
@@ -32,9 +35,11 @@ pub record IsInRange (c : Config) : Type 0 where
   pub trim : IsTrimWord (string_bytes c.trim)
   pub parts : HasPartsInRange c
 
+-- Two ports have different numbers.
 abbrev pub DifferInNumber : PortConfig → PortConfig → Type 0
 DifferInNumber p q = p.number ≢ q.number
 
+-- Two clients have different ids.
 abbrev pub DifferInId : ClientConfig → ClientConfig → Type 0
 DifferInId c d = c.id ≢ d.id
 
@@ -48,6 +53,7 @@ pub record HasNoDuplicate (c : Config) : Type 0 where
   pub clients : AllPairs DifferInId c.client.items
   pub grants : AllPairs DifferInGrant c.grant.items
 
+-- The client owns the frame.
 abbrev pub ClientHasFrame : ClientConfig → ℕ → Type 0
 ClientHasFrame c frame = (c.first_frame ≤ frame) × (frame < c.first_frame + c.frames)
 
@@ -59,6 +65,7 @@ pub record FramesApart (c d : ClientConfig) : Type 0 where
 unfoldable pub HasClient : List ClientConfig → ℕ → Type 0
 HasClient clients id = Any (λ c. c.id ≡ id) clients
 
+-- One of the ports has the number.
 unfoldable pub ConfiguresPort : List PortConfig → ℕ → Type 0
 ConfiguresPort ports number = Any (λ p. p.number ≡ number) ports
 

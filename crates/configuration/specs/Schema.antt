@@ -14,9 +14,11 @@ pub record KeyRule : Type 0 where
   pub value_type : ValueType
   pub is_required : Bool
 
+-- A key that has to be there.
 abbrev pub required_key : List ℕ → ValueType → KeyRule
 required_key name value_type = record { name = name; value_type = value_type; is_required = true }
 
+-- A key that may be left out.
 abbrev pub optional_key : List ℕ → ValueType → KeyRule
 optional_key name value_type = record { name = name; value_type = value_type; is_required = false }
 
@@ -29,13 +31,16 @@ document_keys =
     ∷ optional_key (codes "port") Tables ∷ optional_key (codes "client") Tables ∷ optional_key (codes "grant") Tables
     ∷ []
 
+-- The keys of a port.
 abbrev pub port_keys : List KeyRule
 port_keys = required_key (codes "number") Integer ∷ optional_key (codes "serial") Text ∷ []
 
+-- The keys of a client.
 abbrev pub client_keys : List KeyRule
 client_keys = required_key (codes "id") Integer ∷ required_key (codes "first_frame") Integer
     ∷ required_key (codes "frames") Integer ∷ []
 
+-- The keys of a grant.
 abbrev pub grant_keys : List KeyRule
 grant_keys =
     required_key (codes "client") Integer ∷ required_key (codes "number") Integer ∷ required_key (codes "port") Integer
@@ -46,6 +51,7 @@ grant_keys =
 abbrev pub key_rule_of : Key → KeyRule
 key_rule_of key = record { name = key.name.now; value_type = key.value_type; is_required = key.is_required }
 
+-- Each item is a table.
 abbrev pub AreTables : Items → Type 0
 AreTables no_items = Unit {0}
 AreTables (item value rest) = IsSome (as_table value) × AreTables rest

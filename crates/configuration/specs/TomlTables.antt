@@ -30,6 +30,7 @@ tables_at name members = tables_of (array_items (get_member name members))
 abbrev pub HasNumber : Members → List ℕ → ℕ → Type 0
 HasNumber members name n = get_member name members ≡ Some (integer (pos n))
 
+-- The key has this text.
 abbrev pub HasText : Members → List ℕ → List ℕ → Type 0
 HasText members name text = get_member name members ≡ Some (string text)
 
@@ -43,15 +44,18 @@ abbrev pub IsSetOrAbsent : Members → List ℕ → Bool → Type 0
 IsSetOrAbsent members name is_set =
     (get_member name members ≡ Some (boolean is_set)) ⊎ ((get_member name members ≡ None) × (is_set ≡ false))
 
+-- The table has the values of the port at its keys.
 pub record SpellsPort (members : Members) (p : PortConfig) : Type 0 where
   pub number : HasNumber members (codes "number") p.number
   pub serial : HasTextOrIsAbsent members (codes "serial") (option_map string_bytes p.serial)
 
+-- The table has the values of the client at its keys.
 pub record SpellsClient (members : Members) (c : ClientConfig) : Type 0 where
   pub id : HasNumber members (codes "id") c.id
   pub first_frame : HasNumber members (codes "first_frame") c.first_frame
   pub frames : HasNumber members (codes "frames") c.frames
 
+-- The table has the values of the grant at its keys.
 pub record SpellsGrant (members : Members) (g : GrantConfig) : Type 0 where
   pub client : HasNumber members (codes "client") g.client
   pub number : HasNumber members (codes "number") g.number

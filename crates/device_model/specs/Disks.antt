@@ -16,10 +16,12 @@ use Rattle.device_model.specs.declared.disks.DiskIndex.{DiskIndex}
 use Rattle.device_model.specs.declared.disks.DiskIndex.TheVariants.{Disk0, Disk1}
 use Rattle.device_model.specs.declared.model.Model.{Model}
 
+-- The number of the disk.
 abbrev pub disk_number : DiskIndex → ℕ
 disk_number Disk0 = 0
 disk_number Disk1 = 1
 
+-- Both are the same disk.
 abbrev pub is_same_index : DiskIndex → DiskIndex → Bool
 is_same_index Disk0 Disk0 = true
 is_same_index Disk1 Disk1 = true
@@ -64,11 +66,13 @@ pub record DiskIdentity : Type 0 where
   pub serial : List ℕ
   pub size : ℕ
 
+-- What a page says of the disk: its serial number and its size.
 abbrev pub identity : {S : Type 0} → (S → ℕ) → ModelDisk S → DiskIdentity
 identity size disk = record { serial = disk.serial; size = size disk.store }
 
 -- ---- those of a model, port by port; `None` stands for a port that has no disks, ever
 
+-- The bay of the port, if it has disks.
 abbrev pub bay_of : {S : Type 0} → Model S → ℕ → Option (Bay S)
 bay_of m port = slice_index_or m.bays.items port None
 
@@ -93,6 +97,7 @@ abbrev pub bay_failures : {S : Type 0} → (S → Option Failures) → Option (B
 bay_failures failures None = None
 bay_failures failures (Some b) = failures b.disk.store
 
+-- How often the stores of the port have failed, if they count that.
 abbrev pub disk_failures : {S : Type 0} → (S → Option Failures) → Model S → ℕ → Option Failures
 disk_failures failures m port = bay_failures failures (bay_of m port)
 
@@ -123,6 +128,7 @@ abbrev pub has_cache : {S : Type 0} → Option (Bay S) → Bool
 has_cache None = false
 has_cache (Some b) = b.cache.is_on
 
+-- The disks of the port have a cache.
 abbrev pub port_has_cache : {S : Type 0} → Model S → ℕ → Bool
 port_has_cache m port = has_cache (bay_of m port)
 
@@ -131,9 +137,11 @@ abbrev pub BayHasRoomForOldSectors : {S : Type 0} → Option (Bay S) → ℕ →
 BayHasRoomForOldSectors None more = Unit {0}
 BayHasRoomForOldSectors (Some b) more = HasRoomForOldSectors b.cache more
 
+-- The bay of the port has room for so many more old sectors.
 abbrev pub BaysHaveRoomForOldSectors : {S : Type 0} → List (Option (Bay S)) → ℕ → ℕ → Type 0
 BaysHaveRoomForOldSectors bays port more = BayHasRoomForOldSectors (slice_index_or bays port None) more
 
+-- The model has room for so many more old sectors of the port.
 abbrev pub ModelHasRoomForOldSectors : {S : Type 0} → Model S → ℕ → ℕ → Type 0
 ModelHasRoomForOldSectors m port more = BaysHaveRoomForOldSectors m.bays.items port more
 

@@ -15,6 +15,7 @@ pub record IsNewlyTaken (t : TakenCommand) : Type 0 where
   pub nothing_is_cleared : t.cleared ≡ 0
   pub first_in_range : t.first < 2 ^ 48
 
+-- An entry of no bytes.
 abbrev pub no_prd : Prd
 no_prd = record { address = 0; bytes = 0 }
 

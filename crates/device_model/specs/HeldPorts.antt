@@ -3,6 +3,7 @@ use Rattle.std.specs.Prelude.{ℕ, Bool, true, false, ◌≡◌, List, replicate
 use Rattle.adapter.specs.declared.access.DeviceStep.{DeviceStep}
 use Rattle.adapter.specs.declared.access.DeviceStep.TheVariants.{Hold, Release}
 
+-- The port is held.
 abbrev pub IsPortHeld : List Bool → ℕ → Type 0
 IsPortHeld held port = slice_index_or held port false ≡ true
 
@@ -10,9 +11,11 @@ IsPortHeld held port = slice_index_or held port false ≡ true
 abbrev pub IsPortReleased : List Bool → ℕ → Type 0
 IsPortReleased held port = slice_index_or held port false ≡ false
 
+-- All four ports are held.
 abbrev pub all_held : List Bool
 all_held = replicate 4 true
 
+-- No port is held.
 abbrev pub none_held : List Bool
 none_held = replicate 4 false
 

@@ -37,6 +37,7 @@ abbrev pub tells : {S : Type 0} → (S → Option (ℕ → List ℕ)) → Option
 tells told None = true
 tells told (Some b) = is_some (told b.disk.store) && is_some (told b.other.store)
 
+-- Each store of each bay has specified contents.
 abbrev pub all_bay_stores_are_known : {S : Type 0} → (S → Option (ℕ → List ℕ)) → List (Option (Bay S)) → Bool
 all_bay_stores_are_known told [] = true
 all_bay_stores_are_known {S} told (bay ∷ bays) = tells told bay && all_bay_stores_are_known told bays
@@ -50,9 +51,11 @@ all_media_of size told bays =
           (slice_index_or bays port None);
     }
 
+-- The disks of all ports as the definitions see them.
 abbrev pub all_media_at : {S : Type 0} → (S → ℕ) → (S → Option (ℕ → List ℕ)) → Model S → AllMedia
 all_media_at size told m = all_media_of size told m.bays.items
 
+-- The model as the definitions see it.
 abbrev pub device_at : {S : Type 0} → (S → ℕ) → (S → Option (ℕ → List ℕ)) → Model S → Device
 device_at size told m = device_of m.hardware (all_media_at size told m)
 
@@ -161,6 +164,7 @@ abbrev pub given_disks_tell : {S : Type 0} → (S → Option (ℕ → List ℕ))
 given_disks_tell told None = true
 given_disks_tell told (Some disks) = is_some (told disks.first.store) && is_some (told disks.spare.store)
 
+-- Each given disk of each port has specified contents.
 abbrev pub all_given_disks_tell : {S : Type 0} → (S → Option (ℕ → List ℕ)) → Disks S → Bool
 all_given_disks_tell told d = given_disks_tell told d.port0 &&
     (given_disks_tell told d.port1 && (given_disks_tell told d.port2 && given_disks_tell told d.port3))

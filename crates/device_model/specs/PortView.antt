@@ -20,6 +20,7 @@ use Rattle.device_model.specs.declared.port.TakenCommand.{TakenCommand}
 use Rattle.adapter.specs.declared.command.Operation.TheVariants as operation
 use Rattle.device_model.specs.declared.port.PortModel.{PortModel}
 
+-- The addresses that were written.
 abbrev pub bases_of : Addresses → Bases
 bases_of a =
     record {
@@ -31,6 +32,7 @@ bases_of a =
       fbu_set = a.fbu_set;
     }
 
+-- The notes of the readings.
 abbrev pub notes_of : Readings → Notes
 notes_of r =
     record {
@@ -65,6 +67,7 @@ halt_of halting.HaltedByPlain = HaltedByPlain
 halt_of halting.HaltedByQueued = HaltedByQueued
 halt_of halting.LogOnly = LogOnly
 
+-- A taken command as the definitions see it.
 abbrev pub taken_of : TakenCommand → FetchedCommand
 taken_of t =
     record {
@@ -103,9 +106,11 @@ abbrev pub lasting_sectors_after_end : Operation → Media → Option (ℕ → L
 lasting_sectors_after_end Flush m = m.disk.sectors
 lasting_sectors_after_end _ m = m.lasting
 
+-- The disk after a command of this operation ended.
 abbrev pub media_after_end : Media → Operation → Media
 media_after_end m operation = record m { lasting = lasting_sectors_after_end operation m }
 
+-- A port of the model as the definitions see it.
 abbrev pub port_of : PortModel → Media → DevicePort
 port_of p m =
     record {

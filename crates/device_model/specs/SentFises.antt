@@ -86,10 +86,12 @@ pub record IsSentOrLost (port place : ℕ) (bytes : List ℕ) (old new : Device)
 abbrev pub SendsPioSetup : ℕ → PioSetup → Device → Device → Type 0
 SendsPioSetup port fis old new = (bytes : List ℕ) × EncodesPioSetup bytes fis × IsSentOrLost port 0x20 bytes old new
 
+-- The port sends this Register FIS, unless its FIS area is outside of the memory.
 abbrev pub SendsDeviceToHost : ℕ → DeviceToHost → Device → Device → Type 0
 SendsDeviceToHost port fis old new = (bytes : List ℕ) × EncodesDeviceToHost bytes fis
     × IsSentOrLost port 0x40 bytes old new
 
+-- The port sends this Set Device Bits FIS, unless its FIS area is outside of the memory.
 abbrev pub SendsSetDeviceBits : ℕ → SetDeviceBits → Device → Device → Type 0
 SendsSetDeviceBits port fis old new = (bytes : List ℕ) × EncodesSetDeviceBits bytes fis
     × IsSentOrLost port 0x58 bytes old new
@@ -118,6 +120,7 @@ abbrev pub SendsFault : (queued : Bool) → (port : ℕ) → Device → Device �
 SendsFault true port old new = SendsSetDeviceBits port (queued_failure_fis (old.port port)) old new
 SendsFault false port old new = SendsDeviceToHost port (end_or_failure_d2h_fis (old.port port)) old new
 
+-- The port sends the FIS of a fault of this operation.
 abbrev pub SendsFaultOfOperation : (port cause_bit : ℕ) → Operation → Device → Device → Type 0
 SendsFaultOfOperation port cause_bit operation old new = SendsFault (is_queued operation) port old new
 

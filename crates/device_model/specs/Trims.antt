@@ -38,6 +38,7 @@ run_count_of (sector ∷ rest) = suc (run_count_from (suc sector) rest)
 abbrev pub uncleared : FetchedCommand → List ℕ
 uncleared t = drop t.cleared (trim_sectors t.block)
 
+-- The next sector that the trim has to clear.
 abbrev pub next_uncleared : FetchedCommand → ℕ
 next_uncleared t = slice_index (uncleared t) 0
 

@@ -28,6 +28,7 @@ abbrev pub all_media_after_end : AllMedia → ℕ → Operation → AllMedia
 all_media_after_end o port operation =
     record o { media = changed o.media port (media_after_end (o.media port) operation) }
 
+-- The hardware with its disks as the definitions see it.
 abbrev pub device_of : Hardware → AllMedia → Device
 device_of h o =
     record {

@@ -41,11 +41,13 @@ pub data AccessPurpose : Type 0 where
   AwaitingWithAnySlots : Port → AccessPurpose
   StoringTable : Port → AccessPurpose
 
+-- The accesses that a part of a call makes, by its purpose.
 abbrev pub accesses_for : AccessPurpose → Access → Type 0
 accesses_for (Asking port) = IsPxciOrSlot0PageMemoryAccess port
 accesses_for (AwaitingWithAnySlots port) = IsPxciOrSlot0PageMemoryAccess port
 accesses_for (StoringTable port) = IsHeaderOrTableStore port.0 0
 
+-- What a part of a call needs of the slots, by its purpose.
 abbrev pub slot_uses_for : AccessPurpose → SlotStates → Type 0
 slot_uses_for (Asking port) = IsSlotStateFree port.0 0
 slot_uses_for (AwaitingWithAnySlots port) = AnySlotStates
@@ -53,6 +55,7 @@ slot_uses_for (StoringTable port) = IsSlotStateFree port.0 0
 
 -- ---- laws
 
+-- The laws of the crates below that the proofs of this crate use.
 pub record Laws : Type 0 where
   -- accesses
   pub read_changes_port_register : (port : Port) (r : PortReg) (v : ℕ) (old new : Device) → Reads (Px port r) v old new

@@ -212,6 +212,7 @@ pub record ProbesDisk (accesses : List Access) (old : JointState Device) (ports 
       ⊎ (LastSctlWritesResetLink port accesses × ((new.port port.0).serr_x ≡ false)
       × HasFirstFisOrNoDevice (new.port port.0)))
 
+-- In a service each served port is probed as `ProbesDisk` says, if no disk comes to it.
 abbrev pub ProbesServedPortInServiceIfNoneComes : AbstractCall DeviceStep → List Access → JointState Device → Ports
     → Device → Port → Type 0
 ProbesServedPortInServiceIfNoneComes Service accesses old ports new port =

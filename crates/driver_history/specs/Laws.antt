@@ -27,6 +27,7 @@ use Rattle.block_machine.specs.Expected.{AllStepsFaithful, IsInitial, after}
 use Rattle.block_machine.specs.State.{Block, Machine, Pending}
 use Rattle.block_machine.specs.Steps.{IsInBookOrKept, Step, Touch}
 
+-- The laws on accesses that the proofs of this crate use.
 pub record AccessLaws : Type 0 where
   pub other_ports_are_left : (port : Port) (q : ℕ) (old new : Device) → q ≢ port.0 → IsOn old
       → IsDrivenBy (AccessesNoOtherPort port) old new

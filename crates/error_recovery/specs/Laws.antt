@@ -43,6 +43,7 @@ pub data RegisterSet : Type 0 where
   RecoveryRegisters : RegisterSet
   AllButCi : RegisterSet
 
+-- The registers of a port in the set.
 abbrev pub registers_of : RegisterSet → PortReg → Type 0
 registers_of CommandRegister = IsCommandRegister
 registers_of ErrorRegisters = IsSerrOrIs
@@ -54,6 +55,7 @@ pub data SlotCondition : Type 0 where
   AnyUses : SlotCondition
   PortUnused : SlotCondition
 
+-- The slots meet the condition.
 abbrev pub slot_uses_meeting : SlotCondition → Port → SlotStates → Type 0
 slot_uses_meeting AnyUses port = AnySlotStates
 slot_uses_meeting PortUnused port = λ uses. AllFree uses port.0
@@ -64,11 +66,13 @@ pub data AccessPurpose : Type 0 where
   Asking : Port → AccessPurpose
   Recovering : SlotCondition → Port → AccessPurpose
 
+-- The accesses that a part of a call makes, by its purpose.
 abbrev pub accesses_for : AccessPurpose → Access → Type 0
 accesses_for (Controlling set fitting port) = ReadsPortOrWrites (registers_of set) port
 accesses_for (Asking port) = IsPxciOrSlot0PageMemoryAccess port
 accesses_for (Recovering fitting port) = IsRecoveryAccess port
 
+-- What a part of a call needs of the slots, by its purpose.
 abbrev pub slot_uses_for : AccessPurpose → SlotStates → Type 0
 slot_uses_for (Controlling set fitting port) = slot_uses_meeting fitting port
 slot_uses_for (Asking port) = IsSlotStateFree port.0 0
@@ -76,6 +80,7 @@ slot_uses_for (Recovering fitting port) = slot_uses_meeting fitting port
 
 -- ---- laws
 
+-- The laws of the crates below that the proofs of this crate use.
 pub record Laws : Type 0 where
   -- one access
   pub access_keeps_on : (access : Access) (old new : Device) → IsOn old

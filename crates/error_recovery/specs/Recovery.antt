@@ -133,6 +133,7 @@ pub record RestsOnLog (port : Port) (outstanding : ℕ) (accesses : List Access)
   pub brings : BringsLastLogPage port old new last_log_page
   pub tells : NamesQueuedCommand last_log_page failed.slot.0 failed.status failed.error
 
+-- What stands behind the command that is named: the task file for a plain one, the page of the log for a queued one.
 abbrev pub BacksFailure : Bool → Port → ℕ → List Access → Device → Device → Option FailedSlot → Type 0
 BacksFailure queued port outstanding accesses old new None = Unit {0}
 BacksFailure false port outstanding accesses old new

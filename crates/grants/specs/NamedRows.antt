@@ -10,6 +10,7 @@ use Rattle.block_machine.specs.Rules.{HasGrantName, DifferInName}
 abbrev pub RowName : Type 0
 RowName = ClientId × ℕ
 
+-- The client and the number by which a row is named.
 abbrev pub row_name_of : GrantRow → RowName
 row_name_of row = (row.client, row.number)
 

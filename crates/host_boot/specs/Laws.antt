@@ -43,6 +43,7 @@ pub data SlotCondition : Type 0 where
   PortUnused : Port → SlotCondition
   ExactUses : SlotStates → SlotCondition
 
+-- The slots meet the condition.
 abbrev pub slot_uses_meeting : SlotCondition → SlotStates → Type 0
 slot_uses_meeting AnyUses = AnySlotStates
 slot_uses_meeting (PortUnused port) = λ uses. AllFree uses port.0
@@ -61,6 +62,7 @@ pub data AccessPurpose : Type 0 where
   TakingOver : List Wanted → SlotCondition → AccessPurpose
   Resetting : AccessPurpose
 
+-- The accesses that a part of a call makes, by its purpose.
 abbrev pub accesses_for : AccessPurpose → Access → Type 0
 accesses_for (Commanding port) = ReadsPortOrWrites IsCommandRegister port
 accesses_for (Booting port) = IsBootAccess port
@@ -71,6 +73,7 @@ accesses_for (Rebooting port) = IsCapPiOrBootAccess port
 accesses_for (TakingOver wanted fitting) = IsTakeOverAccess wanted
 accesses_for Resetting = IsResetAccess
 
+-- What a part of a call needs of the slots, by its purpose.
 abbrev pub slot_uses_for : AccessPurpose → SlotStates → Type 0
 slot_uses_for (Commanding port) = AnySlotStates
 slot_uses_for (Booting port) = λ uses. AllFree uses port.0
@@ -98,6 +101,7 @@ pub record ProbeResultLaws : Type 0 where
       → OnlyDeviceChangesPort (old.port port) (new.port port) → (state ≢ Dead → GainsNoMove port Identify old new)
       → BacksState wanted state port old → BacksState wanted state port new
 
+-- The laws of the crates below that the proofs of this crate use.
 pub record Laws : Type 0 where
   pub probe_results : ProbeResultLaws
   -- one access

@@ -6,6 +6,7 @@ use Rattle.identify.specs.declared.Unfit.{Unfit}
 use Rattle.identify.specs.declared.Unfit.TheVariants.{BadChecksum, Word83, No48Bit, SectorSize, NoFlush, NoSectors}
 use Rattle.identify.specs.declared.DiskInfo.{DiskInfo}
 
+-- A word of the page of IDENTIFY DEVICE.
 abbrev pub identity_word : List ℕ → ℕ → ℕ
 identity_word page number = little_from (2 * number) 2 page
 
@@ -38,6 +39,7 @@ unfit_number NoSectors = 6
 abbrev pub IsFirstUnfit : List ℕ → Unfit → Type 0
 IsFirstUnfit page f = UnfitApplies page f × ((g : Unfit) → unfit_number g < unfit_number f → UnfitApplies page g → ⊥)
 
+-- The page is of a disk that can be used.
 abbrev pub IsFitPage : List ℕ → Type 0
 IsFitPage page = (g : Unfit) → UnfitApplies page g → ⊥
 

@@ -52,6 +52,7 @@ entry_text (entry.Fatal port) = []
 entry_text (entry.Unplug port) = []
 entry_text (entry.Plug port name) = []
 
+-- The lines of these entries of the tape.
 abbrev pub entries_text : List Entry → List ℕ
 entries_text entries = flat_map entry_text entries
 

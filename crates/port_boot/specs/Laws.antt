@@ -43,6 +43,7 @@ pub data RegisterSet : Type 0 where
   BootRegisters : RegisterSet
   AllButCi : RegisterSet
 
+-- The registers of a port in the set.
 abbrev pub registers_of : RegisterSet → PortReg → Type 0
 registers_of CommandRegister = IsCommandRegister
 registers_of PlacingRegisters = IsCmdOrBaseRegister
@@ -56,6 +57,7 @@ pub data SlotCondition : Type 0 where
   Slot0Unused : SlotCondition
   PortUnused : SlotCondition
 
+-- The slots meet the condition.
 abbrev pub slot_uses_meeting : SlotCondition → Port → SlotStates → Type 0
 slot_uses_meeting AnyUses port = AnySlotStates
 slot_uses_meeting Slot0Unused port = IsSlotStateFree port.0 0
@@ -67,11 +69,13 @@ pub data AccessPurpose : Type 0 where
   Booting : SlotCondition → Port → AccessPurpose
   Asking : Port → AccessPurpose
 
+-- The accesses that a part of a call makes, by its purpose.
 abbrev pub accesses_for : AccessPurpose → Access → Type 0
 accesses_for (Controlling set fitting port) = ReadsPortOrWrites (registers_of set) port
 accesses_for (Booting fitting port) = IsBootAccess port
 accesses_for (Asking port) = IsPxciOrSlot0PageMemoryAccess port
 
+-- What a part of a call needs of the slots, by its purpose.
 abbrev pub slot_uses_for : AccessPurpose → SlotStates → Type 0
 slot_uses_for (Controlling set fitting port) = slot_uses_meeting fitting port
 slot_uses_for (Booting fitting port) = slot_uses_meeting fitting port
@@ -79,6 +83,7 @@ slot_uses_for (Asking port) = IsSlotStateFree port.0 0
 
 -- ---- laws
 
+-- The laws of the crates below that the proofs of this crate use.
 pub record Laws : Type 0 where
   -- one access
   pub write_changes_port_register : (port : Port) (r : PortReg) (v : ℕ) (old new : Device)

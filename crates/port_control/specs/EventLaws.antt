@@ -30,14 +30,17 @@ pub data AccessPurpose : Type 0 where
   TakingEvents : Port → AccessPurpose
   ServingAnyPortWithSlotsUsedSo : SlotStates → AccessPurpose
 
+-- The accesses that a part of a call makes, by its purpose.
 abbrev pub accesses_for : AccessPurpose → Access → Type 0
 accesses_for (TakingEvents port) = IsPxisSstsOrOwnIsAccess port
 accesses_for (ServingAnyPortWithSlotsUsedSo uses) = WritesOnlyHbaIsPxIsCiOrSact
 
+-- What a part of a call needs of the slots, by its purpose.
 abbrev pub slot_uses_for : AccessPurpose → SlotStates → Type 0
 slot_uses_for (TakingEvents port) = AnySlotStates
 slot_uses_for (ServingAnyPortWithSlotsUsedSo uses) = SameSlotStates uses
 
+-- The laws of the crates below that the proofs of looks use.
 pub record Laws : Type 0 where
   -- one access
   pub steps_reflexive : (d : Device) → Steps d d

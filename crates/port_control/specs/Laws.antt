@@ -40,6 +40,7 @@ pub data RegisterSet : Type 0 where
   ClearingErrors : RegisterSet
   ResettingLink : RegisterSet
 
+-- The registers of a port in the set.
 abbrev pub registers_of : RegisterSet → PortReg → Type 0
 registers_of Commanding = IsCommandRegister
 registers_of Placing = IsCmdOrBaseRegister
@@ -51,16 +52,19 @@ pub data AccessPurpose : Type 0 where
   Controlling : RegisterSet → Port → AccessPurpose
   StartingWithAllFree : Port → AccessPurpose
 
+-- The accesses that a part of a call makes, by its purpose.
 abbrev pub accesses_for : AccessPurpose → Access → Type 0
 accesses_for (Controlling set port) = ReadsPortOrWrites (registers_of set) port
 accesses_for (StartingWithAllFree port) = ReadsPortOrWrites IsCommandRegister port
 
+-- What a part of a call needs of the slots, by its purpose.
 abbrev pub slot_uses_for : AccessPurpose → SlotStates → Type 0
 slot_uses_for (Controlling set port) = AnySlotStates
 slot_uses_for (StartingWithAllFree port) = λ uses. AllFree uses port.0
 
 -- ---- laws
 
+-- The laws of the crates below that the proofs of this crate use.
 pub record Laws : Type 0 where
   -- one access
   pub read_changes_port_register : (port : Port) (r : PortReg) (v : ℕ) (old new : Device) → Reads (Px port r) v old new

@@ -33,9 +33,11 @@ HidesNoFault port old new = (new.port port).is 30 ≡ false → ((old.port port)
 abbrev pub ShowsNoFatal : DevicePort → Type 0
 ShowsNoFatal p = (place : ℕ) → 27 ≤ place → place ≤ 29 → p.is place ≡ false
 
+-- No fatal error is cleared unseen.
 abbrev pub HidesNoFatal : ℕ → Device → Device → Type 0
 HidesNoFatal port old new = ShowsNoFatal (new.port port) → ShowsNoFatal (old.port port) × NoFatalErrors port old new
 
+-- No change of the link is cleared unseen.
 abbrev pub HidesNoPlugEvent : ℕ → Device → Device → Type 0
 HidesNoPlugEvent port old new = (new.port port).serr_n ≡ false → ((old.port port).serr_n ≡ false)
     × NoPlugEvents port old new

@@ -7,6 +7,7 @@ use Rattle.dma_frames.specs.FrameTables.{OwnersAndLoans}
 use Rattle.request_queue.specs.BookEntries.{BookEntry, IsWellFormedEntry, BookIsWellFormed}
 use Rattle.request_queue.specs.Dispositions.{BookAndLoans}
 
+-- The book with the loans of the table and the kept loans.
 abbrev pub book_and_loans : List BookEntry → OwnersAndLoans → List Lending → BookAndLoans
 book_and_loans book table kept = record { book = book; table = table; kept = kept }
 

@@ -73,6 +73,7 @@ abbrev pub prepend_access : Option Access → List Access → List Access
 prepend_access None accesses = accesses
 prepend_access (Some access) accesses = access ∷ accesses
 
+-- The accesses among the acts.
 abbrev pub accesses_of : List Act → List Access
 accesses_of [] = []
 accesses_of (act ∷ acts) = prepend_access act.access (accesses_of acts)

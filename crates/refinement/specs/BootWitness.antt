@@ -22,6 +22,7 @@ waking_port = record reading_port {
   fresh = false;
 }
 
+-- The example device while its link comes up.
 abbrev pub waking_device : Device
 waking_device = record first_read_device { port = changed (λ _. empty_port) 0 waking_port }
 

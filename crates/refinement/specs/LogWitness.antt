@@ -30,9 +30,11 @@ log_memory = patched (patched first_memory 0x1000 read_log_fis) 0x1080 encoded_p
 abbrev pub log_port : DevicePort
 log_port = record ready_port { halt = LogOnly }
 
+-- The example device that is asked for its log.
 abbrev pub log_device : Device
 log_device = record (ready_device log_memory) { port = changed (ready_device log_memory).port 0 log_port }
 
+-- The slots of the example while the log is asked for.
 abbrev pub slot_states_with_own_read_log : SlotStates
 slot_states_with_own_read_log = set_slot_state (λ port slot. Free) 0 0 (Own ReadLog)
 

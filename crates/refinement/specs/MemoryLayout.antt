@@ -10,12 +10,15 @@ use Rattle.block_machine.specs.State.{nth_frame}
 abbrev pub command_list_address : ℕ → ℕ
 command_list_address port = DRIVER_BYTES_PER_PORT * port
 
+-- The address of the FIS area of a port.
 abbrev pub received_fis_address : ℕ → ℕ
 received_fis_address port = DRIVER_BYTES_PER_PORT * port + RECEIVED_FIS_OFFSET
 
+-- The address of the command table of a slot.
 abbrev pub command_table_address : ℕ → ℕ → ℕ
 command_table_address port slot = DRIVER_BYTES_PER_PORT * port + TABLES_OFFSET + TABLE_BYTES * slot
 
+-- The address of the scratch frame of a port.
 abbrev pub scratch_frame_address : ℕ → ℕ
 scratch_frame_address port = DRIVER_BYTES_PER_PORT * port + SCRATCH_OFFSET
 

@@ -31,6 +31,7 @@ first_id = record { 0 = 1 }
 abbrev pub ready_port : DevicePort
 ready_port = record reading_port { ci = λ _. false }
 
+-- The example device that is ready.
 abbrev pub ready_device : (ℕ → ℕ) → Device
 ready_device memory = record first_read_device { memory = memory; port = changed (λ _. empty_port) 0 ready_port }
 
@@ -56,6 +57,7 @@ pub record PreparedReadWitness : Type 0 where
 abbrev pub first_slot_states : SlotStates
 first_slot_states = set_slot_state (λ port slot. Free) 0 0 (Serves first_id)
 
+-- What the driver of the example knows at first.
 abbrev pub first_driver_state : DriverState
 first_driver_state = record {
   slot_states = first_slot_states;
@@ -76,6 +78,7 @@ pub record FirstReadWitness : Type 0 where
 abbrev pub stopping_read : Device
 stopping_read = device_after_write (Px (port_at 0) Cmd) 0x10 first_read_device
 
+-- The example device whose engine has stopped during the read.
 abbrev pub stopped_read : Device
 stopped_read = device_after (Fall 0) stopping_read
 
@@ -151,6 +154,7 @@ identify_memory = patched (patched first_memory 0x1000 identify_fis) 0x1080 enco
 abbrev pub prepared_identify : Device
 prepared_identify = ready_device identify_memory
 
+-- The example device with IDENTIFY DEVICE issued.
 abbrev pub issued_identify : Device
 issued_identify = device_after_write (Px (port_at 0) Ci) 1 prepared_identify
 

@@ -14,6 +14,7 @@ use Rattle.block_machine.specs.Expected.{after}
 use Rattle.block_machine.specs.State.{Machine}
 use Rattle.block_machine.specs.Steps.{Step}
 
+-- The laws on steps that the proofs of this crate use.
 pub record StepLaws : Type 0 where
   -- what the device's steps keep, and one of them
   pub steps_keep : (old new : Device) → Steps old new → KeepsOverSteps old new

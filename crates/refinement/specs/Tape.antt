@@ -46,6 +46,7 @@ abbrev pub with_sectors_touched : Pending → ℕ → ℕ → Pending
 with_sectors_touched e from zero = e
 with_sectors_touched e from (suc n) = touch (from + n) (with_sectors_touched e from n)
 
+-- The machine touches so many sectors of the request, from this place on.
 abbrev pub touch_steps : Pending → ℕ → ℕ → List Step
 touch_steps e from zero = []
 touch_steps e from (suc n) = Touch (with_sectors_touched e from n) (from + n) (λ b. 0) ∷ touch_steps e from n

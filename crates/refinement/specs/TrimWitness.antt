@@ -24,6 +24,7 @@ use Rattle.refinement.specs.ReadWitness.{first_id, first_slot_states, encoded_pa
 abbrev pub trim_meaning_without_range : Meaning
 trim_meaning_without_range = record { operation = Trim; first = 0; count = 0 }
 
+-- The FIS of the trim.
 abbrev pub trim_fis : List ℕ
 trim_fis = 0x27 ∷ 0x80 ∷ 6 ∷ 1 ∷ 0 ∷ 0 ∷ 0 ∷ 0 ∷ 0 ∷ 0 ∷ 0 ∷ 0 ∷ 1 ∷ replicate 7 0
 
@@ -41,9 +42,11 @@ trim_memory = patched (patched (patched (patched first_memory 0 (0x45 ∷ [])) 0
 abbrev pub prepared_trim : Device
 prepared_trim = ready_device trim_memory
 
+-- The example device with the trim issued.
 abbrev pub issued_trim : Device
 issued_trim = device_after_write (Px (port_at 0) Ci) 1 prepared_trim
 
+-- The example device with the trim taken.
 abbrev pub taken_trim : Device
 taken_trim = device_after (Fetch 0 0 trim_meaning_without_range (scratch_frame_address 0 ∷ [])) issued_trim
 

@@ -36,6 +36,7 @@ second_id = record { 0 = 2 }
 abbrev pub queued_read : ℕ → Meaning
 queued_read first = record { operation = ReadQueued; first = first; count = 8 }
 
+-- The FIS of a queued read.
 abbrev pub queued_read_fis : ℕ → ℕ → List ℕ
 queued_read_fis slot first = 0x27 ∷ 0x80 ∷ 0x60 ∷ 8 ∷ first ∷ 0 ∷ 0 ∷ 0x40 ∷ 0 ∷ 0 ∷ 0 ∷ 0 ∷ 8 * slot ∷ replicate 7 0
 
@@ -59,12 +60,15 @@ abbrev pub two_armed : Device
 two_armed = device_after_write (Px (port_at 0) Sact) 2
     (device_after_write (Px (port_at 0) Sact) 1 (ready_device two_reads_memory))
 
+-- The example device with one read issued.
 abbrev pub one_issued : Device
 one_issued = device_after_write (Px (port_at 0) Ci) 1 two_armed
 
+-- The example device with both reads issued.
 abbrev pub two_issued : Device
 two_issued = device_after_write (Px (port_at 0) Ci) 2 one_issued
 
+-- The example device with one read taken.
 abbrev pub one_taken : Device
 one_taken = device_after (Fetch 0 0 (queued_read 100) (piece_addresses 0x64000 8)) two_issued
 

@@ -24,6 +24,7 @@ use Rattle.script.specs.FieldWords.{Word}
 use Rattle.script.specs.declared.answer.Answer.{Answer}
 use Rattle.script.specs.declared.answer.Answer.TheVariants as answer
 
+-- The words of a port's state.
 abbrev pub state_words : PortState → List Word
 state_words Absent = codes "Absent" ∷ []
 state_words Ready = codes "Ready" ∷ []
@@ -31,6 +32,7 @@ state_words Foreign = codes "Foreign" ∷ []
 state_words (Unfit cause) = codes "Unfit" ∷ decimal cause ∷ []
 state_words Dead = codes "Dead" ∷ []
 
+-- The words of an outcome.
 abbrev pub outcome_words : Outcome → List Word
 outcome_words outcome.Ok = codes "Ok" ∷ []
 outcome_words (outcome.DeviceError status error) = codes "DeviceError" ∷ encode_lower (status ∷ [])
@@ -46,6 +48,7 @@ frame_fault_words (fault.FrameForeign place) = codes "FrameForeign" ∷ decimal 
 frame_fault_words (fault.FrameTwice place) = codes "FrameTwice" ∷ decimal place ∷ []
 frame_fault_words (fault.FrameLent place) = codes "FrameLent" ∷ decimal place ∷ []
 
+-- The words of a rule that a request breaks.
 abbrev pub rule_words : Rule → List Word
 rule_words NoGrant = codes "NoGrant" ∷ []
 rule_words NoRight = codes "NoRight" ∷ []
@@ -63,6 +66,7 @@ refusal_words refused.TrimUnsupported = codes "TrimUnsupported" ∷ []
 refusal_words refused.ClientFull = codes "ClientFull" ∷ []
 refusal_words refused.IdsSpent = codes "IdsSpent" ∷ []
 
+-- The word of a fault of a store or load.
 abbrev pub mem_fault_word : MemFault → Word
 mem_fault_word FrameForeign = codes "FrameForeign"
 mem_fault_word FrameLent = codes "FrameLent"
@@ -79,6 +83,7 @@ moved_word command.Flush = codes "flush"
 moved_word command.Trim = codes "block"
 moved_word command.ReadLog = codes "log"
 
+-- The words of an answer.
 abbrev pub answer_words : Answer → List Word
 answer_words (answer.Accepted id) = codes "ok" ∷ decimal id.0 ∷ []
 answer_words (answer.Refused refusal) = codes "refused" ∷ decimal ((refusal_rank refusal).0) ∷ refusal_words refusal

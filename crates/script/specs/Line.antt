@@ -17,12 +17,14 @@ use Rattle.adapter.specs.declared.access.DeviceStep.{DeviceStep}
 use Rattle.adapter.specs.declared.access.DeviceStep.TheVariants as step
 use Rattle.script.specs.FieldWords.{Word, fatal_word, frames_word}
 
+-- The word of an operation.
 abbrev pub op_word : Op → Word
 op_word Read = codes "read"
 op_word Write = codes "write"
 op_word Trim = codes "trim"
 op_word Flush = codes "flush"
 
+-- The word of a page.
 abbrev pub page_word : DiskPage → Word
 page_word Identity = codes "id"
 page_word Log = codes "log"
@@ -65,6 +67,7 @@ step_words (step.Unplug port) = codes "unplug" ∷ decimal port.0 ∷ []
 step_words (step.Plug port disk) = codes "plug" ∷ decimal port.0 ∷ decimal disk.0 ∷ []
 step_words (step.LosePlug port) = codes "loseplug" ∷ decimal port.0 ∷ []
 
+-- The words of a line, by the call that it asks for.
 abbrev pub line_words : Call DeviceStep → List Word
 line_words (Submit request) = op_word request.op ∷ request_field_words request.op request
 line_words (ClientStore client frame offset bytes) =

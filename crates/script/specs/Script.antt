@@ -42,6 +42,7 @@ pub data AskForCalls : List (List ℕ) → List (Call DeviceStep) → Type 0 whe
   line_asks_call : {text : List ℕ} {texts : List (List ℕ)} {line : Call DeviceStep} {rest : List (Call DeviceStep)}
       → Asks text (Some line) → AskForCalls texts rest → AskForCalls (text ∷ texts) (line ∷ rest)
 
+-- The text is a script of these calls.
 abbrev pub IsScript : List ℕ → List (Call DeviceStep) → Type 0
 IsScript text lines = AskForCalls (lines_of text) lines
 

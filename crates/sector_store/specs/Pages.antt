@@ -6,6 +6,7 @@ use Rattle.sector_store.specs.declared.pages.LoggedError.{LoggedError}
 use Rattle.sector_store.specs.declared.pages.Trim.{Trim}
 use Rattle.sector_store.specs.declared.pages.Trim.TheVariants.{Full, Weak, Without}
 
+-- A word of the page.
 abbrev pub identify_word : List ℕ → ℕ → ℕ
 identify_word page number = slice_index page (2 * number) + 2 ^ 8 * slice_index page (2 * number + 1)
 
@@ -54,10 +55,12 @@ abbrev pub logged_tag : Option LoggedError → ℕ
 logged_tag None = 0x80
 logged_tag (Some failed) = failed.tag
 
+-- The status that the log has of the last failure.
 abbrev pub logged_status : Option LoggedError → ℕ
 logged_status None = 0
 logged_status (Some failed) = 0x41
 
+-- The error that the log has of the last failure.
 abbrev pub logged_error_byte : Option LoggedError → ℕ
 logged_error_byte None = 0
 logged_error_byte (Some failed) = failed.error

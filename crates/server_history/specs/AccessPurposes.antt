@@ -13,10 +13,12 @@ pub data AccessPurpose : Type 0 where
   ReadingMasks : Port → AccessPurpose
   Servicing : AccessPurpose
 
+-- The accesses that a part of a call makes, by its purpose.
 abbrev pub accesses_for : AccessPurpose → Access → Type 0
 accesses_for (Looking port) = IsPxisSstsOrOwnIsAccess port
 accesses_for (ReadingMasks port) = ReadsCiOrSact port
 accesses_for Servicing = WritesOnlyHbaIsPxIsCiOrSact
 
+-- What a part of a call needs of the slots, by its purpose.
 abbrev pub slot_uses_for : AccessPurpose → SlotStates → Type 0
 slot_uses_for kind = AnySlotStates

@@ -47,6 +47,7 @@ use Rattle.refinement.specs.SparedBook.{AllAsFarOrFurther, IsAsFarOrFurther, Kee
 use Rattle.driver_history.specs.Histories.{IsDriverHistory}
 use Rattle.identify.specs.declared.wanted.Wanted.{Wanted}
 
+-- The laws on steps and accesses that the proofs of this crate use.
 pub record BasicLaws : Type 0 where
   -- what the device does by itself
   pub steps_keep_adapter_and_notes : (old new : Device) → Steps old new → KeepsOverSteps old new

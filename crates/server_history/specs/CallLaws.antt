@@ -34,6 +34,7 @@ use Rattle.port_control.specs.declared.events.PortEvent.{PortEvent}
 use Rattle.port_control.specs.declared.events.PortEvent.TheVariants.{FatalError, TaskFileError, LinkChanged, NoEvent}
 use Rattle.server_history.specs.AccessPurposes.{AccessPurpose, slot_uses_for, accesses_for}
 
+-- The laws on looks at a port that the proofs of this crate use.
 pub record LookLaws : Type 0 where
   -- a reading of a port's register; what other accesses leave of a port
   pub port_register_read : (port : Port) (r : PortReg) (v : ℕ) (old new : Device) → Reads (Px port r) v old new
@@ -129,6 +130,7 @@ pub record LookLaws : Type 0 where
       → IsDrivenBy (IsPxisSstsOrOwnIsAccess port) old new
       → (old.port q).sact slot ≡ false → (new.port q).sact slot ≡ false
 
+-- The laws on calls that the proofs of this crate use.
 pub record CallLaws : Type 0 where
   -- a port's turn in a call
   pub turn_evidence_is_calls : (port : Port) (old : JointState Device) (begun : AbstractState) (ended ports : Ports)

@@ -64,6 +64,7 @@ use Rattle.server_history.specs.RecoveryLaws.{RecoveryLaws, PortErrorLaws}
 use Rattle.server_history.specs.BasicLaws.{AgeLaws, BasicLaws, SlotLaws, FrameHolderLaws}
 use Rattle.server_history.specs.CallLaws.{CallLaws, LookLaws}
 
+-- The laws of the crates below that the proofs of this crate use.
 pub record PrerequisiteLaws : Type 0 where
   -- steps one after another
   pub steps_and_accesses : BasicLaws

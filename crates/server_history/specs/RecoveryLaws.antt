@@ -35,6 +35,7 @@ use Rattle.host_boot.specs.declared.ProbeResult.TheVariants.{Unready}
 use Rattle.identify.specs.declared.wanted.Wanted.{Wanted}
 use Rattle.port_boot.specs.States.{ShownDiskIsIn}
 
+-- The laws on recoveries that the proofs of this crate use.
 pub record RecoveryLaws : Type 0 where
   -- where each issued request of a port has a slot, as many slots serve one
   pub serving_slots_are_issued_count : (uses : SlotStates) (m : Machine) (d : Device) → IsReachable m

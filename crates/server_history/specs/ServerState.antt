@@ -87,6 +87,7 @@ abbrev pub last_serial_of : Option DiskInfo → List ℕ
 last_serial_of None = []
 last_serial_of (Some info) = info.serial
 
+-- The sectors of the disk, or 0 if there is none.
 abbrev pub last_sectors_of : Option DiskInfo → ℕ
 last_sectors_of None = 0
 last_sectors_of (Some info) = info.sectors
@@ -118,6 +119,7 @@ mode_in s port = mode_at s.modes port.0
 abbrev pub last_disk_in : ServerState → Port → Option DiskInfo
 last_disk_in s port = last_disk_of (probe_result_of s.probe_results port.0) (remembered_at s.remembered port.0)
 
+-- The ports of the server as the block machine sees them.
 abbrev pub ports_of : ServerState → Ports
 ports_of s = record {
   served = λ port. is_served (probe_result_of s.probe_results port.0);

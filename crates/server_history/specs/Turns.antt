@@ -42,6 +42,7 @@ use Rattle.slots.specs.declared.SlotUse.{SlotUse}
 abbrev pub abstract_state_of : ServerState → Machine → AbstractState
 abstract_state_of s m = record { machine = m; ports = ports_of s }
 
+-- The server's device beside the machine that stands for the server.
 abbrev pub joint_state_of : ServerState → Machine → JointState Device
 joint_state_of s m = record { device = s.device; abstract = abstract_state_of s m }
 

@@ -27,16 +27,19 @@ IsAllowedAndShowsState (Loading at bytes) d = IsInMemoryNotOwnedByDevice at (len
     × (bytes ≡ bytes_at d.memory at (length bytes))
 IsAllowedAndShowsState (Storing at bytes) d = IsInMemoryNotOwnedByDevice at (length bytes) d
 
+-- The device after the access.
 abbrev pub after_access : Access → Device → Device
 after_access (Reading r v) d = device_after_reading r v d
 after_access (Writing r v) d = device_after_write r v d
 after_access (Loading at bytes) d = d
 after_access (Storing at bytes) d = record d { memory = patched d.memory at bytes }
 
+-- The access or step may come.
 abbrev pub MayCome : AccessOrStep → Device → Type 0
 MayCome (MadeAccess access) d = IsAllowedAndShowsState access d
 MayCome (DeviceStepCame step) d = Can step d
 
+-- The device after the access or step.
 abbrev pub after_access_or_step : AccessOrStep → Device → Device
 after_access_or_step (MadeAccess access) d = after_access access d
 after_access_or_step (DeviceStepCame step) d = device_after step d
@@ -46,6 +49,7 @@ abbrev pub device_after_run : List AccessOrStep → Device → Device
 device_after_run [] d = d
 device_after_run (event ∷ events) d = device_after_run events (after_access_or_step event d)
 
+-- Each access or step may come, one after another.
 abbrev pub AllMayCome : List AccessOrStep → Device → Type 0
 AllMayCome [] d = Unit {0}
 AllMayCome (event ∷ events) d = MayCome event d × AllMayCome events (after_access_or_step event d)
@@ -81,9 +85,11 @@ pub record CommandBytesAreGuarded (d : Device) : Type 0 where
 
 -- ---- the kinds of steps
 
+-- The kinds of steps of a device.
 pub data TransitionKind : Type 0 where
   Fetch FetchFault Move Clear Done Fault Fatal Fall FrFall LinkUp Unplug Plug ResetEnds Scribble : TransitionKind
 
+-- The kind of a step.
 abbrev pub kind_of : DeviceTransition → TransitionKind
 kind_of (Fetching port slot meaning places) = Fetch
 kind_of (SenselessFetching port slot queued kept_bits) = FetchFault

@@ -32,6 +32,7 @@ port_0_look_accesses_showing_ifs =
     Reading (Px (port_at 0) Is) 0x08000000 ∷ Writing (Px (port_at 0) Is) 0x08000000 ∷ Writing registers.Is 1
     ∷ Reading (Px (port_at 0) Ssts) 3 ∷ []
 
+-- The accesses of the look and of the boot after the fatal error.
 abbrev pub fatal_accesses : List Access
 fatal_accesses = port_0_look_accesses_showing_ifs ++ stop_and_comreset_accesses
 

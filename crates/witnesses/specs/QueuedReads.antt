@@ -31,6 +31,7 @@ use Rattle.witnesses.specs.RunningAdapter.{queued_disk_mode}
 abbrev pub second_done_accesses : List Access
 second_done_accesses = Reading (Px (port_at 0) Ci) 0 ∷ Reading (Px (port_at 0) Sact) 1 ∷ []
 
+-- The readings by which the first read is found done.
 abbrev pub first_done_accesses : List Access
 first_done_accesses = Reading (Px (port_at 0) Ci) 0 ∷ Reading (Px (port_at 0) Sact) 0 ∷ []
 

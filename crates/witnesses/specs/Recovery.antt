@@ -35,6 +35,7 @@ stop_clear_and_restart_accesses =
 abbrev pub told_fault : RequestFault
 told_fault = record { id = first_id; status = 0x41; error = 0x40 }
 
+-- The evidence of the call that reports the fault.
 abbrev pub fault_evidence : Evidence
 fault_evidence = record {
   faults = told_fault ∷ [];

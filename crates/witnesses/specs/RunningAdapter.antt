@@ -34,6 +34,7 @@ identify_page depth_less_one word_76_high_byte = replicate 150 0
 abbrev pub fit_page : List ℕ
 fit_page = identify_page 0 0
 
+-- The page of a disk with a queue of 32.
 abbrev pub queueing_page : List ℕ
 queueing_page = identify_page 31 1
 
@@ -49,6 +50,7 @@ page_move page port = record {
   bytes = snapshot_of_bytes page;
 }
 
+-- The entry of the page's move.
 abbrev pub page_entry : List ℕ → ℕ → Entry
 page_entry page port = entry.Move (page_move page port)
 
@@ -83,6 +85,7 @@ running_device tape memory ports =
 abbrev pub plain_disk_mode : QueueMode
 plain_disk_mode = record { queued = false; usable_slots = 1 }
 
+-- How a port takes commands whose adapter and disk queue.
 abbrev pub queued_disk_mode : QueueMode
 queued_disk_mode = record { queued = true; usable_slots = 32 }
 
