@@ -16,7 +16,7 @@ use Rattle.block_machine.specs.State.{Accepted, Pending, Machine, block_of, nth_
 use Rattle.block_machine.specs.Steps.{Step, Touch, PlugDisk, Store, MayAccept, IsInBookOrKept, unanswered_count}
 use Rattle.block_machine.specs.Expected.{after, IsAccept}
 
--- a row of the client grants the request: its port, its operation, and, but for a flush, its sectors
+-- A row of the client grants the request: its port, its operation and, except for a flush, its sectors.
 pub record IsGranted (rows : List GrantRow) (r : Accepted) : Type 0 where
   pub row : GrantRow
   pub is_named : IsNamed rows r.asked row
@@ -63,15 +63,15 @@ pub record IsConfined (start : Machine) (history : List Step) (r : Accepted) (i 
 abbrev pub HasFrame : Accepted → Frame → Type 0
 HasFrame r frame = (i : ℕ) × (i < length r.asked.frames.items) × (nth_frame r.asked.frames.items i ≡ frame)
 
--- The frames hold what they held at acceptance, but for the sectors of a read: so a write's hold its bytes.
+-- The frames hold what they held at acceptance, except for the sectors of a read. So a write's frames hold its bytes.
 abbrev pub FramesAreAsAcceptedOutsideReadRange : Machine → Accepted → Type 0
 FramesAreAsAcceptedOutsideReadRange m r = (i b : ℕ) → (is_reader r.asked.op ≡ true → r.asked.count ≤ i)
     → i < 8 * length r.asked.frames.items
     → b < 512 → block_of m.memory r.asked.frames.items i b ≡ r.blocks_at_acceptance i b
 
--- A client has at most 16 unanswered requests, and all have 128. A request that is unanswered or kept was issued at
--- most four times, and once at least where it is issued; its frames are its client's, and lent to it: so no frame is
--- lent to two.
+-- A client has at most 16 unanswered requests, and all clients have at most 128. A request that is unanswered or kept
+-- was issued at most four times, and at least once if it is issued. Its frames are its client's, and are lent to it, so
+-- no frame is lent to two requests.
 pub record KeepsLimitsAndHoldsOwnFrames (m : Machine) : Type 0 where
   pub clients_are_within_limit : (client : ClientId) → unanswered_count m.book client ≤ MOST_UNANSWERED_OF_A_CLIENT
   pub book_is_bounded : length m.book ≤ MOST_UNANSWERED_OF_ALL_CLIENTS

@@ -33,7 +33,7 @@ conflict_on_port_by_flush_or_overlap a b = a.port.0 == b.port.0
     && ((is_flush a.op || is_flush b.op) || ((changes_sectors a.op || changes_sectors b.op) && are_overlapping a.range
     b.range))
 
--- trims and flushes are plain, and so are reads and writes where commands aren't queued
+-- Trims and flushes are plain. If commands aren't queued, reads and writes are plain too.
 abbrev pub is_plain : QueueMode → Op → Bool
 is_plain mode Trim = true
 is_plain mode Flush = true

@@ -1,5 +1,5 @@
--- Calls of the server as events, and runs of them (this project's own). An event ties what was asked, what was said,
--- what the ports showed, and the machine's steps. `D` are the steps that a device can be told to do.
+-- Calls of the server as events, and runs of them (this project's own). An event relates what was asked, what was said,
+-- what the ports showed, and the machine's steps. `D` is the type of the steps that a device can be asked to make.
 use Rattle.std.specs.Prelude.{◌≡◌, ◌≢◌, ◌⊎◌, ◌↔◌, ℕ, ◌<◌, ◌≤◌, ◌==◌, Bool, true, false, IsTrue, List, [], ◌∷◌, ◌++◌, length, map, count_by, Contains, AllPairs, IsPermutation, Option, Some, None, Result, Ok, Err}
 use Rattle.std.specs.List.{list_any}
 use Rattle.ata_types.specs.declared.Port.{Port}
@@ -28,7 +28,7 @@ pub record AbstractState : Type 0 where
   pub machine : Machine
   pub ports : Ports
 
--- what is asked of the server
+-- What a call asks of the server.
 pub data AbstractCall (D : Type 0) : Type 0 where
   Submit : Request → AbstractCall D
   -- client, frame, offset, and the bytes or how many
@@ -38,7 +38,7 @@ pub data AbstractCall (D : Type 0) : Type 0 where
   -- a client's grant of this number is revoked
   RevokeOf : ClientId → ℕ → AbstractCall D
   State : Port → AbstractCall D
-  -- the device is told to do this step of its own
+  -- the device is asked to make this step of its own
   StepDevice : D → AbstractCall D
 
 -- what it says
@@ -85,9 +85,9 @@ IsNeitherOkNorDeviceError outcome.PortDead = Unit {0}
 IsNeitherOkNorDeviceError outcome.Revoked = Unit {0}
 IsNeitherOkNorDeviceError _ = ⊥
 
--- The step is one that the server makes in a call that asks this. Requests are issued, or wait again, on ports that are
--- ready at its end, and are issued in the mode that the port has then. A tick tells no fault, a reset tells neither
--- faults nor that something was done, and a revocation answers Revoked alone.
+-- The server makes the step in a call that asks this. Requests are issued, or wait again, only on ports that are ready
+-- at the end of the call, and are issued in the mode that the port has then. A tick answers with no fault, a reset
+-- answers neither with faults nor with Ok, and a revocation answers only with Revoked.
 abbrev pub IsByServer : {D : Type 0} → AbstractCall D → Ports → Step → Type 0
 IsByServer (Submit r) ports (Accept new) = new.asked ≡ r
 IsByServer (Submit r) ports (Issue mode e) = (ports.state e.request.port ≡ Ready) × (ports.mode e.request.port ≡ mode)
@@ -133,7 +133,7 @@ answers_of [] = []
 answers_of (Answer e o ∷ before) = (e, o) ∷ answers_of before
 answers_of (step ∷ before) = answers_of before
 
--- what clients stored, and what they were told
+-- what clients stored, and what they loaded
 abbrev pub client_bytes_of : List Step → List (List ℕ)
 client_bytes_of [] = []
 client_bytes_of (Store c f o bytes ∷ before) = bytes ∷ client_bytes_of before
@@ -197,14 +197,14 @@ abbrev pub IsReadyAfterStopSerialAndSizeKept : AbstractState → Evidence → Po
 IsReadyAfterStopSerialAndSizeKept old evidence ports port = (ports.state port ≡ Ready) × Contains evidence.stopped port
     × SameSerialAndSize old.ports ports port
 
--- What stands behind each outcome. An Ok, a fault and an abort are of a request that was issued when the call began;
--- Unplugged is of one on a port that was lost. Of an Ok each sector was touched since the last issue, and it was ended.
--- A fault is told of a request that is issued. An abort comes after four issues, where the request would go again; and
--- Revoked is told of a request that isn't issued, or where it would go again. An issued request's frames are given back
--- only where it ended or its port stopped: else they may still be written. And PortDead leaves the port dead. (So it
--- was when the call began, or it got stuck in the call: that follows from what the calls make of ports, by law
--- `law_ports_die_only_when_stuck`. That a request is told Revoked only once its grant was revoked,
--- `RevokedLacksGrantAbortedHasGrant` says.)
+-- What stands behind each outcome. An Ok, a fault and an abort answer a request that was issued when the call began.
+-- Unplugged answers one on a port that was lost. Of an Ok each sector was touched since the last issue, and the request
+-- has ended. A fault answers a request that is issued. An abort comes after four issues, when the request would be
+-- issued again. Revoked answers a request that isn't issued, or that would be issued again. An issued request's frames
+-- are given back only if it has ended or its port has stopped: otherwise the device may still write them. PortDead
+-- leaves the port dead. (Either it was dead when the call began, or it got stuck in the call. That follows from what
+-- the calls make of ports, by `law_ports_die_only_when_stuck`. `RevokedLacksGrantAbortedHasGrant` says that a request
+-- is answered Revoked only if its grant was revoked.)
 abbrev pub IsLawfulAnswer : AbstractState → Evidence → Ports → Pending → Outcome → Type 0
 IsLawfulAnswer old evidence ports e outcome.Ok = IsIssuedInBook old.machine e.request.id × (e.issued ≡ true)
     × AllTouched e
@@ -221,8 +221,8 @@ IsLawfulAnswer old evidence ports e outcome.Revoked = (e.issued ≡ false)
     ⊎ IsReadyAfterStopSerialAndSizeKept old evidence ports
     e.request.port
 
--- Each answer of the call is lawful, with these ports at its end. And a request waits again only where its port
--- stopped: else its command may still move.
+-- Each answer of the call is lawful, with these ports at its end. A request waits again only if its port has stopped:
+-- otherwise its command may still move data.
 abbrev pub AnswersLawfulAndWaitsOnStoppedPorts : AbstractState → Evidence → Ports → List Step → Type 0
 AnswersLawfulAndWaitsOnStoppedPorts old evidence ports [] = Unit {0}
 AnswersLawfulAndWaitsOnStoppedPorts old evidence ports (Answer e o ∷ rest) =
@@ -232,12 +232,12 @@ AnswersLawfulAndWaitsOnStoppedPorts old evidence ports (WaitAgain e ∷ rest) =
 AnswersLawfulAndWaitsOnStoppedPorts old evidence ports (step ∷ rest) =
     AnswersLawfulAndWaitsOnStoppedPorts old evidence ports rest
 
--- of two answers the first has the lower port, or the same port and the lower id: in this order a call tells them
+-- Of two answers the first has the lower port, or the same port and the lower id. A call returns them in this order.
 abbrev pub IsLowerByPortThenId : Pending × Outcome → Pending × Outcome → Type 0
 IsLowerByPortThenId a b = (a.0.request.port.0 < b.0.request.port.0)
     ⊎ ((a.0.request.port ≡ b.0.request.port) × (a.0.request.id.0 < b.0.request.id.0))
 
--- an answer, as the client is told it
+-- An answer as a reply to the client.
 abbrev pub reply_of : Pending × Outcome → Reply
 reply_of answer = record { id = answer.0.request.id; client = answer.0.request.asked.client; outcome = answer.1 }
 
@@ -265,7 +265,7 @@ admission_context_of m = record {
 abbrev pub NoneDueWhereReady : AbstractState → Type 0
 NoneDueWhereReady m = (p : Port) → m.ports.state p ≡ Ready → NoneDue (m.ports.mode p) (map unanswered m.machine.book) p
 
--- where a port isn't ready, none of its requests is unanswered
+-- If a port isn't ready, none of its requests is unanswered.
 abbrev pub EmptyUnlessReady : AbstractState → Port → Type 0
 EmptyUnlessReady m port = m.ports.state port ≢ Ready → (e : Pending) → Contains m.machine.book e → e.request.port ≢ port
 
@@ -302,15 +302,15 @@ abbrev pub AnswersOkWhatHadEnded : Machine → List Step → Port → Type 0
 AnswersOkWhatHadEnded old steps port = (e : Pending) → Contains old.book e → e.request.port ≡ port → e.ended ≡ true
     → (done : Pending) × (done.request ≡ e.request) × Contains steps (Answer done outcome.Ok)
 
--- Where a request is answered Unplugged, no request of its port is left unanswered, and none is answered PortDead.
+-- If a request is answered Unplugged, no request of its port is left unanswered, and none is answered PortDead.
 pub record UnpluggedOutcomeEmptiesPort (steps : List Step) (new : Machine) : Type 0 where
   pub none_is_left : (e other : Pending) → Contains steps (Answer e outcome.Unplugged) → Contains new.book other
       → other.request.port ≢ e.request.port
   pub none_is_told_dead : (e other : Pending) → Contains steps (Answer e outcome.Unplugged)
       → Contains steps (Answer other outcome.PortDead) → other.request.port ≢ e.request.port
 
--- Where a request is told Unplugged, its port is neither dead nor ready with serial and size as before: a tick, or a
--- reset, lets requests go again where it finds these.
+-- If a request is answered Unplugged, its port is neither dead nor ready with serial and size as before: a tick or a
+-- reset lets requests be issued again if it finds these.
 abbrev pub UnpluggedExcludesDeadAndSameDisk : List Step → Ports → Ports → Type 0
 UnpluggedExcludesDeadAndSameDisk steps old new = (e : Pending)
     → Contains steps (Answer e outcome.Unplugged)
@@ -324,7 +324,7 @@ ShowsDisk Foreign = Unit {0}
 ShowsDisk (Unfit cause) = Unit {0}
 ShowsDisk _ = ⊥
 
--- Where the port shows a disk after the call, it had one when the call began, or one went or came in it.
+-- If the port shows a disk after the call, it had one when the call began, or one went or came in the call.
 abbrev pub ShownDiskWasInOrCame : AbstractState → List Step → AbstractState → Port → Type 0
 ShownDiskWasInOrCame old steps new port = ShowsDisk (new.ports.state port)
     → (old.machine.present port ≡ true) ⊎ (list_any (changes_disk port) steps ≡ true)
@@ -337,8 +337,8 @@ pub record AgesReadyPortsFirstAndOnce (ports : Ports) (steps : List Step) : Type
   pub age_is_first : steps ≡ later ++ Age ready_ports ∷ []
   pub no_other_age : count_by is_age later ≡ 0
 
--- A tick restarts each port that is hung, and no other: what had ended there is answered Ok, what is then issued was
--- issued in the call, and it shows a disk only where one was in. Other ports stay what they are, and nothing is
+-- A tick restarts each port that is hung, and no other. What had ended there is answered Ok. What is issued afterwards
+-- was issued in the call. The port shows a disk only if one was in. Other ports stay what they are, and nothing is
 -- answered there.
 pub record RestartsTimedOut (old : AbstractState) (evidence : Evidence) (steps : List Step)
     (new : AbstractState) : Type 0 where
@@ -369,10 +369,11 @@ DeadPortsTellOnlyPortDead old steps = (e : Pending) (o : Outcome) → Contains s
     → old.ports.state e.request.port ≡ Dead
     → o ≡ outcome.PortDead
 
--- What a service says and does. It tells dead ports; where it tells one of a port's requests Unplugged, it leaves none
--- of that port's unanswered; it issues what is due; it leaves no request unanswered where the port isn't ready; what
--- had ended is answered Ok, where the port was ready; it makes of each port what it may; and one that it changed shows
--- a disk only where one was in. (What it makes of trouble, the crate that knows the device says.)
+-- What a service says and does. It answers the requests of dead ports. If it answers one of a port's requests
+-- Unplugged, it leaves none of that port's unanswered. It issues what is due. It leaves no request unanswered if its
+-- port isn't ready. If the port was ready, it answers Ok what had ended. It makes of each port what it may, and a port
+-- that it changed shows a disk only if one was in. (What it does about trouble is said by the crate that knows the
+-- device.)
 pub record AnswersService (old : AbstractState) (evidence : Evidence) (steps : List Step) (replies : List Reply)
     (new : AbstractState) : Type 0 where
   pub replies_match : RepliesMatch steps replies
@@ -396,9 +397,9 @@ pub record AnswersTick (old : AbstractState) (evidence : Evidence) (steps : List
   pub none_is_due_where_ready : NoneDueWhereReady new
   pub was_ready_empty_unless_ready : (port : Port) → old.ports.state port ≡ Ready → EmptyUnlessReady new port
 
--- What a reset that ends says and does. Kept frames are given back first. Of each port what is issued then was issued
--- in the call, none is unanswered where it isn't ready then, one that is served has stopped, and one that shows a disk
--- had it, or got it.
+-- What a reset that finishes says and does. Kept frames are given back first. On each port, what is issued afterwards
+-- was issued in the call, and no request is unanswered if the port isn't ready. A served port has stopped, and if it
+-- shows a disk, it had the disk or got it.
 pub record AnswersReset (old : AbstractState) (evidence : Evidence) (steps : List Step) (replies : List Reply)
     (new : AbstractState) : Type 0 where
   pub replies_match : RepliesMatch steps replies
@@ -412,9 +413,9 @@ pub record AnswersReset (old : AbstractState) (evidence : Evidence) (steps : Lis
   pub served_are_stopped : (port : Port) → old.ports.served port ≡ true → Contains evidence.stopped port
   pub shown_disk_was_in_or_came : (port : Port) → ShownDiskWasInOrCame old steps new port
 
--- What a revocation says and does. The row was there, and goes, and no other does. Of the unanswered requests exactly
--- those are told Revoked that waited when the call began and were accepted under that grant; and nothing else is told
--- (`IsByServer`). And then what is due is issued.
+-- What a revocation says and does. The row was there, and goes, and no other row does. It answers Revoked to exactly
+-- those unanswered requests that waited when the call began and were accepted under that grant, and it answers nothing
+-- else (`IsByServer`). Then it issues what is due.
 pub record AnswersRevoke (client : ClientId) (number : ℕ) (old : AbstractState) (steps : List Step)
     (replies : List Reply) (new : AbstractState) : Type 0 where
   pub has_row : HasRow client number old.machine.rows

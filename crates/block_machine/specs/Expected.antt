@@ -18,8 +18,8 @@ abbrev pub after : Machine → List Step → Machine
 after start [] = start
 after start (step ∷ past) = after_step (after start past) step
 
--- A grant as a configuration may give it, but for its rights: to a client from 1 to 8, under a number from 0 to 63, on
--- a port from 0 to 3, of one sector at least, all of them below 2^48.
+-- A grant as a configuration may give it, apart from its rights: to a client from 1 to 8, under a number from 0 to 63,
+-- on a port from 0 to 3, with at least one sector, and all sectors below 2^48.
 pub record IsValidRow (row : GrantRow) : Type 0 where
   pub client_is_valid : (1 ≤ row.client.0) × (row.client.0 ≤ 8)
   pub number_is_at_most_63 : row.number ≤ 63
@@ -142,9 +142,9 @@ pub record HoldsExpected (start : Machine) (history : List Step) (memory : Memor
       → block_of memory read.asked.frames.items i b ≡ read.blocks_at_acceptance i b
 
 -- The bytes that a read moved are those of its disk. A disk that comes back has in each sector what it held there at
--- some moment since a flush was last ended on it, or, if none was, since it was first in: what its cache held may be
--- lost (FLUSH CACHE EXT, ACS-3). (A disk over a store that doesn't tell what it holds may move any bytes, and come back
--- with any.)
+-- some moment since it last ended a flush, or, if it ended none, since it was first in: what its cache held may be lost
+-- (FLUSH CACHE EXT, ACS-3). (A disk over a store without specified contents may move any bytes, and come back with
+-- any.)
 abbrev pub StepIsFaithful : Machine → Step → Type 0
 StepIsFaithful old (Touch e i block) = e.request.asked.op ≡ Read
     → (b : ℕ) → b < 512 → block b ≡ old.disk_bytes e.request.port (sector_of e.request i) b

@@ -1,8 +1,9 @@
--- Histories of a server over a device of state D that can be told steps E, and what its calls add to them (this
--- project's own). The crate that knows the device gives two relations. `Begins` is what a new server leaves. `Relation`
--- is what ties an event's device to its steps: accesses of the device lead from the old one to the new one, what the
--- device did in them are the steps' touches, ends and disks in order, it did the step that it was told, the evidence
--- stands, and after it disks and frames hold what the machine's do, and the ports are as the event says.
+-- Histories of a server over a device of state D that can be asked to make steps E, and what its calls add to them
+-- (this project's own). The crate that knows the device gives two relations. `Begins` is what a new server leaves.
+-- `Relation` relates an event's device to its steps. Accesses of the device lead from the old device to the new one.
+-- What the device did in them is the touches, ends and disks of the steps, in order. The device made the step that it
+-- was asked for. The evidence stands. After the event disks and frames hold what the machine's do, and the ports are as
+-- the event says.
 use Rattle.std.specs.Prelude.{◌≡◌, List, [], ◌∷◌, map}
 use Rattle.block_machine.specs.State.{Machine}
 use Rattle.block_machine.specs.Ports.{PortsWellFormed}
@@ -41,7 +42,7 @@ IsJointRun Begins Relation first (h ∷ past) =
     × Relation (joint_state_after first past) h
 
 -- The history leads to a server's state: `Stands` says when a state is at an instant. What a call adds is said of every
--- history that leads to the server, and that there is one is said where a server is made: so none of it is empty.
+-- history that leads to the server. A new server has such a history, so none of this is empty.
 pub record LeadsTo {D E S : Type 0} (Begins : JointState D → Type 0) (Relation : JointState D → JointEvent D E → Type 0)
     (IsStateAt : JointState D → S → Type 0) (first : JointState D) (past : List (JointEvent D E)) (state : S) : Type 0
   where

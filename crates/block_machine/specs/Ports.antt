@@ -19,12 +19,12 @@ pub record Ports : Type 0 where
   pub zeroes_after_trim : Port → Bool
   pub mode : Port → QueueMode
 
--- a port has 1 to 32 usable slots, and one where commands aren't queued
+-- A port has 1 to 32 usable slots, and one if commands aren't queued.
 abbrev pub IsValidMode : QueueMode → Type 0
 IsValidMode mode = (1 ≤ mode.usable_slots) × (mode.usable_slots ≤ 32) × (mode.queued ≡ false → mode.usable_slots ≡ 1)
 
--- What ports are between any two calls: at most four are served, and there are nine causes to be unfit. (A mode is
--- known of a ready port alone: the disk's own page tells it.)
+-- What ports are between any two calls: at most four are served, and there are nine causes to be unfit. (Only the mode
+-- of a ready port is known, from the disk's own page.)
 pub record PortsWellFormed (ports : Ports) : Type 0 where
   pub served_are_ports_0_to_3 : (port : Port) → ports.served port ≡ true → port.0 < 4
   pub unserved_are_absent : (port : Port) → ports.served port ≡ false → ports.state port ≡ Absent
@@ -46,25 +46,38 @@ SamePorts old new = (port : Port) → SamePort old new port
 abbrev pub SameSerialAndSize : Ports → Ports → Port → Type 0
 SameSerialAndSize old new port = (new.serial port ≡ old.serial port) × (new.sectors port ≡ old.sectors port)
 
--- a fault that the device told of a request: the two bytes of the task file
+-- A fault that the device reported of a request: the two bytes of the task file.
 pub record RequestFault : Type 0 where
   pub id : RequestId
   pub status : ℕ
   pub error : ℕ
 
--- What the device vouches for in a call. `faults`: of requests, each with its bytes as the device told them: in the
--- task file, or in the log page that was read in the call. `lost`: ports that had N or X of PxSERR set, or a DET other
--- than 3, when the call began; ports of which a disk went or came in it; and ports that end it neither dead nor ready
--- with serial and size as when they were last ready before it. `link_changed`: ports that were ready when the call
--- began, all of those that had N or X set then, or a DET other than 3 where no disk was put in in the call; and others
--- only of which a disk went or came in it, or DET was other than 3. `showing_error`: ports that were ready when the
--- call began, all of those that had TFES, HBDS, HBFS or IFS in PxIS then; and others only that came to have one in it.
--- `showing_fatal_error`: so for HBDS, HBFS and IFS. `stopped`: ports whose CR was read 0 in the call after ST was
--- cleared; and the served ports, where the call is a reset that ended. `stuck`: ports of which a wait of the call read
--- CR, or FR, as 1 at each of its 64 readings; and the served ports, where the call is a reset that the adapter didn't
--- end. A port may be in both of these: stopped first, and stuck later. The layer that knows the device backs each port
--- and fault that is named. `faults` and `lost` may leave some out; the others name each port that the layer claims to
--- heed, where they apply to it.
+-- What the device vouches for in a call.
+--
+-- `faults`: requests, each with its two bytes as the device reported them, in the task file or in the log page that was
+-- read in the call.
+--
+-- `lost`: ports that had N or X of PxSERR set, or a DET other than 3, when the call began; ports whose disk went or
+-- came in the call; and ports that end the call neither dead nor ready with serial and size as when they were last
+-- ready before it.
+--
+-- `link_changed`: all ports that were ready when the call began and had N or X set then, or had a DET other than 3 if
+-- no disk was put in during the call. Other ports only if a disk of theirs went or came in the call, or DET was other
+-- than 3.
+--
+-- `showing_error`: all ports that were ready when the call began and had TFES, HBDS, HBFS or IFS in PxIS then. Other
+-- ports only if they came to have one in the call.
+--
+-- `showing_fatal_error`: the same for HBDS, HBFS and IFS.
+--
+-- `stopped`: ports whose CR was read 0 in the call after ST was cleared; and the served ports if the call is a reset
+-- that finished.
+--
+-- `stuck`: ports on which a wait of the call read CR, or FR, as 1 at each of its 64 readings; and the served ports if
+-- the call is a reset that the adapter didn't finish. A port may be in both of these: stopped first, and stuck later.
+--
+-- The layer that knows the device backs each port and fault that is named. `faults` and `lost` may leave some out. The
+-- others name each port that the layer claims to handle, if they apply to it.
 pub record Evidence : Type 0 where
   pub faults : List RequestFault
   pub lost : List Port
@@ -78,8 +91,8 @@ pub record Evidence : Type 0 where
 abbrev pub IsStoppedOrStuck : Evidence → Port → Type 0
 IsStoppedOrStuck evidence port = Contains evidence.stopped port ⊎ Contains evidence.stuck port
 
--- What a call that looks at the port, or boots it, may make of it: a port is served as it was; it is dead after the
--- call exactly where it got stuck in it; and one that isn't ready remembers the disk that it was last ready with.
+-- What a call that looks at the port, or boots it, may make of it. A port stays served or unserved. It is dead after
+-- the call exactly if it got stuck in the call. If it isn't ready, it remembers the disk that it was last ready with.
 pub record MayBecome (old : Ports) (evidence : Evidence) (new : Ports) (port : Port) : Type 0 where
   pub served_is_unchanged : new.served port ≡ old.served port
   pub dead_exactly_if_stuck : (new.state port ≡ Dead) ↔ Contains evidence.stuck port

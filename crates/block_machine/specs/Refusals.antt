@@ -1,4 +1,4 @@
--- Why a request, or a client's access to a frame, is refused, and which cause is told (this project's own).
+-- Why a request, or a client's access to a frame, is refused, and which cause the answer names (this project's own).
 use Rattle.std.specs.Prelude.{◌≡◌, ◌≢◌, ℕ, ◌+◌, ◌^◌, ◌<◌, ◌≤◌, Bool, IsTrue, List, Option, Some, IsSome}
 use Rattle.ata_types.specs.declared.limits.TheConstants.{MOST_UNANSWERED_OF_A_CLIENT}
 use Rattle.ata_types.specs.declared.Port.{Port}
@@ -53,7 +53,7 @@ IsAcceptable s r = (refusal : Refusal) → RefusalApplies s r refusal → ⊥
 abbrev pub IsFirstRefusal : AdmissionContext → Request → Refusal → Type 0
 IsFirstRefusal s r refusal = IsFirstByRank refusal_rank (RefusalApplies s r) refusal
 
--- the cause applies to a client's access to so many bytes of a frame from this offset on
+-- The cause applies to a client's access to this many bytes of a frame, from this offset on.
 abbrev pub MemFaultApplies : (Frame → Option ClientId) → (Frame → Option RequestId) → ClientId → Frame → ℕ → ℕ
     → MemFault
     → Type 0
@@ -61,7 +61,7 @@ MemFaultApplies owner lent client frame at n FrameForeign = owner frame ≢ Some
 MemFaultApplies owner lent client frame at n FrameLent = IsSome (lent frame)
 MemFaultApplies owner lent client frame at n OutsideFrame = FRAME_BYTES < at + n
 
--- in which order these are told
+-- The order in which an answer names these.
 abbrev pub mem_fault_rank : MemFault → ℕ × ℕ
 mem_fault_rank FrameForeign = (1, 0)
 mem_fault_rank FrameLent = (2, 0)

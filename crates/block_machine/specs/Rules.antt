@@ -1,5 +1,5 @@
--- The rules that a request may break, each by itself, and which of them is told (this project's own).
--- Grants are a set of rows. Numbers are whole numbers: no sum wraps.
+-- The rules that a request may break, each by itself, and which of them the answer names (this project's own). Grants
+-- are a set of rows. Numbers are natural numbers, so no sum wraps.
 use Rattle.std.specs.Prelude.{◌≡◌, ◌≢◌, ℕ, ◌+◌, ◌/◌, ◌<◌, ◌≤◌, ◌⊎◌, ◌==◌, ◌&&◌, Bool, not, List, filter, length, Option, Some, IsSome, Contains, slice_get}
 use Rattle.ata_types.specs.declared.request.ClientId.{ClientId}
 use Rattle.ata_types.specs.declared.request.Frame.{Frame}
@@ -41,18 +41,18 @@ IsNamed rows r row = Contains rows row × IsSameGrantName r.client r.grant row.c
 abbrev pub HasRow : ClientId → ℕ → List GrantRow → Type 0
 HasRow client number rows = (row : GrantRow) × Contains rows row × IsSameGrantName client number row.client row.number
 
--- the rows but for the one of this client under this number
+-- The rows without the one of this client under this number.
 abbrev pub without_row : ClientId → ℕ → List GrantRow → List GrantRow
 without_row client number rows = filter (λ row. not (is_same_grant_name client number row.client row.number)) rows
 
--- the operation may have so many sectors
+-- The operation may have this many sectors.
 abbrev pub IsAllowedCount : Op → ℕ → Type 0
 IsAllowedCount Read n = (1 ≤ n) × (n ≤ MOST_READ_OR_WRITE_SECTORS)
 IsAllowedCount Write n = (1 ≤ n) × (n ≤ MOST_READ_OR_WRITE_SECTORS)
 IsAllowedCount Trim n = (1 ≤ n) × (n ≤ 4194240)
 IsAllowedCount Flush n = n ≡ 0
 
--- how many frames the operation has for so many sectors: one for eight, rounded up, where bytes are moved
+-- How many frames the operation has for this many sectors: if it moves bytes, one for eight, rounded up.
 abbrev pub frame_count_for : Op → ℕ → ℕ
 frame_count_for Read n = (n + 7) / 8
 frame_count_for Write n = (n + 7) / 8
@@ -87,7 +87,7 @@ Breaks rows owner lent r OutsideGrant = (r.op ≢ Flush)
 Breaks rows owner lent r FrameCount = length r.frames.items ≢ frame_count_for r.op r.count
 Breaks rows owner lent r (Frames fault) = HasFault owner lent r.client r.frames.items fault
 
--- In which order causes are told: by number, and where it is about a frame, by the frame's place.
+-- The order in which an answer names causes: by number, and if the cause is about a frame, by the frame's place.
 abbrev pub refusal_rank : Refusal → ℕ × ℕ
 refusal_rank (refused.Rule NoGrant) = (1, 0)
 refusal_rank (refused.Rule NoRight) = (2, 0)

@@ -39,7 +39,7 @@ pub data Step : Type 0 where
   -- a disk is taken out; a disk is put in: which one, its sectors' number, and their bytes
   Unplug : Port → Step
   PlugDisk : Port → ℕ → ℕ → DiskBytes → Step
-  -- a client stores bytes into its frame from an offset on, or is told them
+  -- a client stores bytes into its frame, from an offset on, or loads them
   Store : ClientId → Frame → ℕ → List ℕ → Step
   Load : ClientId → Frame → ℕ → List ℕ → Step
 
@@ -47,7 +47,7 @@ pub data Step : Type 0 where
 abbrev pub update_pending : RequestId → (Pending → Pending) → Pending → Pending
 update_pending id change e = if e.request.id.0 == id.0 then change e else e
 
--- the requests but for the one with this id
+-- The requests without the one that has this id.
 abbrev pub without_pending : RequestId → List Pending → List Pending
 without_pending id pending = filter (λ e. not (e.request.id.0 == id.0)) pending
 
@@ -205,8 +205,8 @@ NoneKept m port = (e : Pending) → Contains m.kept e → e.request.port ≢ por
 abbrev pub HasGrant : Machine → Pending → Type 0
 HasGrant m e = HasRow e.request.asked.client e.request.asked.grant m.rows
 
--- What the grant must be for an outcome: a request is told Revoked only once its grant was revoked, and is aborted only
--- where it wasn't.
+-- What the grant must be for an outcome: a request is answered Revoked only if its grant was revoked, and Aborted only
+-- if it wasn't.
 abbrev pub RevokedLacksGrantAbortedHasGrant : Machine → Pending → Outcome → Type 0
 RevokedLacksGrantAbortedHasGrant m e Revoked = HasGrant m e → ⊥
 RevokedLacksGrantAbortedHasGrant m e Aborted = HasGrant m e
@@ -227,8 +227,8 @@ HoldsOrHeldSinceFlush m port k block =
     SameBytes block (m.disk_bytes port k) ⊎ ((old : Block) × Contains (m.overwritten_since_flush port k) old
     × SameBytes block old)
 
--- The step may come. A request is issued, or waits again, only while its grant is there. (That an answer is lawful is
--- judged at the end of its call too, where what stands behind it is known.)
+-- The step may come. A request is issued, or waits again, only while its grant is there. (Whether an answer is lawful
+-- is also judged at the end of its call, when what stands behind it is known.)
 abbrev pub IsEnabled : Machine → Step → Type 0
 IsEnabled m (Accept r) = MayAccept m r
 IsEnabled m (Issue mode e) = Contains m.book e × IsDue mode (map unanswered m.book) (unanswered e)

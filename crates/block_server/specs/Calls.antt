@@ -36,8 +36,8 @@ SameButAdapter old new = new ≡ record old { adapter = new.adapter }
 abbrev pub IsRequestForPort : List GrantRow → Request → Port → Type 0
 IsRequestForPort rows r port = (row : GrantRow) × IsNamed rows r row × (row.port ≡ port)
 
--- The request is acceptable, and was accepted, on its row's port; then what is due there was issued. Where nothing was,
--- no access was made. The adapter is on, as before.
+-- The request is acceptable, and was accepted, on its row's port. Then what is due there was issued. If nothing was
+-- due, no access was made. The adapter is on, as before.
 pub record AcceptsRequest {A : Type 0} (device : A → Device) (old new : ServerView A) (r : Request)
     (id : RequestId) : Type 0 where
   pub acceptable : IsAcceptable (admission_context (server_of device old)) r
@@ -48,15 +48,16 @@ pub record AcceptsRequest {A : Type 0} (device : A → Device) (old new : Server
       (unanswered_of (with_accepted port r id accepts.table (server_of device old)).book) ≡ [] → new.adapter
       ≡ old.adapter
 
--- A refused request is told the first cause that applies, and changes nothing: neither server nor adapter.
+-- The answer to a refused request is the first cause that applies. The request changes nothing: neither server nor
+-- adapter.
 abbrev pub Submits : {A : Type 0} → (A → Device) → ServerView A → ServerView A → Request → Result RequestId Refusal
     → Type 0
 Submits device old new r (Ok id) = AcceptsRequest device old new r id
 Submits device old new r (Err refusal) = IsFirstRefusal (admission_context (server_of device old)) r refusal
     × (new ≡ old)
 
--- Each ready port was served, and each other one that is served was probed, in rising number. Since a reset that got
--- stuck, all requests were told what their ports are: dead.
+-- Each ready port was served, and each other served port was probed, in rising number. If the last reset got stuck, all
+-- requests were answered with what their ports are: dead.
 abbrev pub ServicesEachPortOrResolvesIfStuck : Bool → List ProbeResult → List Reply → ServerState → ServerState → Type 0
 ServicesEachPortOrResolvesIfStuck false ports replies old new = ServicesEachPort 0 ports replies old new
 ServicesEachPortOrResolvesIfStuck true ports replies old new = ResolvesEachPort 0 ports replies old new
@@ -74,8 +75,8 @@ abbrev pub TicksUnlessStuck : Bool → List Reply → ServerState → ServerStat
 TicksUnlessStuck false replies old new = Ticks replies old new
 TicksUnlessStuck true replies old new = (replies ≡ []) × (new ≡ old)
 
--- So a tick does; it doesn't end a reset either. Where no request is overdue once they got older, or the last reset got
--- stuck, no access was made.
+-- The same for a tick, which doesn't end a reset either. If no request is overdue after they got older, or if the last
+-- reset got stuck, no access was made.
 pub record TicksServer {A : Type 0} (device : A → Device) (old new : ServerView A) (replies : List Reply) : Type 0 where
   pub ticks : TicksUnlessStuck old.stuck replies (server_of device old) (server_of device new)
   pub stuck_is_unchanged : new.stuck ≡ old.stuck
@@ -83,8 +84,8 @@ pub record TicksServer {A : Type 0} (device : A → Device) (old new : ServerVie
       → new.adapter ≡ old.adapter
   pub no_access_if_stuck : old.stuck ≡ true → new.adapter ≡ old.adapter
 
--- A refused load is told the first cause that applies, and changes nothing, the buffer neither. Another brings the
--- frame's bytes and changes nothing of the server but what the device does meanwhile.
+-- The answer to a refused load is the first cause that applies, and the load changes nothing, not even the buffer. Any
+-- other load copies the frame's bytes, and changes nothing of the server except what the device does meanwhile.
 abbrev pub LoadsFrame : {A : Type 0} → (A → Device) → ServerView A → ServerView A → ClientId → Frame → ℕ → List ℕ
     → List ℕ → Result (Unit {0}) MemFault → Type 0
 LoadsFrame device old new client frame offset buffer_before bytes (Ok done) =
@@ -94,9 +95,9 @@ LoadsFrame device old new client frame offset buffer_before bytes (Err fault) =
     IsFirstMemFault (owner_of old.table) (lent_to old.table) client frame offset (length buffer_before) fault
     × (new ≡ old) × (bytes ≡ buffer_before)
 
--- A refused store is told the first cause that applies, and changes nothing: neither server, memory nor adapter, of
--- which no access is made. Another changes of the server nothing but the adapter: the device goes on first; then these
--- bytes stand in the frame, from the offset on, and every other byte is as it was.
+-- The answer to a refused store is the first cause that applies. The store changes nothing, neither server nor memory,
+-- and makes no access of the adapter. Any other store changes nothing of the server except the adapter. The device
+-- makes steps first. Then the frame has these bytes, from the offset on, and every other byte is as it was.
 abbrev pub StoresFrame : {A : Type 0} → (A → Device) → ServerView A → ServerView A → ClientId → Frame → ℕ → List ℕ
     → Result (Unit {0}) MemFault → Type 0
 StoresFrame device old new client frame offset bytes (Ok done) =
@@ -105,7 +106,7 @@ StoresFrame device old new client frame offset bytes (Ok done) =
 StoresFrame device old new client frame offset bytes (Err fault) =
     IsFirstMemFault (owner_of old.table) (lent_to old.table) client frame offset (length bytes) fault × (new ≡ old)
 
--- The device does what it is told, or nothing; of the server nothing else changes.
+-- The device makes the step that it is asked for, or nothing changes. The rest of the server stays as it was.
 pub record StepsDevice {A : Type 0} (device : A → Device) (old new : ServerView A) (step : DeviceStep)
     (done : Bool) : Type 0 where
   pub done_means_did_or_failed_step : done ≡ true → DoesOrFailsStep step (device old.adapter) (device new.adapter)

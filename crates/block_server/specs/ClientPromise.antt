@@ -49,11 +49,11 @@ pub record IsSeenAt (v : ObservedState) (i : JointState Device) : Type 0 where
 
 -- ---- between two calls
 
--- Why a port is in its state. One that isn't served is absent. Behind a ready one the adapter is on, and there stands
--- the page that its disk sent last, since PxSCTL was last written: it fits what is wanted, and says how many sectors
--- there are and what else requests are checked by. Absent, unfit and foreign ones are stopped, for what was read last
--- or for that page. Of a dead one an engine was awaited in vain; or the adapter isn't on, since its last reset wasn't
--- seen to end (PxSSTS, PxTFD, PxSIG, PxCMD: AHCI 1.3.1, 3.3; IDENTIFY DEVICE: ACS-3, 7.12).
+-- Why a port is in its state. One that isn't served is absent. For a ready one the adapter is on, and the page that its
+-- disk sent last, since PxSCTL was last written, fits what is wanted. The page also says how many sectors there are,
+-- and what else requests are checked by. Absent, unfit and foreign ones are stopped, because of what was read last or
+-- because of that page. For a dead one the driver waited for an engine in vain, or the adapter isn't on, because its
+-- last reset wasn't seen to finish (PxSSTS, PxTFD, PxSIG, PxCMD: AHCI 1.3.1, 3.3; IDENTIFY DEVICE: ACS-3, 7.12).
 abbrev pub PortStateIsJustified : Wanted → JointState Device → Port → Bool → PortState → Type 0
 PortStateIsJustified wanted i p false state = state ≡ Absent
 PortStateIsJustified wanted i p true Ready = IsOn i.device × (info : DiskInfo)
@@ -62,10 +62,10 @@ PortStateIsJustified wanted i p true Ready = IsOn i.device × (info : DiskInfo)
 PortStateIsJustified wanted i p true Dead = BacksState (serial_of wanted) Dead p.0 i.device ⊎ (IsOn i.device → ⊥)
 PortStateIsJustified wanted i p true state = BacksState (serial_of wanted) state p.0 i.device
 
--- What holds between two calls. Of ports 0 to 3 those are served in which a disk is wanted and which the adapter has;
--- each is in its state for a reason; and on one that isn't ready no request waits, unless the adapter isn't on.
--- Clients' frames hold what the machine's do. The disk of each port is the machine's; and where the adapter's disks
--- tell their sectors, these hold the same.
+-- What holds between two calls. Of ports 0 to 3 those are served in which a disk is wanted and which the adapter has.
+-- Each is in its state for a reason. On one that isn't ready no request waits, unless the adapter isn't on. Clients'
+-- frames hold what the machine's do. The disk of each port is the machine's disk, and if the adapter's disks have
+-- specified contents, both hold the same.
 pub record ClientPromiseInvariant (wanted : List Wanted) (i : JointState Device) : Type 0 where
   pub served_iff_wanted_and_there : (p : Port) → p.0 < 4 → (i.abstract.ports.served p ≡ true)
       ↔ IsWantedAndImplemented (wanted_of wanted p.0) p.0 i.device
@@ -79,9 +79,9 @@ pub record ClientPromiseInvariant (wanted : List Wanted) (i : JointState Device)
 
 -- ---- the promise
 
--- The call's device steps are those that its tape tells of, one by one: what moved, was cleared or ended is of a
--- request that was issued then, or kept; a move is of a sector of its own, to or from its place in a frame that was
--- lent to it. The disks that were put in are the device's. And after the call there holds what holds between calls.
+-- The device steps of the call are those on its tape, one by one. What moved, was cleared or ended belongs to a request
+-- that was issued then, or kept. A move has a sector of that request, to or from the sector's place in a frame that was
+-- lent to it. The disks that were put in are the device's. After the call what holds between calls holds.
 pub record MatchesTape (wanted : List Wanted) (first : JointState Device) (past : List (JointEvent Device DeviceStep))
     (h : JointEvent Device DeviceStep) : Type 0 where
   pub new_entries : List Entry
@@ -91,11 +91,11 @@ pub record MatchesTape (wanted : List Wanted) (first : JointState Device) (past 
       × ((h.device.port p).plug_history ≡ ((joint_state_after first past).device.port p).plug_history ++ disks)
   pub invariant_holds : ClientPromiseInvariant wanted (joint_state_after first (h ∷ past))
 
--- What is promised to clients of calls, the newest first, that asked that and said this, one after another, after a
--- history from where the server was made. With them the history is a run of the block machine, which leads to the
--- server as it is seen after them; in it each read that was answered Ok has what was left, where the adapter's disks
--- tell their sectors. The device stands behind its steps in each of the calls, and before and after it there holds what
--- holds between calls; the disks that are wanted stay so.
+-- The promise to clients about calls, the newest first, that asked this and said that, one after another, after a
+-- history that begins where the server was made. With these calls the history is a run of the block machine, which
+-- leads to the server as it is seen after them. In it each read that was answered Ok has what was left, if the
+-- adapter's disks have specified contents. The device stands behind its steps in each of the calls. What holds between
+-- calls holds before and after each, and the disks that are wanted stay the same.
 pub record MeetsClientPromise (first : JointState Device) (past added : List (JointEvent Device DeviceStep))
     (old new : ObservedState) (asked : List (AbstractCall DeviceStep)) (said : List AbstractCallResult) : Type 0 where
   pub calls_are : map (λ h. h.event.call) (reverse added) ≡ asked
@@ -118,10 +118,11 @@ ConfinesMovesAndTrimClears first past added = HoldsOfEachAdded
     (steps_of (events_of before))
     h.event.steps (joint_state_after first before).device h.device) past added
 
--- What is promised to clients of disks that are pulled out. Of a write or trim that was answered Ok before a flush of
--- its port was accepted that was answered Ok, too, with its disk in from the acceptance of the write to the answer of
--- the flush, and no other one put in since: where that disk comes back it has, in each sector of it, the bytes that it
--- put there, or those of a write or trim accepted later, where the adapter's disks tell their sectors.
+-- The promise to clients about disks that are pulled out. Consider a write or trim that was answered Ok before a flush
+-- of its port was accepted, and let the flush be answered Ok, too. Let its disk be in from the acceptance of the write
+-- to the answer of the flush, and let no other disk be put in since. If that disk comes back, and the adapter's disks
+-- have specified contents, then each sector of the write has the bytes that the write put there, or those of a write or
+-- trim that was accepted later.
 pub record FlushesSurviveReplugIfDisksTell (first : JointState Device) (calls : List
     (JointEvent Device DeviceStep)) : Type 0 where
   pub plugs_find_flushed_if_disks_tell : first.device.disks_tell_sectors ≡ true

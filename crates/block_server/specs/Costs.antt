@@ -13,7 +13,7 @@ use Rattle.port_driver.specs.Costs.{ISSUE_DUE_ACCESSES, TURN_ACCESSES, port_erro
 abbrev pub MOST_NEW_ACCESSES : ℕ
 MOST_NEW_ACCESSES = TAKE_OVER_ACCESSES
 
--- a submit issues the request that it accepts, where that is due, and no other
+-- A submit issues the request that it accepts, if that is due, and no other.
 abbrev pub MOST_SUBMIT_ACCESSES : ℕ
 MOST_SUBMIT_ACCESSES = ISSUE_ACCESSES
 

@@ -19,7 +19,7 @@ use Rattle.server_history.specs.ServerState.{InvariantWithNoneDue, quarantined_a
 use Rattle.block_server.specs.declared.types.ServerError.{ServerError}
 use Rattle.block_server.specs.declared.types.ServerError.TheVariants.{BadConfig, NoMemory}
 
--- The adapter is idle; and where the configuration is sound, it has the frames.
+-- The adapter is idle, and if the configuration is sound, it has the frames.
 pub record IsReadyFor (config : Config) (d : Device) : Type 0 where
   pub idle : IsIdle d
   pub memory_has_frames : LacksEveryFault config → FRAME_BYTES * config.frames ≤ d.memory_size

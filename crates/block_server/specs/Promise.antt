@@ -28,9 +28,9 @@ use Rattle.block_server.specs.Said.{said_of}
 use Rattle.block_server.specs.ServerView.{ServerView, server_of, observed_state_of}
 use Rattle.block_server.specs.declared.said.Said.{Said}
 
--- What is told where nothing goes wrong. A call that revokes a grant tells Revoked, of requests that aren't issued
--- (which ones: `AnswersRevoke`). Each other one tells Ok, of a request that was issued when the call began, of which
--- each sector was moved or cleared since its last issue, and which was ended.
+-- What is answered if nothing goes wrong. A call that revokes a grant answers Revoked, to requests that aren't issued
+-- (`AnswersRevoke` says which). Every other call answers Ok, to a request that was issued when the call began, whose
+-- sectors were each moved or cleared since its last issue, and which has ended.
 abbrev pub RevokesWaitingOrAnswersEndedOk : AbstractCall DeviceStep → Machine → Pending → Outcome → Type 0
 RevokesWaitingOrAnswersEndedOk (RevokeOf client number) old e told = (told ≡ outcome.Revoked) × (e.issued ≡ false)
 RevokesWaitingOrAnswersEndedOk ask old e told = (told ≡ outcome.Ok) × IsIssuedInBook old e.request.id
@@ -39,9 +39,9 @@ RevokesWaitingOrAnswersEndedOk ask old e told = (told ≡ outcome.Ok) × IsIssue
     × (e.ended ≡ true)
 
 -- What a call is to the clients of a port that is ready and stays healthy, with no register in it. The port is what it
--- was, with the same disk. What is answered there is told as where nothing goes wrong
--- (`RevokesWaitingOrAnswersEndedOk`); a service answers Ok each request that had ended when it began. And of the port's
--- unanswered requests a submit, a service and a revocation issue exactly those that are due once all else is done.
+-- was, with the same disk. What is answered there is answered as if nothing goes wrong
+-- (`RevokesWaitingOrAnswersEndedOk`). A service answers Ok to each request that had ended when it began. Of the port's
+-- unanswered requests a submit, a service and a revocation issue exactly those that are due at the end.
 pub record MeetsPortPromise (port : Port) (old : AbstractState) (call : CallRecord DeviceStep) : Type 0 where
   pub port_is_same : SamePort old.ports call.ports port
   pub answers_are_fault_free : (e : Pending) (told : Outcome) → Contains call.steps (Answer e told)
@@ -54,8 +54,8 @@ pub record MeetsPortPromise (port : Port) (old : AbstractState) (call : CallReco
 abbrev pub GoesWellForPortAndClients : Port → JointState Device → JointEvent Device DeviceStep → Type 0
 GoesWellForPortAndClients port old h = GoesWellFor old h port × MeetsPortPromise port old.abstract h.event
 
--- In a call after these ones, a service answers each request of a port that is ready when it begins of which the bits
--- of PxCI and PxSACT were clear then; and each port is served well that the call is healthy for.
+-- In a call after these ones, a service answers each request of a port that is ready when it begins, if the bits of
+-- PxCI and PxSACT were clear then. Each port is served well for which the call is healthy.
 pub record ServesPorts (first : JointState Device) (past : List (JointEvent Device DeviceStep))
     (h : JointEvent Device DeviceStep) : Type 0 where
   pub service_answers_where_bits_are_clear : (port : Port) (slot : ℕ) (id : RequestId) → h.event.call ≡ Service
@@ -68,13 +68,13 @@ pub record ServesPorts (first : JointState Device) (past : List (JointEvent Devi
   pub goes_well_if_healthy : (port : Port) → IsHealthyFor (joint_state_after first past) h port
       → GoesWellForPortAndClients port (joint_state_after first past) h
 
--- What is promised of the device. With these calls the history leads to the server after them: so
--- `CallCorresponds` of driver_history has of each of them which accesses were made, what stands behind the evidence,
--- that what is due was issued, and of each port, ready or not, that the call did its part, and heeded what the evidence
--- names. Each call serves the ports. And a port that is ready and runs well before the list, and on which nothing goes
--- wrong until its end (no fault, no fatal error, no disk that goes or comes), is served well by each of its calls, and
--- is ready and runs well after it, unless one of them is a reset, which boots each port, or a tick that brings a
--- request of the port to its age of three: that restarts the port, since nothing else tells that a request hangs.
+-- The promise about the device. With these calls the history leads to the server after them. So `CallCorresponds` of
+-- driver_history says of each of them which accesses were made, what stands behind the evidence, that what is due was
+-- issued, and that the call did its part for each port, ready or not, and handled what the evidence names. Each call
+-- serves the ports. Now consider a port that is ready and runs well before the list, and on which nothing goes wrong
+-- until its end: no fault, no fatal error, no disk that goes or comes. Each call serves it well, and it is ready and
+-- runs well afterwards, unless one of the calls is a reset, which boots each port, or a tick in which a request of the
+-- port reaches the age of three. Such a tick restarts the port, because nothing else shows that a request hangs.
 pub record DrivesDevice {A : Type 0} (device : A → Device) (first : JointState Device)
     (past added : List (JointEvent Device DeviceStep)) (old new : ServerView A) : Type 0 where
   pub history_leads_to_server : LeadsToServer first (added ++ past) (server_of device new)

@@ -19,8 +19,8 @@ abbrev pub revoke_result : Result (Unit {0}) NoSuchGrant → List Reply → Abst
 revoke_result (Ok done) replies = WasRevoked (Some replies)
 revoke_result (Err none) replies = WasRevoked None
 
--- The grant was revoked. Then, while the adapter is on, what is due on its port was issued; since a reset that got
--- stuck nothing is. Where nothing was to be issued, no access was made.
+-- The grant was revoked. Then, while the adapter is on, what is due on its port was issued. After a reset that got
+-- stuck nothing is issued. If nothing was to be issued, no access was made.
 pub record RevokesAndIssuesDueOfItsPort {A : Type 0} (device : A → Device) (client : ClientId) (number : ℕ)
     (replies : List Reply)
     (old new : ServerView A) : Type 0 where
