@@ -51,7 +51,7 @@ named_causes_mask = 0x7840004b
 abbrev pub enables_unnamed_causes : ℕ → Bool
 enables_unnamed_causes ie = not (nat_eq (bit_and ie named_causes_mask) ie)
 
--- The bit of IS is one where the port's interrupt is pending. Where it isn't, it is zero, unless a cause that isn't
+-- The bit of IS is one if the port's interrupt is pending. If it isn't, the bit is zero, unless a cause that isn't
 -- named may have set it.
 abbrev pub ShowsPendingAndPerhapsUnnamedCause : Bool → DevicePort → Type 0
 ShowsPendingAndPerhapsUnnamedCause shown p = (is_ips_set p ≡ true) ⊎ (p.other_causes ≡ false) → shown ≡ is_ips_set p
@@ -92,7 +92,7 @@ Shows _ v d = Unit {0}
 abbrev pub capped_count_after_reading : Bool → ℕ → ℕ
 capped_count_after_reading again n = if again then min MOST_READINGS (n + 1) else 0
 
--- the count of SSTS: a reading with a device sets it to the most, where it stays
+-- The count of SSTS. A reading with a device sets it to the most, and it stays there.
 abbrev pub link_wait_count_full_once_linked : ℕ → ℕ → ℕ
 link_wait_count_full_once_linked det n = if nat_eq det 3 then MOST_READINGS else min MOST_READINGS (n + 1)
 
@@ -186,7 +186,7 @@ port_after_write Fb v tape_length p = record p { bases = record p.bases { fb = v
 port_after_write Fbu v tape_length p = record p { bases = record p.bases { fbu_set = true } }
 port_after_write Cmd v tape_length p = port_after_fre_write (bit v 4) (port_after_st_write (bit v 0) tape_length p)
 port_after_write Sctl v tape_length p = port_after_det_write (v % 16) tape_length p
--- the port's bit of IS stays, also where its causes go (AHCI 1.3.1, 3.1.3): so these three keep it first
+-- The port's bit of IS stays set when its causes go (AHCI 1.3.1, 3.1.3). So these three keep it first.
 port_after_write Serr v tape_length p =
     record p {
       ips_latched = is_ips_set p;

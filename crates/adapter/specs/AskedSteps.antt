@@ -27,7 +27,7 @@ pub record DoesMove (port slot : ℕ) (old new : Device) : Type 0 where
   pub can : Can (Move port slot fetched_command bytes) old
   pub effect : new ≡ device_after (Move port slot fetched_command bytes) old
 
--- so many sectors at the most of the slot's trim were cleared, and one at least: the next ones of its block
+-- The next sectors of the block of the slot's trim were cleared: at least one, and at most this many.
 pub record DoesClear (port slot most : ℕ) (old new : Device) : Type 0 where
   pub fetched_command : FetchedCommand
   pub first : ℕ
@@ -77,7 +77,7 @@ DoesSlotStep Posts port slot old new =
     DoesFetch port slot old new ⊎ DoesMove port slot old new ⊎ EndsAndPosts Posts port slot old new
     ⊎ ((most : ℕ) × DoesClear port slot most old new)
 
--- so many steps of the slot's command, one after another, and nothing else
+-- This many steps of the slot's command came, one after another, and nothing else.
 abbrev pub DoesExactlySlotSteps : ((port cause_bit : ℕ) → Operation → Device → Device → Type 0) → ℕ → ℕ → ℕ → Device
     → Device
     → Type 0
@@ -131,7 +131,7 @@ pub record FailsAfter (Posts : (port cause_bit : ℕ) → Operation → Device �
   pub error : ℕ
   pub fails : FailsAndPosts Posts port slot error 0 after_part new
 
--- the bit of PxIS that tells of a fatal error: IFS or HBFS (AHCI 1.3.1, 3.3.5)
+-- The bit of PxIS of a fatal error: IFS or HBFS (AHCI 1.3.1, 3.3.5).
 abbrev pub fatal_bit : FatalError → ℕ
 fatal_bit Interface = 27
 fatal_bit HostBus = 29
@@ -141,7 +141,7 @@ pub record DoesFatal (port : ℕ) (error : FatalError) (old new : Device) : Type
   pub can : Can (Fatal port (fatal_bit error)) old
   pub effect : new ≡ device_after (Fatal port (fatal_bit error)) old
 
--- these bytes of memory are filled with one; nothing is, where not all of them lie in the memory
+-- These bytes of memory are filled with one byte. Nothing is filled if some of them are outside of the memory.
 abbrev pub memory_filled_if_all_inside : (size at count byte : ℕ) → (ℕ → ℕ) → ℕ → ℕ
 memory_filled_if_all_inside size at count byte memory =
     if nat_le (at + count) size then patched memory at (replicate count byte) else memory
@@ -150,8 +150,8 @@ memory_filled_if_all_inside size at count byte memory =
 abbrev pub IsByteOfSpanInsideMemory : (size at count place : ℕ) → Type 0
 IsByteOfSpanInsideMemory size at count place = (at + count ≤ size) × (at ≤ place) × (place < at + count)
 
--- a place of the port's received FIS area, or of PRDBC of a slot whose command is taken, of the first slots, so many
--- (AHCI 1.3.1, 4.2.1 and 4.2.2)
+-- A place of the port's received FIS area, or of PRDBC of a slot whose command is taken, among the first slots, this
+-- many of them (AHCI 1.3.1, 4.2.1 and 4.2.2).
 abbrev pub IsInReceivedFisOrTakenPrdbc : (slots size : ℕ) → DevicePort → ℕ → Type 0
 IsInReceivedFisOrTakenPrdbc slots size p place = IsByteOfSpanInsideMemory size p.bases.fb RECEIVED_FIS_BYTES place
     ⊎ ((slot : ℕ) × (slot < slots) × (is_some (p.taken slot) ≡ true)
@@ -183,8 +183,8 @@ pub record DoesPlug (port number : ℕ) (old new : Device) : Type 0 where
   pub can : Can (Plug port disk) old
   pub effect : new ≡ device_after (Plug port disk) old
 
--- What was asked of the device, and nothing else, where this is posted as commands end or fail. What its disks will say
--- of themselves, and on which ports it does nothing by itself, is no part of its state.
+-- The device did what it was asked for, and nothing else, if FISes are posted when commands end or fail. What its disks
+-- will say of themselves, and on which ports it does nothing unasked, is no part of its state.
 abbrev pub DoesAskedStep : ((port cause_bit : ℕ) → Operation → Device → Device → Type 0) → DeviceStep → Device → Device
     → Type 0
 DoesAskedStep Posts (asked.Fetch p s) old new = DoesFetch p.0 s.0 old new

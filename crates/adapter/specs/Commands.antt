@@ -51,7 +51,7 @@ sends_page Identify = true
 sends_page ReadLog = true
 sends_page _ = false
 
--- where the bytes of a move go
+-- The direction in which a move's bytes go.
 abbrev pub direction_of : Operation → Direction
 direction_of operation = if reads_memory operation then FromMemory else ToMemory
 
@@ -69,7 +69,7 @@ pub record Meaning : Type 0 where
   pub first : ℕ
   pub count : ℕ
 
--- The sectors are some that a FIS can name; where it names none, they are 0.
+-- The sectors are some that a FIS can name. If it names none, they are 0.
 pub record IsValidMeaning (m : Meaning) : Type 0 where
   pub sectors_fit_if_it_moves_some : moves_disk_sectors m.operation ≡ true
       → (1 ≤ m.count) × (m.count ≤ 65536) × (m.first < 2 ^ 48)

@@ -4,14 +4,14 @@ use Rattle.std.specs.Prelude.{ℕ, Bool, List, Option, Some, ◌≡◌, ◌<◌,
 use Rattle.adapter.specs.Commands.{Meaning}
 use Rattle.adapter.specs.declared.tape.Entry.{Entry}
 
--- Which disk it is, how many sectors it has, and what they hold where its store tells them, as memory does and a file
--- doesn't.
+-- Which disk it is, how many sectors it has, and what they hold if its store has specified contents. Memory does, and a
+-- file doesn't.
 pub record Disk : Type 0 where
   pub name : ℕ
   pub sector_count : ℕ
   pub sectors : Option (ℕ → List ℕ)
 
--- the disk tells its sectors
+-- The disk has specified contents.
 abbrev pub HasKnownSectors : Disk → Type 0
 HasKnownSectors disk = (told : ℕ → List ℕ) × (disk.sectors ≡ Some told)
 
@@ -19,7 +19,7 @@ HasKnownSectors disk = (told : ℕ → List ℕ) × (disk.sectors ≡ Some told)
 abbrev pub IsValidSector : List ℕ → Type 0
 IsValidSector bytes = (length bytes ≡ 512) × All (λ byte. byte < 256) bytes
 
--- each sector that the disk tells is one
+-- Each sector of a disk with specified contents is a sector.
 abbrev pub HasValidSectors : Disk → Type 0
 HasValidSectors disk = (told : ℕ → List ℕ) → disk.sectors ≡ Some told → (k : ℕ) → k < disk.sector_count
     → IsValidSector (told k)
@@ -37,8 +37,8 @@ pub record FetchedCommand : Type 0 where
 pub data Halt : Type 0 where
   NotHalted HaltedByPlain HaltedByQueued LogOnly : Halt
 
--- Where the driver has put the command list and the received FIS area, and which of the four address registers it has
--- written. PxCLBU and PxFBU are written with 0 alone.
+-- The places of the command list and the received FIS area, and which of the four address registers the driver has
+-- written. PxCLBU and PxFBU are written only with 0.
 pub record Bases : Type 0 where
   pub clb : ℕ
   pub fb : ℕ
@@ -66,8 +66,8 @@ pub record Notes : Type 0 where
   pub slot0_issued_count : ℕ
   pub acknowledged : Bool
 
--- What of the disk is lasting: what it held when it last ended a flush, or else when it was first in, where it tells;
--- and how long the tape was then.
+-- What of the disk is lasting: what it held when it last ended a flush or, if it ended none, when it was first in, as
+-- far as its contents are specified; and how long the tape was then.
 pub record DurableState : Type 0 where
   pub sectors : Option (ℕ → List ℕ)
   pub tape_length : ℕ
@@ -113,7 +113,7 @@ pub record DevicePort : Type 0 where
   pub notes : Notes
 
 -- The adapter: its memory, by address; CAP and PI; GHC.HR, AE and IE; its ports; and the tape of what the device did,
--- the oldest entry first. `disks_tell_sectors` says whether every disk tells its sectors.
+-- the oldest entry first. `disks_tell_sectors` says whether every disk has specified contents.
 pub record Device : Type 0 where
   pub disks_tell_sectors : Bool
   pub memory_size : ℕ

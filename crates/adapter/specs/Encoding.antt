@@ -21,8 +21,8 @@ pub record EncodesCommand (bytes : List ℕ) (c : Command) : Type 0 where
   pub count : little_from 12 2 bytes ≡ c.count
   pub zeros : AreZero bytes 14 20
 
--- A command header (AHCI 1.3.1, 4.2.2): a FIS of five double words, W as said, all other bits zero, so many PRDs, and
--- the address of the command table. PRDBC, bytes 4 to 7, may be any number.
+-- A command header (AHCI 1.3.1, 4.2.2): a FIS of five double words, W as said, all other bits zero, this number of
+-- entries, and the address of the command table. PRDBC, bytes 4 to 7, may be any number.
 pub record EncodesHeader (bytes : List ℕ) (writes : Bool) (entries table : ℕ) : Type 0 where
   pub size : length bytes ≡ HEADER_BYTES
   pub dword0_is : little_from 0 4 bytes ≡ 5 + (if writes then 2 ^ 6 else 0) + 2 ^ 16 * entries

@@ -13,11 +13,11 @@ header_up_to_ctba = 5 ∷ 0 ∷ 1 ∷ 0 ∷ 0 ∷ 0 ∷ 0 ∷ 0 ∷ 0 ∷ 0x10 �
 abbrev pub command_fis_up_to_count : List ℕ
 command_fis_up_to_count = 0x27 ∷ 0x80 ∷ 0x25 ∷ 0 ∷ 0x64 ∷ 0 ∷ 0 ∷ 0x40 ∷ 0 ∷ 0 ∷ 0 ∷ 0 ∷ 8 ∷ 0 ∷ []
 
--- the PRD: a whole frame at 64000h, where frame 100 begins
+-- The entry: a whole frame at 64000h, where frame 100 begins.
 abbrev pub prd_bytes : List ℕ
 prd_bytes = 0 ∷ 0x40 ∷ 6 ∷ 0 ∷ 0 ∷ 0 ∷ 0 ∷ 0 ∷ 0 ∷ 0 ∷ 0 ∷ 0 ∷ 0xff ∷ 0x0f ∷ 0 ∷ 0 ∷ []
 
--- the command list is at 0, and the table of slot 0 at 1000h, with its PRD at 1080h; all else is zero
+-- The command list is at 0, and the table of slot 0 at 1000h, with its entry at 1080h. All other bytes are zero.
 unfoldable pub first_memory : ℕ → ℕ
 first_memory = patched (patched (patched (λ _. 0) 0 header_up_to_ctba) 0x1000 command_fis_up_to_count) 0x1080 prd_bytes
 

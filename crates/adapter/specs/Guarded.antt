@@ -18,8 +18,8 @@ MissesRange Set from to = (at : ℕ) → from ≤ at → at < to → Set at → 
 abbrev pub MissesPieces : (ℕ → Type 0) → List ℕ → Type 0
 MissesPieces Set places = (at : ℕ) → Set at → InDataBlocks places at → ⊥
 
--- A slot says a command. Its header (but for PRDBC) and its table are table bytes; its PRDBC and its pieces aren't
--- kept.
+-- The bytes of a slot mean a command. Its header (except PRDBC) and its table are table bytes. Its PRDBC and its pieces
+-- aren't kept.
 pub record IsGuardedSlot (Tables Kept : ℕ → Type 0) (memory : ℕ → ℕ) (list slot : ℕ) : Type 0 where
   pub meaning : Meaning
   pub places : List ℕ

@@ -17,11 +17,11 @@ pub record IsIdle (d : Device) : Type 0 where
   pub no_reset : d.hr ≡ false
   pub ports_are_idle : (port : ℕ) → IsIdlePort (d.port port)
 
--- disks tell their sectors if the adapter is one that tells
+-- Disks have specified contents if those of the adapter do.
 abbrev pub DisksAreKnownIfTheyTell : Device → Type 0
 DisksAreKnownIfTheyTell d = d.disks_tell_sectors ≡ true → (port : ℕ) → HasKnownSectors (d.port port).disk
 
--- Memory and disks hold bytes, and disks tell their sectors if the adapter is one that tells.
+-- Memory and disks hold bytes, and disks have specified contents if those of the adapter do.
 pub record HoldsBytesAndTellsDisks (d : Device) : Type 0 where
   pub memory_holds_bytes : (at : ℕ) → d.memory at < 256
   pub disks_hold_sectors : (port : ℕ) → HasValidSectors (d.port port).disk

@@ -7,8 +7,8 @@ use Rattle.adapter.specs.Idle.{IsIdlePort}
 use Rattle.adapter.specs.Rules.{InUse}
 use Rattle.adapter.specs.Decoding.{DecodesTo}
 
--- Where a command stands in memory: its header, its table of so many PRDs, its pieces, and its port's received FIS
--- area.
+-- The places of a command in memory: its header, its table with this number of entries, its pieces, and its port's
+-- received FIS area.
 pub record CommandLayout : Type 0 where
   pub header : ℕ
   pub table : ℕ
@@ -16,7 +16,7 @@ pub record CommandLayout : Type 0 where
   pub places : List ℕ
   pub received_fis_area : ℕ
 
--- the byte is one of so many from an address on
+-- The byte is one of this many, from an address on.
 abbrev pub is_in_span : ℕ → ℕ → ℕ → Bool
 is_in_span first n at = nat_le first at && nat_lt at (first + n)
 
@@ -25,7 +25,7 @@ abbrev pub is_in_pieces : List ℕ → ℕ → Bool
 is_in_pieces [] at = false
 is_in_pieces (place ∷ places) at = is_in_span place 512 at || is_in_pieces places at
 
--- a byte that the device only reads: of the header but for PRDBC, or of the table
+-- A byte that the device only reads: one of the header, except PRDBC, or of the table.
 abbrev pub is_read_only : CommandLayout → ℕ → Bool
 is_read_only s at = is_in_span s.header 4 at || is_in_span (s.header + 8) 24 at
     || is_in_span s.table (TABLE_HEAD_BYTES + PRD_BYTES * s.prd_count) at

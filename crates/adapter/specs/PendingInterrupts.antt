@@ -41,8 +41,7 @@ LeavesPxIeUnwritten port access = Unit {0}
 abbrev pub EnablesNamedCauses : DevicePort → Type 0
 EnablesNamedCauses p = (place : ℕ) → is_named_cause place ≡ true → bit p.ie place ≡ true
 
--- the port that interrupts for what the entry tells of: a command that ended or failed, a fatal error, a disk that went
--- or came
+-- The port that interrupts because of the entry: a command ended or failed, a fatal error came, or a disk went or came.
 abbrev pub interrupting_port : Entry → Option ℕ
 interrupting_port (entry.Done done) = Some done.port.0
 interrupting_port (entry.Fault fault) = Some fault.port.0
@@ -51,8 +50,8 @@ interrupting_port (entry.Unplug port) = Some port.0
 interrupting_port (entry.Plug port name) = Some port.0
 interrupting_port _ = None
 
--- An adapter whose port 0 tells of all the causes that are named, where its flush is taken; then where the flush has
--- ended; and where its cause was cleared then.
+-- An adapter whose port 0 enables all the causes that are named, with a flush that is taken; the same after the flush
+-- has ended; and the same after its cause was cleared.
 abbrev pub flush_taken : FetchedCommand
 flush_taken = newly_fetched (record { operation = Flush; first = 0; count = 0 }) []
 

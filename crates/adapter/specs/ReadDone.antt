@@ -15,8 +15,8 @@ use Rattle.adapter.specs.declared.tape.Entry.TheVariants as entry
 abbrev pub read_of : ℕ → ℕ → Meaning
 read_of first count = record { operation = Read; first = first; count = count }
 
--- A read that may be fetched: each of its sectors is on a disk that tells its sectors, and each of its pieces is in the
--- memory and apart from the others.
+-- A read that may be fetched. Each of its sectors is on a disk with specified contents, and each of its pieces is in
+-- the memory and apart from the others.
 pub record IsReadThatCanComplete (d : Device) (port slot first count : ℕ) (places : List ℕ) (told : ℕ
     → List ℕ) : Type 0 where
   pub may_be_fetched : Can (Fetch port slot (read_of first count) places) d
@@ -43,8 +43,8 @@ read_move_entries port slot first places told (suc n) =
     })
     ∷ []
 
--- The device has done the read and nothing else, by steps of the slot's command alone: each sector stands in its piece,
--- the slot is free, PxIS shows DHRS beside what it showed, and the tape tells the moves and the end.
+-- The device has done the read and nothing else, by steps of the slot's command alone. Each sector is in its piece, the
+-- slot is free, PxIS shows DHRS beside what it showed, and the tape has the moves and the end.
 pub record IsReadDone (old new : Device) (port slot first count : ℕ) (places : List ℕ)
     (told : ℕ → List ℕ) : Type 0 where
   pub steps : Steps old new

@@ -59,17 +59,17 @@ pub record MayStopReceiving (p : DevicePort) : Type 0 where
   pub st_is_clear : p.st ≡ false
   pub cr_is_clear : p.cr ≡ false
 
--- ST and FRE change where they may; the other bits are written as they were last read.
+-- ST and FRE change only if they may. The other bits are written as they were last read.
 pub record MayWriteCmd (p : DevicePort) (v : ℕ) : Type 0 where
   pub start : bit v 0 ≡ true → (p.st ≡ true) ⊎ MayStart p
   pub receive : bit v 4 ≡ true → (p.fre ≡ true) ⊎ MaySetFre p
   pub stop_receiving : bit v 4 ≡ false → (p.fre ≡ false) ⊎ (MayStopReceiving p × (bit v 0 ≡ false))
   pub other_bits_are_kept : (place : ℕ) → place < 32 → place ≢ 0 → place ≢ 4 → bit v place ≡ bit p.notes.last_cmd place
 
--- Each slot whose bit is set is one of the adapter's and has no command; its bytes say one, and if that is a queued
--- command, its SACT bit is set already. How many queued commands are out isn't held against the depth that a disk
--- tells: to keep to that is the driver's. Nor is a plain command forbidden beside queued ones:
--- `IsAloneOrAllAreQueued` keeps it from being taken.
+-- Each slot whose bit is set is one of the adapter's and has no command. Its bytes mean one, and if that is a queued
+-- command, its SACT bit is set already. The number of queued commands isn't compared with the disk's depth: to keep to
+-- that is the driver's task. A plain command isn't forbidden beside queued ones either: `IsAloneOrAllAreQueued` keeps
+-- it from being taken.
 pub record MayIssue (d : Device) (p : DevicePort) (v : ℕ) : Type 0 where
   pub st_is_set : p.st ≡ true
   pub slots_are_usable : (slot : ℕ) → bit v slot ≡ true → slot ≤ d.cap / 256 % 32

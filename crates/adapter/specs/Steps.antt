@@ -125,15 +125,15 @@ port_after_fault p queued error kept_bits =
 
 -- ---- Move
 
--- the address of the next piece, and the sector that it is (0 where the command names none)
+-- The address of the next piece, and its sector (0 if the command names none).
 abbrev pub next_place : FetchedCommand → ℕ
 next_place t = slice_index t.places t.moved
 
 abbrev pub next_sector : FetchedCommand → ℕ
 next_sector t = if moves_disk_sectors t.meaning.operation then t.meaning.first + t.moved else 0
 
--- The bytes that a move may bring: the disk's, where it tells them; memory's, for a command that reads memory; or any
--- page, for IDENTIFY DEVICE and READ LOG EXT.
+-- The bytes that a move may bring: the disk's, if its contents are specified; memory's, for a command that reads
+-- memory; or any page, for IDENTIFY DEVICE and READ LOG EXT.
 abbrev pub MayBring : Disk → (ℕ → ℕ) → FetchedCommand → Operation → List ℕ → Type 0
 MayBring disk memory t Read bytes = (next_sector t < disk.sector_count)
     × IfSome disk.sectors (λ told. bytes ≡ told (next_sector t))
@@ -311,7 +311,7 @@ port_after_hba_reset p =
 
 -- ---- Scribble
 
--- a place where the device may write what it wants: the received FIS area, or the number in PRDBC of a taken slot
+-- A place at which the device may write any bytes: the received FIS area, or the number in PRDBC of a taken slot.
 pub record MayScribble (p : DevicePort) (slot at : ℕ) (bytes : List ℕ) : Type 0 where
   pub fre_is_set : p.fre ≡ true
   pub place : ((p.bases.fb ≤ at) × (at + length bytes ≤ p.bases.fb + RECEIVED_FIS_BYTES))
@@ -331,21 +331,22 @@ bytes_put_into port k (entry.Clear clear) =
     then Some (replicate 512 0) else None
 bytes_put_into port k _ = None
 
--- A disk of the port of which this is lasting held these bytes in its sector k when it last ended a flush, or, if it
+-- A disk of the port with this lasting state held these bytes in its sector k when it last ended a flush or, if it
 -- ended none, when it was first in; or they were put there since.
 abbrev pub WereHeldSinceFlush : List Entry → DurableState → (port k : ℕ) → List ℕ → Type 0
 WereHeldSinceFlush tape lasting port k bytes = (option_map (λ sectors. sectors k) lasting.sectors ≡ Some bytes)
     ⊎ ((entry : Entry) × Contains (drop lasting.tape_length tape) entry × (bytes_put_into port k entry ≡ Some bytes))
 
--- A disk with the name of the one that was in last is that one. It has as many sectors, and each that both tell is as
--- it was at some moment since a flush was last ended: what its cache held may be lost (FLUSH CACHE EXT, ACS-3).
+-- A disk with the name of the one that was in last is that one. It has as many sectors. If both have specified
+-- contents, each sector is as it was at some moment since a flush was last ended: what its cache held may be lost
+-- (FLUSH CACHE EXT, ACS-3).
 pub record IsReplugOf (d : Device) (port : ℕ) (disk : Disk) : Type 0 where
   pub size : disk.sector_count ≡ (d.port port).disk.sector_count
   pub holds : (last told : ℕ → List ℕ) → (d.port port).disk.sectors ≡ Some last → disk.sectors ≡ Some told
       → (k : ℕ) → k < disk.sector_count → (told k ≡ last k)
       ⊎ WereHeldSinceFlush d.tape (d.port port).lasting port k (told k)
 
--- what is lasting stays so where that disk comes back; of another one it is what it comes with
+-- What is lasting stays so if that disk comes back. For another disk it is what the disk comes with.
 abbrev pub lasting_after_plug_or_replug : DurableState → (last disk : Disk) → ℕ → DurableState
 lasting_after_plug_or_replug lasting last disk here =
     if nat_eq disk.name last.name then lasting else record { sectors = disk.sectors; tape_length = here }

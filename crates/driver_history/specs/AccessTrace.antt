@@ -19,7 +19,7 @@ DoesNotWriteCmd port access = DoesNotWrite (Px port Cmd) access
 abbrev pub WritesNeitherCmdNorSctl : Port → Access → Type 0
 WritesNeitherCmdNorSctl port access = DoesNotWriteCmd port access × DoesNotWrite (Px port Sctl) access
 
--- the access clears no bit that tells of the port's trouble
+-- The access clears no bit that shows the port's trouble.
 abbrev pub WritesOneToNoTroubleBit : Port → Access → Type 0
 WritesOneToNoTroubleBit port (Writing r v) = ClearsNoTrouble port r v
 WritesOneToNoTroubleBit port access = Unit {0}

@@ -22,13 +22,13 @@ use Rattle.driver_history.specs.Evidence.{IsEndedReset, IsFaultTold, HasEvidence
 use Rattle.driver_history.specs.Histories.{ExplainsAccesses, FindsDoneInServiceOrAtTimeout, IssuesAllDue, TellsLonePlainFaultsUnlessDead}
 use Rattle.driver_history.specs.AccessTrace.{WritesNeitherCmdNorSctl}
 
--- what a call may tell where nothing goes wrong: Ok; or Revoked, where it revokes a grant
+-- What a call may answer if nothing goes wrong: Ok, or Revoked if it revokes a grant.
 abbrev pub IsFaultFreeOutcome : AbstractCall DeviceStep → Outcome → Type 0
 IsFaultFreeOutcome (RevokeOf client number) o = o ≡ outcome.Revoked
 IsFaultFreeOutcome ask o = o ≡ outcome.Ok
 
--- A call that made these accesses leaves a port alone: it is what it was, what it tells there is told calmly, and
--- neither PxCMD nor PxSCTL of it is written.
+-- A call that made these accesses leaves a port alone. The port is what it was, what is answered there is answered as
+-- if nothing goes wrong, and neither PxCMD nor PxSCTL of it is written.
 pub record IsSpared (old : JointState Device) (h : JointEvent Device DeviceStep) (accesses : List Access)
     (port : Port) : Type 0 where
   pub port_is_same : SamePort old.abstract.ports h.event.ports port
@@ -38,10 +38,10 @@ pub record IsSpared (old : JointState Device) (h : JointEvent Device DeviceStep)
   pub engine_is_left : All (WritesNeitherCmdNorSctl port) accesses
 
 -- What an answer of a call that made these accesses rests on, in the device's terms. Ok: the request was issued when
--- the call began, the device has moved all its sectors since its last issue, and ended it. DeviceError: the device told
--- that fault, and the port was stopped. Aborted: four issues, on a port that is ready. Unplugged: the port was lost.
--- PortDead: its engine was awaited in vain, or the adapter isn't on. Revoked: the grant isn't there any more, and the
--- request wasn't issued, or the port was stopped.
+-- the call began, the device has moved all its sectors since its last issue, and ended it. DeviceError: the device
+-- reported that fault, and the port was stopped. Aborted: four issues, on a port that is ready. Unplugged: the port was
+-- lost. PortDead: the driver waited for its engine in vain, or the adapter isn't on. Revoked: the grant isn't there any
+-- more, and the request wasn't issued, or the port was stopped.
 abbrev pub AnswerJustified : JointState Device → JointEvent Device DeviceStep → List Access → Pending → Outcome → Type 0
 AnswerJustified old h accesses e outcome.Ok =
     IsIssuedInBook old.abstract.machine e.request.id × (e.issued ≡ true) × AllTouched e × (e.ended ≡ true)
@@ -79,11 +79,11 @@ pub record GoesWellFor (old : JointState Device) (h : JointEvent Device DeviceSt
 
 -- ---- failures
 
--- A service heeds the failure that a port showed when it began, a fault or a fatal error: what had ended on the port is
--- answered Ok. The port was stopped, or got stuck, and what is issued on it then was issued anew. One of them is
--- told a fault at most, and none where a fatal error was shown. And where TFES alone was, with no fatal error in the
--- call, and no disk that goes or comes, a plain one that was outstanding, and hadn't ended, is told its fault, unless
--- the port ends dead. So it isn't tried again.
+-- A service handles the failure that a port showed when it began, a fault or a fatal error. What had ended on the port
+-- is answered Ok. The port was stopped, or got stuck, and what is issued on it at the end was issued anew. At most one
+-- of its requests is answered with a fault, and none if a fatal error was shown. Now let TFES alone be shown, with no
+-- fatal error in the call, and no disk that goes or comes. Then a plain request that was outstanding, and hadn't ended,
+-- is answered with its fault, unless the port ends dead. So it isn't tried again.
 pub record HandlesShownFailure (port : Port) (old : JointState Device) (h : JointEvent Device DeviceStep) : Type 0 where
   pub answers_ok_what_had_ended : AnswersOkWhatHadEnded old.abstract.machine h.event.steps port
   pub is_stopped_or_stuck : IsStoppedOrStuck h.event.evidence port

@@ -1,4 +1,4 @@
--- The moves of a history: whose they are, and where they go (this project's own).
+-- The moves of a history: to which requests and to which places they belong (this project's own).
 use Rattle.std.specs.Prelude.{◌≡◌, ◌++◌, List, [], ◌∷◌, Option, Some, Contains}
 use Rattle.ata_types.specs.declared.request.Op.{Op}
 use Rattle.ata_types.specs.declared.request.Op.TheVariants.{Read, Write}

@@ -38,7 +38,7 @@ pub record StaysHealthy (port : ℕ) (old new : Device) : Type 0 where
 
 -- ---- what a port shows
 
--- N or X of PxSERR is set: the link has told of a change
+-- N or X of PxSERR is set: the link has reported a change.
 abbrev pub ShowsLinkChange : DevicePort → Type 0
 ShowsLinkChange p = (p.serr_n ≡ true) ⊎ (p.serr_x ≡ true)
 
@@ -46,7 +46,7 @@ ShowsLinkChange p = (p.serr_n ≡ true) ⊎ (p.serr_x ≡ true)
 abbrev pub ShowsFailure : DevicePort → Type 0
 ShowsFailure p = ShowsFatal p ⊎ (p.is 30 ≡ true)
 
--- ---- a fault that is told of a request
+-- ---- a fault that is reported of a request
 
 -- A plain request is the one of its port that is issued, and status and error are those of such a fault of its slot.
 pub record BacksPlainFault (old : JointState Device) (new : Device) (accesses : List Access) (e : Pending) (slot : ℕ)
@@ -86,8 +86,8 @@ pub record IsFaultTold (old : JointState Device) (new : Device) (accesses : List
 
 -- ---- ports
 
--- The port had told of a change, or showed no device, when the call began; a disk of it went or came in the call; or it
--- ends the call neither dead nor ready with serial and size as when it was last ready.
+-- The port had reported a change, or showed no device, when the call began; a disk of it went or came in the call; or
+-- it ends the call neither dead nor ready with serial and size as when it was last ready.
 abbrev pub HasEvidenceOfLoss : Port → JointState Device → Ports → Device → Type 0
 HasEvidenceOfLoss port old ports new =
     ShowsLinkChange (old.device.port port.0)
@@ -133,9 +133,9 @@ IsStuckReset ask said = ⊥
 -- ---- the whole
 
 -- What stands behind one port's items. `lost` and `stuck`: what is named is so. `link_changed`, `showing_error` and
--- `showing_fatal_error`: it is named where it showed that when the call began, and only where it showed it then or had
--- it in the call (what comes after the driver's look is nobody's to heed in that call). `stopped`: it is named only
--- where it was stopped; and where PxCMD or PxSCTL was written at all, it is stopped or stuck.
+-- `showing_fatal_error`: the port is named if it showed that when the call began, and only if it showed it then or had
+-- it in the call. (No call has to handle what comes after the driver's look in that call.) `stopped`: the port is named
+-- only if it was stopped. If PxCMD or PxSCTL was written at all, it is stopped or stuck.
 pub record IsEvidencedOf (ask : AbstractCall DeviceStep) (said : AbstractCallResult) (accesses : List Access)
     (old : JointState Device)
     (ports : Ports) (new : Device)
@@ -161,7 +161,7 @@ pub record IsEvidencedOf (ask : AbstractCall DeviceStep) (said : AbstractCallRes
       → (EngineSticks port accesses × ((new.port port.0).notes.engine_wait_count ≡ MOST_READINGS))
       ⊎ (IsStuckReset ask said × (old.abstract.ports.served port ≡ true))
 
--- Each fault that is named was told by the device, and so it is with each port.
+-- The device reported each fault that is named, and what is named of ports is so.
 pub record IsEvidenced (ask : AbstractCall DeviceStep) (said : AbstractCallResult) (accesses : List Access)
     (old : JointState Device)
     (ports : Ports) (new : Device)

@@ -10,7 +10,7 @@ use Rattle.block_machine.specs.Ports.{Ports, SamePort, Evidence, IsStoppedOrStuc
 use Rattle.block_machine.specs.State.{Pending}
 use Rattle.block_machine.specs.Steps.{Step, WaitAgain, Answer}
 
--- requests wait again, are aborted, are told Revoked, or have a fault told of them, on ports that failed
+-- Only on ports that failed do requests wait again, or are they answered with Aborted, Revoked or a fault.
 abbrev pub OnlyPortsShowingErrorRequeueAbortRevokeFault : Evidence → List Step → Type 0
 OnlyPortsShowingErrorRequeueAbortRevokeFault evidence [] = Unit {0}
 OnlyPortsShowingErrorRequeueAbortRevokeFault evidence
@@ -39,31 +39,30 @@ abbrev pub ToldOkOr : Outcome → List Step → Port → Type 0
 ToldOkOr told steps port = (e : Pending) (o : Outcome) → Contains steps (Answer e o) → e.request.port ≡ port
     → (o ≡ outcome.Ok) ⊎ (o ≡ told)
 
--- the port failed, or its link had told of a change when the call began, or a disk goes or comes in it
+-- The port failed, or its link had reported a change when the call began, or a disk goes or comes in it.
 abbrev pub ShowsErrorOrLinkOrDiskChange : Evidence → List Step → Port → Type 0
 ShowsErrorOrLinkOrDiskChange evidence steps port = Contains evidence.showing_error port
     ⊎ Contains evidence.link_changed port
     ⊎ (list_any (changes_disk port) steps ≡ true)
 
--- the step tells a fault of a request of the port
+-- The step answers a request of the port with a fault.
 abbrev pub tells_fault : Port → Step → Bool
 tells_fault port (Answer e (outcome.DeviceError status error)) = e.request.port.0 == port.0
 tells_fault port _ = false
 
--- The port is neither stopped nor gets stuck: it stays what it is, and nothing but Ok is told.
+-- The port is neither stopped nor gets stuck. It stays what it is, and nothing but Ok is answered.
 pub record IsLeftAlone (old : Ports) (evidence : Evidence) (steps : List Step) (new : Ports)
     (port : Port) : Type 0 where
   pub port_is_same : SamePort old new port
   pub only_ok_is_told : ToldOkOr outcome.Ok steps port
   pub is_neither_stopped_nor_stuck : IsStoppedOrStuck evidence port → ⊥
 
--- What a service owes a port that was ready when it began. What had ended is answered Ok. Where the port's link had
--- told of a change, all its requests are answered, and those that aren't Ok are all told Unplugged, or all PortDead.
--- Where that is so, or it failed, the port is stopped, or gets stuck. Where it failed or was stopped, what is
--- issued then was issued in the call. One fault is told at most, and none where an error was fatal, which is a failure,
--- too. It shows a disk after the call only where one was in. And where nothing disturbs it, the port is left alone.
--- (That it is what it was unless it was stopped or got stuck, `MayBecomeInService` has of each
--- port.)
+-- What a service owes a port that was ready when it began. What had ended is answered Ok. If the port's link had
+-- reported a change, all its requests are answered, and those that aren't answered Ok are all answered Unplugged, or
+-- all PortDead. If the link had, or the port failed, the port is stopped, or gets stuck. If it failed or was stopped,
+-- what is issued at the end was issued in the call. At most one fault is answered, and none if an error was fatal,
+-- which is a failure, too. The port shows a disk after the call only if one was in. If nothing disturbs the port, it is
+-- left alone. (`MayBecomeInService` says of each port that it is what it was, unless it was stopped or got stuck.)
 pub record ServicesReadyPort (old : AbstractState) (evidence : Evidence) (steps : List Step) (new : AbstractState)
     (port : Port) : Type 0 where
   pub answers_ok_what_had_ended : AnswersOkWhatHadEnded old.machine steps port

@@ -41,10 +41,10 @@ use Rattle.driver_history.specs.AccessTrace.{ReadsMasksBeforeCmdWrite, LastSctlW
 
 -- ---- how a call came from the one device to the other
 
--- What issuing a request on the port is made of: stores in the driver's frames, of its header, table and block, and
--- writes of PxSACT and PxCI. (That these are the right bytes and bits is said by what holds after the call. In which
--- slot a request goes, and that PxSACT is written first, no history tells: the server's own contract does, and the
--- adapter's rules ask for that order.)
+-- The accesses that issue a request on the port: stores in the driver's frames, of its header, table and block, and
+-- writes of PxSACT and PxCI. (What holds after the call says that these are the right bytes and bits. No history says
+-- in which slot a request goes, or that PxSACT is written first: the server's own contract does, and the adapter's
+-- rules ask for that order.)
 abbrev pub StoresOrWritesSactOrCi : Port → Access → Type 0
 StoresOrWritesSactOrCi port (Writing r v) = (r ≡ Px port Sact) ⊎ (r ≡ Px port Ci)
 StoresOrWritesSactOrCi port (Storing at bytes) = at + length bytes ≤ DRIVER_BYTES
@@ -58,18 +58,25 @@ IsPortServed ports port = ports.served port ≡ true
 abbrev pub IsServedAndNotDead : Ports → Port → Type 0
 IsServedAndNotDead ports port = IsPortServed ports port × (ports.state port ≢ Dead)
 
--- The adapter is on, and tells of its causes (AHCI 1.3.1, 3.1.2: AE and IE).
+-- The adapter is on, and its interrupts are enabled (AHCI 1.3.1, 3.1.2: AE and IE).
 abbrev pub HasAeAndIe : Device → Type 0
 HasAeAndIe d = IsOn d × (d.ie ≡ true)
 
--- What was done in a call. A device step is the device's own, with no access. A client's bytes are stored, or loaded,
--- by one access. For a request that is accepted requests of its port are issued, if any; so they are for a grant that
--- is revoked, if its port is ready, and else there is no access. A service, a tick and a reset make accesses: what the
--- driver stores and loads in them lies in its own frames, and of ports' registers they use those of served ports
--- alone, a service of those that aren't dead, and a tick of those that are hung. Neither a service nor a tick writes
--- GHC. In a reset HR is set first, and then GHC alone is read, each time with HR one: in one that ends until HR is 0,
--- before all else, and it leaves the adapter on; in one that doesn't, at last with HR one too, and that is all (how
--- often is the server's own contract). Each other call makes none, a refused one among them.
+-- What was done in a call.
+--
+-- A device step is the device's own, with no access. A client's bytes are stored, or loaded, by one access. A request
+-- that is accepted issues requests of its port, if any are due. So does a grant that is revoked, if its port is ready;
+-- otherwise there is no access.
+--
+-- A service, a tick and a reset make accesses. What the driver stores and loads in them lies in its own frames. Of
+-- ports' registers they use only those of served ports; a service uses only those of ports that aren't dead, and a tick
+-- only those of ports that are hung. Neither a service nor a tick writes GHC.
+--
+-- In a reset HR is set first. Then only GHC is read, each time with HR one. In a reset that finishes this goes on until
+-- HR is 0, before anything else, and the reset leaves the adapter on. In one that doesn't finish, HR is one in the end
+-- too, and nothing more is done (the server's own contract says how often it is read).
+--
+-- Every other call makes no access, and neither does a refused one.
 abbrev pub ExplainsAccesses : AbstractState → AbstractCall DeviceStep → AbstractCallResult → List Access → Device
     → Device
     → Type 0
@@ -105,7 +112,7 @@ with_issue_undone steps book = map (λ (r : Unanswered). if list_any
     (issues_id r.id) steps then record r { issued = false }
     else r) book
 
--- Of the unanswered requests of a port the steps issue exactly those that are due once all else is done.
+-- Of the unanswered requests of a port the steps issue exactly those that are due at the end.
 abbrev pub IssuesDue : QueueMode → List Step → Machine → Port → Type 0
 IssuesDue mode steps later port = (r : Unanswered) → Contains (with_issue_undone steps (map unanswered later.book)) r
     → r.port ≡ port → IsIssuedIn r.id steps ↔ IsDue mode (with_issue_undone steps (map unanswered later.book)) r
@@ -194,8 +201,8 @@ IsForeignOrUnfit ports port = (ports.state port ≡ Foreign) ⊎ ((cause : ℕ) 
 
 -- A service in which no disk of a served port comes boots what is there, unless the port ends dead: an absent port that
 -- shows a device, unless a disk of it goes in the call; and an unfit or foreign one with X set, unless it ends absent.
--- One of these without a device ends absent, or dead. Where the link was reset so, the disk's first FIS has come when
--- the call ends, or no device shows.
+-- If one of these has no device, it ends absent, or dead. If the link was reset for this, the disk's first FIS has come
+-- when the call ends, or no device shows.
 pub record ProbesDisk (accesses : List Access) (old : JointState Device) (ports : Ports) (new : Device)
     (port : Port) : Type 0 where
   pub absent_with_device_is_booted_dead_or_has_plug_event : old.abstract.ports.state port ≡ Absent
@@ -261,9 +268,9 @@ pub record LosesNoPortError (evidence : Evidence) (old : JointState Device) (por
   pub ready_shows_plug_event_since_start : ports.state port ≡ Ready
       → GainsSinceStart (IsPlugEvent port.0) port.0 old.device new → (new.port port.0).serr_n ≡ true
 
--- Where a port was stopped and is ready after the call, its boot or its recovery has taken the trouble away, what came
--- meanwhile too: it runs well, if no disk went or came in the call, and no fault and no fatal error came since ST was
--- last set; and if its link was reset, as a boot does, or its disk's first FIS had come when the call began.
+-- If a port was stopped and is ready after the call, its boot or its recovery has ended the trouble, including what
+-- came meanwhile. The port runs well if no disk went or came in the call, if no fault and no fatal error came since ST
+-- was last set, and if its link was reset, as a boot does, or its disk's first FIS had come when the call began.
 abbrev pub RunsWellAnew : Evidence → List Access → JointState Device → Ports → Device → Port → Type 0
 RunsWellAnew evidence accesses old ports new port =
     IsStoppedOrStuck evidence port → ports.state port ≡ Ready → NoPlugEvents port.0 old.device new

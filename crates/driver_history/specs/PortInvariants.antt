@@ -30,8 +30,8 @@ use Rattle.port_control.specs.Ports.{programmed_bases}
 
 -- ---- a ready port
 
--- How a port takes commands with this disk: queued where adapter and disk both do, and then in as many slots as
--- adapter, disk and the tag's 32 values allow; else one at a time (CAP: AHCI 1.3.1, 3.1.1).
+-- How a port takes commands with this disk. If adapter and disk both queue, commands are queued, in as many slots as
+-- adapter, disk and the tag's 32 values allow. Otherwise the port takes one at a time (CAP: AHCI 1.3.1, 3.1.1).
 abbrev pub mode_of_disk : ℕ → DiskInfo → QueueMode
 mode_of_disk cap info =
     if bit cap 30 && info.ncq then record { queued = true; usable_slots = min (cap / 256 % 32 + 1) (min info.depth 32) }
@@ -93,7 +93,7 @@ pub record HasAllSlotsFreeAndNoneParked (s : DriverSlots) (port : ℕ) : Type 0 
 abbrev pub HasNoUnanswered : Machine → Port → Type 0
 HasNoUnanswered m port = (e : Pending) → Contains m.book e → e.request.port ≢ port
 
--- A ready port runs, and its disk's last page, which came after PxSCTL was last written, says what clients are told.
+-- A ready port runs. Its disk's last page, which came after PxSCTL was last written, is what clients get to know.
 -- Clients' requests are in its slots, and no request is kept.
 pub record IsReadyAt (wanted : Wanted) (s : DriverSlots) (i : JointState Device) (port : Port) : Type 0 where
   pub adapter_is_on : IsOn i.device
@@ -117,8 +117,8 @@ pub record IsStoppedAt (wanted : Wanted) (s : DriverSlots) (i : JointState Devic
   pub has_no_unanswered : HasNoUnanswered i.abstract.machine port
   pub none_is_quarantined : NoneKept i.abstract.machine port
 
--- A dead port: its engine was awaited in vain; or the adapter isn't on, since its last reset wasn't seen to end. Nobody
--- waits for it, but between such a reset and the service that tells it.
+-- A dead port. The driver waited for its engine in vain, or the adapter isn't on, because its last reset wasn't seen to
+-- finish. No request waits for it, except between such a reset and the service that answers it.
 pub record IsDeadAt (wanted : Wanted) (i : JointState Device) (port : Port) : Type 0 where
   pub is_backed_or_off : BacksState (serial_of wanted) Dead port.0 i.device ⊎ (IsOn i.device → ⊥)
   pub has_no_unanswered : IsOn i.device → HasNoUnanswered i.abstract.machine port

@@ -41,8 +41,8 @@ pub record EvidenceAgreesOn (port : Port) (one other : Evidence) : Type 0 where
   pub stopped : Contains one.stopped port ↔ Contains other.stopped port
   pub stuck : Contains one.stuck port ↔ Contains other.stuck port
 
--- Where a port with a disk that isn't served showed X, and no disk of it came since, no link of it is due any more,
--- unless it is absent or dead. (While one is due, X rises when it comes up, and the tape tells of no disk.)
+-- Consider a port whose disk isn't served, that showed X, and to which no disk came since. No link of it is due any
+-- more, unless it is absent or dead. (While one is due, X rises when it comes up, and the tape has no disk.)
 abbrev pub NoLinkDueAfterXUnlessAbsentDeadOrDiskComes : Port → JointState Device → Ports → Device → Type 0
 NoLinkDueAfterXUnlessAbsentDeadOrDiskComes port old ports new = IsForeignOrUnfit old.abstract.ports port
     → (old.device.port port.0).serr_x ≡ true → NoDiskComes port.0 old.device new → (ports.state port ≡ Absent)
