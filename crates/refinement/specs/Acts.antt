@@ -1,4 +1,4 @@
--- A part of a call, told act by act (this project's own).
+-- A part of a call, described act by act (this project's own).
 use Rattle.std.specs.Prelude.{ℕ, ◌≡◌, ◌⊎◌, ◌++◌, List, [], ◌∷◌, All, Option, None, Some}
 use Rattle.ata_types.specs.declared.Port.{Port}
 use Rattle.ata_types.specs.declared.request.RequestId.{RequestId}
@@ -27,8 +27,8 @@ abbrev pub IsIssueStepOn : Port → Step → Type 0
 IsIssueStepOn port (Issue mode e) = e.request.port ≡ port
 IsIssueStepOn port step = ⊥
 
--- One act of the driver: an access, over which the device makes steps; or none, where the driver decides on a request
--- or a slot. With it, the machine's steps meanwhile, the last one first, and what the driver knows then.
+-- One act of the driver: an access, over which the device makes steps, or no access, when the driver decides on a
+-- request or a slot. With it come the machine's steps meanwhile, the last one first, and what the driver knows then.
 pub record Act : Type 0 where
   pub access : Option Access
   pub steps : List Step
@@ -99,7 +99,7 @@ driver_state_of_slots s d = record {
   device = d;
 }
 
--- From this machine, acts with these accesses lead to what the driver knows then; and this is told of them.
+-- From this machine, acts with these accesses lead to what the driver knows then, and this holds of them.
 pub record ActsReach (accesses : List Access) (k : DriverState) (m : Machine) (later : DriverState) (Tells : List Act
     → Type 0) : Type 0 where
   pub acts : List Act
@@ -107,7 +107,7 @@ pub record ActsReach (accesses : List Access) (k : DriverState) (m : Machine) (l
   pub accesses_match_acts : accesses_of acts ≡ accesses
   pub acts_are_such : Tells acts
 
--- So it is whatever is in the slots, from each machine that is reached and agrees with that, where the two fit; and the
+-- The same whatever is in the slots, from each machine that is reached and agrees with that, if the two fit; and the
 -- acts lead to what is in the slots next.
 abbrev pub ActsReachWith : List Access → (DriverSlots → Machine → Type 0) → (DriverSlots → DriverSlots)
     → (DriverSlots → Machine → List Act → Type 0) → Device → Device → Type 0

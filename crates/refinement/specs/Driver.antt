@@ -55,8 +55,8 @@ IsInMemoryOfFreeSlot uses at n = IsInFreeHeaderOrTable uses at n ⊎ IsInScratch
 abbrev pub AllFree : SlotStates → ℕ → Type 0
 AllFree uses port = (slot : ℕ) → uses port slot ≡ Free
 
--- A write of PxCMD sets ST only where it is set already or no slot is in use, and FRE only where the received FIS area
--- is in its place.
+-- A write of PxCMD sets ST only if it is set already or no slot is in use, and FRE only if the received FIS area is in
+-- its place.
 pub record StAndFreBitsMayBeWritten (uses : SlotStates) (port v : ℕ) (p : DevicePort) : Type 0 where
   pub start : bit v 0 ≡ true → (p.st ≡ true) ⊎ AllFree uses port
   pub receive : bit v 4 ≡ true → (port < 4) × (p.bases.fb ≡ received_fis_address port)
@@ -67,7 +67,7 @@ pub record KeepsOtherCmdBits (st fre : Bool) (was v : ℕ) : Type 0 where
   pub receive : bit v 4 ≡ fre
   pub others : (place : ℕ) → place < 32 → place ≢ 0 → place ≢ 4 → bit v place ≡ bit was place
 
--- What is asked of a write so that each slot goes on as it was used: PxCLB has the list's place, or no slot is used;
+-- What a write has to keep so that each slot goes on as it was used: PxCLB has the list's place, or no slot is used;
 -- PxSACT and PxCI have no bit.
 abbrev pub KeepsSlotStates : SlotStates → Reg → ℕ → Device → Type 0
 KeepsSlotStates uses (Px port Clb) v d = (v ≡ command_list_address port.0) ⊎ AllFree uses port.0
@@ -90,8 +90,8 @@ pub record DriverRelation (m : Machine) (k : DriverState) : Type 0 where
   pub state_relation : StateRelation k.slot_states m k.device
   pub have_slots_unless_parked : (port : ℕ) → HaveSlotsUnlessParked k.slot_states m port (k.awaiting_disposition port)
 
--- The tape's new entries tell of the device's steps among these; reads moved what their disks hold, where these tell
--- it; and the disks that were put in are the device's.
+-- The tape's new entries are the device's steps among these. Reads moved what their disks hold, if these have specified
+-- contents. The disks that were put in are the device's.
 pub record TapeBacksSteps (old new : Device) (m : Machine) (steps : List Step) : Type 0 where
   pub disks_tell_sectors_is_same : new.disks_tell_sectors ≡ old.disks_tell_sectors
   pub new_entries : List Entry
@@ -114,15 +114,15 @@ pub record DriverAdvances (k : DriverState) (m : Machine) (steps : List Step) (l
   pub is_backed : TapeBacksSteps k.device later.device m steps
   pub driver_relation : DriverRelation (after m steps) later
 
--- What the device leaves of what is not in use: all headers, but for PRDBC, and all tables; and the scratch frame where
--- slot 0 has no command of the driver's own.
+-- What the device leaves unchanged because it isn't in use: all headers, except PRDBC, all tables, and the scratch
+-- frame if slot 0 has no command of the driver's own.
 pub record KeepsTablesAndScratchUnlessOwn (uses : SlotStates) (old new : Device) : Type 0 where
   pub tables : (port slot at : ℕ) → port < 4 → slot < 32 → IsTableOrHeaderByteButPrdbc port slot at
       → new.memory at ≡ old.memory at
   pub scratch : (port at : ℕ) → port < 4 → ((o : Operation) → uses port 0 ≡ Own o → ⊥) → IsScratchByte port at
       → new.memory at ≡ old.memory at
 
--- none of these n bytes is of the slot's header, but for PRDBC, or of its table
+-- None of these n bytes is one of the slot's header, except PRDBC, or of its table.
 abbrev pub MissesTableAndHeaderButPrdbc : ℕ → ℕ → ℕ → ℕ → Type 0
 MissesTableAndHeaderButPrdbc port slot at n = (place : ℕ) → IsTableOrHeaderByteButPrdbc port slot place → at ≤ place
     → place < at + n
@@ -134,9 +134,9 @@ MissesScratch port at n = (place : ℕ) → IsScratchByte port place → at ≤ 
 
 -- ---- issuing
 
--- The request is due; its slot is armed if the request is queued, and else free; the slot is usable in this mode, and a
--- plain request's is slot 0; the slot's bytes say its command, which is queued exactly if the request is; and the value
--- has the slot's bit alone.
+-- The request is due. Its slot is armed if the request is queued, and free otherwise. The slot is usable in this mode,
+-- and a plain request's is slot 0. The slot's bytes mean its command, which is queued exactly if the request is. The
+-- value has the slot's bit alone.
 pub record IsRequestPreparedToIssue (uses : SlotStates) (m : Machine) (d : Device) (port slot : ℕ) (mode : QueueMode)
     (e : Pending)
     (v : ℕ) : Type 0 where
@@ -180,7 +180,7 @@ pub record EndsInOwnStepsAfterDeviceSteps (k : DriverState) (m : Machine) (own :
   pub is_backed : TapeBacksSteps k.device later.device m (own ++ steps)
   pub driver_relation : DriverRelation (after m (own ++ steps)) later
 
--- the same, where it ends with one step
+-- The same, ending with one step.
 abbrev pub EndsInOneStep : DriverState → Machine → Step → DriverState → Type 0
 EndsInOneStep k m step later = EndsInOwnStepsAfterDeviceSteps k m (step ∷ []) later
 
@@ -197,12 +197,12 @@ with_slot_serving k port slot id new = record k {
 abbrev pub HasNoSlot : SlotStates → RequestId → Type 0
 HasNoSlot uses id = (port slot : ℕ) → uses port slot ≡ Serves id → ⊥
 
--- but for this request, what was parked is parked
+-- Apart from this request, what was parked is parked.
 abbrev pub OthersStayParked : RequestId → (ℕ → List RequestId) → (ℕ → List RequestId) → Type 0
 OthersStayParked id parked later = (port : ℕ) (other : RequestId) → Contains (parked port) other → (other ≡ id → ⊥)
     → Contains (later port) other
 
--- but for the kept requests, what was parked is parked
+-- Apart from the kept requests, what was parked is parked.
 abbrev pub ParkedStayUnlessKept : Machine → (ℕ → List RequestId) → (ℕ → List RequestId) → Type 0
 ParkedStayUnlessKept m parked later = (port : ℕ) (other : RequestId) → Contains (parked port) other
     → ((e : Pending) → Contains m.kept e → e.request.id ≢ other) → Contains (later port) other

@@ -1,4 +1,4 @@
--- What tells of a port's errors, of its disks that come, of a reset, and of its engine's work (this project's own).
+-- Signs of a port's errors, of its disks that come, of a reset, and of its engine's work (this project's own).
 use Rattle.std.specs.Prelude.{ℕ, true, false, ◌≡◌, ◌≤◌, ◌++◌, List, All}
 use Rattle.adapter.specs.Device.{DevicePort, Device}
 use Rattle.adapter.specs.declared.tape.Entry.{Entry}
@@ -23,7 +23,7 @@ pub record NoDiskComes (port : ℕ) (old new : Device) : Type 0 where
   pub tape_is : new.tape ≡ old.tape ++ new_entries
   pub no_such_entry : All (λ e. IsDiskComing port e → ⊥) new_entries
 
--- N of PxSERR rises only for a disk that goes or comes, and X only for one that comes. Where no disk has come and
+-- N of PxSERR rises only for a disk that goes or comes, and X only for one that comes. If no disk has come and
 -- PxSSTS.DET is 3, it was 3 before, and none has gone.
 pub record LinkErrorsRiseByDisks (port : ℕ) (old new : Device) : Type 0 where
   pub serr_n_rises_by_plug_events : NoPlugEvents port old new → (old.port port).serr_n ≡ false
@@ -34,14 +34,14 @@ pub record LinkErrorsRiseByDisks (port : ℕ) (old new : Device) : Type 0 where
       → ((old.port port).ssts_det ≡ 3)
       × NoPlugEvents port old new
 
--- Each bit that tells of trouble is clear still if it was: N and X of PxSERR, and 27 to 30 of PxIS.
+-- Each bit that shows trouble is still clear if it was: N and X of PxSERR, and 27 to 30 of PxIS.
 pub record ErrorBitsStayClear (old new : DevicePort) : Type 0 where
   pub serr_n_stays_clear : old.serr_n ≡ false → new.serr_n ≡ false
   pub serr_x_stays_clear : old.serr_x ≡ false → new.serr_x ≡ false
   pub pxis_bits_27_to_30_stay_clear : (place : ℕ) → 27 ≤ place → place ≤ 30 → old.is place ≡ false
       → new.is place ≡ false
 
--- the entry tells a fatal error of the port
+-- The entry is a fatal error of the port.
 abbrev pub IsFatalEntryOf : ℕ → Entry → Type 0
 IsFatalEntryOf port (entry.Fatal at) = at.0 ≡ port
 IsFatalEntryOf port _ = ⊥
@@ -59,8 +59,8 @@ pub record NoFaults (port : ℕ) (old new : Device) : Type 0 where
   pub tape_is : new.tape ≡ old.tape ++ new_entries
   pub no_such_entry : All (λ e. IsFaultOf port e → ⊥) new_entries
 
--- What the tape tells nothing of in two parts of a call it tells nothing of in the whole, and the other way round,
--- where the tape only grows; and where nothing was done it tells nothing of it.
+-- If the tape of neither of two parts of a call has such an entry, the tape of the whole has none, and the other way
+-- round, because the tape only grows. If nothing was done, the tape has none.
 pub record IsCompositional (Untold : ℕ → Device → Device → Type 0) : Type 0 where
   pub reflexive : (port : ℕ) (d : Device) → Untold port d d
   pub transitive : (port : ℕ) (old mid new : Device) → Untold port old mid → Untold port mid new → Untold port old new
@@ -89,8 +89,8 @@ pub record IsLeftByReset (p : DevicePort) : Type 0 where
   pub first_fis_has_not_come : p.fresh ≡ false
   pub is_not_broken : p.broken ≡ false
 
--- What a port shows after it while its engine stands: no bit of PxIS, and PxSCTL.DET 0; and until X tells of a disk or
--- a link that came, no device in PxSSTS, and task file and signature as the reset left them.
+-- What a port shows after a reset while its engine stands: no bit of PxIS, and PxSCTL.DET 0. Until X shows that a disk
+-- or a link came, PxSSTS shows no device, and task file and signature are as the reset left them.
 pub record ShowsResetStateUntilSerrX (p : DevicePort) : Type 0 where
   pub pxis_is_clear : (place : ℕ) → p.is place ≡ false
   pub sctl_det : p.sctl_det ≡ 0

@@ -86,16 +86,16 @@ abbrev pub GainsNoMove : ℕ → Operation → Device → Device → Type 0
 GainsNoMove port o old new = (gained : List Entry) × (new.tape ≡ old.tape ++ gained)
     × All (λ e. IsMove port o e → ⊥) gained
 
--- Acts in which the device alone makes steps. Where no access of the kind writes PxCI or PxSACT of a port, its slots
--- are used after each act as before the first.
+-- Acts in which only the device makes steps. If no access of the kind writes PxCI or PxSACT of a port, its slots are
+-- used after each act as before the first.
 pub record AreByDeviceAndKeepUnwrittenSlots (May : Access
     → Type 0) (uses : SlotStates) (acts : List Act) : Type 0 where
   pub all_steps_are_by_device : AllByDevice (newest_first_steps_of_acts acts)
   pub unwritten_ports_keep_slots : (port : Port) → NoneWrites May (Px port Ci) → NoneWrites May (Px port Sact)
       → All (λ act. act.state_after.slot_states port.0 ≡ uses port.0) acts
 
--- Accesses of this kind led from the old device to the new. And where the uses of slots fit, acts with these accesses
--- lead to such uses of the slots, with what is parked as it was; and the device alone makes steps meanwhile.
+-- Accesses of this kind led from the old device to the new. If the uses of slots fit, acts with these accesses lead to
+-- such uses of the slots, with what is parked as it was, and only the device makes steps meanwhile.
 pub record IsSimulatedChangingUses (May : Access → Type 0) (Fits : SlotStates → Type 0) (next : SlotStates → SlotStates)
     (old new : Device) : Type 0 where
   pub is_driven : IsDrivenBy May old new
@@ -103,11 +103,11 @@ pub record IsSimulatedChangingUses (May : Access → Type 0) (Fits : SlotStates 
       (λ s. record s { slot_states = next s.slot_states })
       (λ s m. AreByDeviceAndKeepUnwrittenSlots May s.slot_states) old new
 
--- the same, where each slot goes on as it is used
+-- The same, when each slot goes on as it is used.
 abbrev pub IsSimulated : (Access → Type 0) → (SlotStates → Type 0) → Device → Device → Type 0
 IsSimulated May Fits old new = IsSimulatedChangingUses May Fits (λ uses. uses) old new
 
--- What was followed, and so much is told of the list of its accesses: that list to which the machine's steps belong.
+-- The accesses were followed, and this holds of their list, to which the machine's steps belong.
 pub record IsSimulatedAlongChangingUses (Tells : List Access → Type 0) (May : Access → Type 0) (Fits : SlotStates
     → Type 0)
     (next : SlotStates → SlotStates)
@@ -115,7 +115,7 @@ pub record IsSimulatedAlongChangingUses (Tells : List Access → Type 0) (May : 
   pub is_simulated : IsSimulatedChangingUses May Fits next old new
   pub accesses_are_such : Tells is_simulated.is_driven.accesses
 
--- the same, where each slot goes on as it is used
+-- The same, when each slot goes on as it is used.
 abbrev pub IsSimulatedAlong : (List Access → Type 0) → (Access → Type 0) → (SlotStates → Type 0) → Device → Device
     → Type 0
 IsSimulatedAlong Tells May Fits old new = IsSimulatedAlongChangingUses Tells May Fits (λ uses. uses) old new

@@ -4,7 +4,7 @@ use Rattle.adapter.specs.Commands.{is_queued}
 use Rattle.adapter.specs.Device.{FetchedCommand, DevicePort}
 use Rattle.adapter.specs.Device.Halt.{HaltedByQueued, LogOnly}
 
--- READ LOG EXT isn't awaited; and where a queued command has halted the port, a queued one is taken.
+-- READ LOG EXT isn't awaited. If a queued command has halted the port, a queued one is taken.
 pub record HaltFitsTakenCommands (p : DevicePort) : Type 0 where
   pub is_not_log_only : p.halt ≢ LogOnly
   pub queued_is_taken : p.halt ≡ HaltedByQueued → (slot : ℕ) × (t : FetchedCommand) × (p.taken slot ≡ Some t)

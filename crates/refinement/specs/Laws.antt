@@ -98,7 +98,7 @@ pub record FragmentLaws (Kind : Type 0) (may : Kind → Access → Type 0)
       { slot_states = next (slots_with_all_parked port s).slot_states }) ActsByDeviceAlone
       old new
 
--- what the tape tells of a part of a call, and of the whole
+-- what the tape has of a part of a call, and of the whole
 pub record TapeLaws : Type 0 where
   -- it only gains
   pub growth_is_reflexive : (d : Device) → TapeGrows d d

@@ -1,5 +1,5 @@
--- Where the driver keeps the structures of a port, and where the sectors of a request lie (this project's own).
--- The numbers are those that ata_types names.
+-- The places of a port's structures, and of a request's sectors, in memory (this project's own). The numbers are those
+-- that ata_types names.
 use Rattle.std.specs.Prelude.{ℕ, ◌+◌, ◌*◌, ◌/◌, ◌%◌, ◌<◌, ◌≤◌, ◌⊎◌, List}
 use Rattle.ata_types.specs.declared.memory.TheConstants.{FRAME_BYTES, HEADER_BYTES, DRIVER_BYTES_PER_PORT, RECEIVED_FIS_OFFSET, SCRATCH_OFFSET, TABLES_OFFSET, TABLE_BYTES}
 use Rattle.ata_types.specs.declared.request.Frame.{Frame}
@@ -27,7 +27,7 @@ scratch_frame_address port = DRIVER_BYTES_PER_PORT * port + SCRATCH_OFFSET
 abbrev pub sector_address : List Frame → ℕ → ℕ
 sector_address frames i = FRAME_BYTES * (nth_frame frames (i / 8)).0 + 512 * (i % 8)
 
--- a byte of the slot's header, but for PRDBC, or of its table
+-- A byte of the slot's header, except PRDBC, or of its table.
 abbrev pub IsTableOrHeaderByteButPrdbc : ℕ → ℕ → ℕ → Type 0
 IsTableOrHeaderByteButPrdbc port slot at =
     ((command_list_address port + HEADER_BYTES * slot ≤ at)

@@ -41,8 +41,8 @@ pub record IsQuiescentPort (p : DevicePort) : Type 0 where
 
 -- ---- commands that are over
 
--- A request of the port was ended, with each of its sectors touched since its last issue. Where no kept request is on
--- the port, it is in the book.
+-- A request of the port has ended, with each of its sectors touched since its last issue. If no kept request is on the
+-- port, it is in the book.
 pub record EndedOnPort (m : Machine) (port : Port) (id : RequestId) : Type 0 where
   pub pending : Pending
   pub may_still_move : IsIssuedOrKept m pending
@@ -57,8 +57,8 @@ pub record IsSlotClear (p : DevicePort) (slot : ℕ) : Type 0 where
   pub over : SlotHasNoCommand p slot
   pub sact_is_clear : p.sact slot ≡ false
 
--- What CI tells of a command of the driver's own: the machine follows, and the command is over and has brought its page
--- since ST was set.
+-- What CI shows of a command of the driver's own: the machine follows, and the command has ended and has brought its
+-- page since ST was set.
 pub record FollowsAndHasPageSinceStSet (uses : SlotStates) (m : Machine) (port : ℕ) (o : Operation)
     (old new : Device) : Type 0 where
   pub simulates_steps : SimulatesSteps uses m old new
@@ -81,13 +81,13 @@ CommandsAreOver uses d id = (port slot : ℕ) → uses port slot ≡ Serves id �
 
 -- ---- a port on which nothing goes wrong
 
--- no bit of PxSERR or PxIS tells of trouble: neither N and X, nor IFS, HBDS, HBFS and TFES, which are 27 to 30
+-- No bit of PxSERR or PxIS shows trouble: neither N and X, nor IFS, HBDS, HBFS and TFES, which are 27 to 30.
 pub record ShowsNoTrouble (p : DevicePort) : Type 0 where
   pub serr_n_is_clear : p.serr_n ≡ false
   pub serr_x_is_clear : p.serr_x ≡ false
   pub bits_27_to_30_are_clear : (place : ℕ) → 27 ≤ place → place ≤ 30 → p.is place ≡ false
 
--- The port runs, its disk is there with its link up and no other link due, no error has stopped it, and no bit tells of
+-- The port runs, its disk is there with its link up and no other link due, no error has stopped it, and no bit shows
 -- one.
 pub record RunsWell (p : DevicePort) : Type 0 where
   pub st_is_set : p.st ≡ true
@@ -114,14 +114,13 @@ pub record Undisturbed (port : ℕ) (old new : Device) : Type 0 where
   pub tape_is : new.tape ≡ old.tape ++ new_entries
   pub no_disturbance : All (λ e. IsDisturbance port e → ⊥) new_entries
 
--- A value of PxIS tells of none: neither PCS, which shows X, and PRCS, which shows N, nor those four (AHCI 1.3.1,
--- 3.3.5).
+-- A value of PxIS shows none: neither PCS, which shows X, and PRCS, which shows N, nor those four (AHCI 1.3.1, 3.3.5).
 pub record PxisValueTellsNoTrouble (v : ℕ) : Type 0 where
   pub pcs_is_clear : bit v 6 ≡ false
   pub prcs_is_clear : bit v 22 ≡ false
   pub bits_27_to_30_are_clear : (place : ℕ) → 27 ≤ place → place ≤ 30 → bit v place ≡ false
 
--- a write clears no bit that tells of the port's trouble
+-- A write clears no bit that shows the port's trouble.
 pub record ClearsNoTrouble (port : Port) (r : Reg) (v : ℕ) : Type 0 where
   pub pxis_trouble_is_kept : r ≡ Px port Is → (place : ℕ) → 27 ≤ place → place ≤ 30 → bit v place ≡ false
   pub serr_trouble_is_kept : r ≡ Px port Serr → (bit v 16 ≡ false) × (bit v 26 ≡ false)
@@ -150,9 +149,9 @@ pub record ShowsFault (entries : List Entry) (p : DevicePort) (port : ℕ) : Typ
   pub tfd_is : p.tfd ≡ fault.status + 256 * fault.error
   pub slot_is_issued_or_taken : InUse p fault.slot.0
 
--- What the tape has of a port whose ST is 1. TFES, bit 30 of PxIS, tells that a fault has halted the port; and then the
--- task file shows the last one since ST was set. No link is due, so none comes up and ends the halt. It goes by the
--- halt, which lasts until the disk goes on, since the driver clears TFES before it reads PxTFD.
+-- What the tape has of a port whose ST is 1. TFES, bit 30 of PxIS, shows that a fault has halted the port, and then the
+-- task file shows the last one since ST was set. No link is due, so none comes up and ends the halt. The halt counts
+-- here, which lasts until the disk goes on, because the driver clears TFES before it reads PxTFD.
 pub record RecordsFaults (tape : List Entry) (p : DevicePort) (port : ℕ) : Type 0 where
   pub st_set_is_on_tape : p.notes.st_set_at ≤ length tape
   pub no_link_is_due : p.link_due ≡ false
@@ -177,8 +176,8 @@ pub record IsCleanToStart (p : DevicePort) : Type 0 where
   pub no_link_is_due : p.link_due ≡ false
   pub no_comreset : p.sctl_det ≢ 1
 
--- What is asked of a write, beside the register's rules: ST is set on a quiet port, and SCTL is written while the
--- engine stands.
+-- What a write has to keep beside the register's rules: ST is set on a quiet port, and SCTL is written while the engine
+-- stands.
 abbrev pub StartsCleanAndWritesSctlStopped : Reg → ℕ → Device → Type 0
 StartsCleanAndWritesSctlStopped (Px port Cmd) v d = bit v 0 ≡ true → ((d.port port.0).st ≡ true)
     ⊎ IsCleanToStart (d.port port.0)

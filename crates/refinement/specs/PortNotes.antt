@@ -15,8 +15,8 @@ abbrev pub DoesNotRead : Reg → Access → Type 0
 DoesNotRead r (Reading other v) = other ≢ r
 DoesNotRead r access = Unit {0}
 
--- Each value that was last read is as it was, but for a reading of its register, and so is its count; those of the
--- link, of busy and of the command also but for a write of PxSCTL.
+-- Each value that was last read, and its count, changes only by a reading of its register; those of the link, of busy
+-- and of the command also by a write of PxSCTL.
 pub record NotesChangeOnlyByReadOrSctlWrite (access : Access) (port : Port) (old new : Notes) : Type 0 where
   pub command : DoesNotRead (Px port Cmd) access → (new.last_cmd ≡ old.last_cmd)
       × (new.engine_wait_count ≡ old.engine_wait_count)

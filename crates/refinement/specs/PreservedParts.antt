@@ -18,7 +18,7 @@ DoesNotWrite r access = Unit {0}
 
 -- ---- the adapter
 
--- the same memory, capabilities and ports, and disks that tell their sectors as they did
+-- The memory, capabilities and ports are the same, and disks have specified contents as they had.
 pub record SameAdapter (old new : Device) : Type 0 where
   pub disks_tell_sectors : new.disks_tell_sectors ≡ old.disks_tell_sectors
   pub memory_size : new.memory_size ≡ old.memory_size

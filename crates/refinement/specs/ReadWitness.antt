@@ -118,8 +118,8 @@ pub record PortDeadReadAgreesServedAndParked : Type 0 where
 
 -- ---- a request whose command is done
 
--- The device may go on to where the command in slot 0 of port 0 has ended. A machine is reached that agrees with the
--- driver then: the slot serves this request still, which has ended and is unanswered.
+-- The device may go on until the command in slot 0 of port 0 has ended. A machine is reached that agrees with the
+-- driver then: the slot still serves this request, which has ended and is unanswered.
 pub record DoneRequestAgrees (k : DriverState) (id : RequestId) : Type 0 where
   pub device : Device
   pub steps : Steps k.device device

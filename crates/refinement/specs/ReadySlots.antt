@@ -18,7 +18,7 @@ pub record IsStoredOnPortWithStSet (d : Device) (port slot : ℕ) (c : Meaning) 
   pub list_is_in_place : HasListInPlace (d.port port) port slot
   pub slot_decodes_to : SlotDecodesTo d.memory (d.port port).bases.clb port slot c places
 
--- So it is, and the slot is armed if the command is queued, and else free.
+-- The same, and the slot is armed if the command is queued, and free otherwise.
 pub record IsStoredAndArmedIffQueued (uses : SlotStates) (d : Device) (port slot : ℕ) (c : Meaning)
     (places : List ℕ) : Type 0 where
   pub armed_if_queued_else_free : uses port slot ≡ (if is_queued c.operation then Armed else Free)

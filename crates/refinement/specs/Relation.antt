@@ -16,7 +16,7 @@ use Rattle.refinement.specs.Slots.{Serves, SlotStates, RelatesSlot}
 abbrev pub port_at : ℕ → Port
 port_at n = record { 0 = n }
 
--- the received FIS area is where it belongs
+-- The received FIS area is in its place.
 pub record HasReceivedArea (p : DevicePort) (port : ℕ) : Type 0 where
   pub port_is_below_4 : port < 4
   pub area_is_in_place : p.bases.fb ≡ received_fis_address port
@@ -27,7 +27,7 @@ pub record IsDiskOf (m : Machine) (p : DevicePort) (port : ℕ) : Type 0 where
   pub id : m.disk_ids (port_at port) ≡ p.disk.name
   pub sector_count : m.sizes (port_at port) ≡ p.disk.sector_count
 
--- the disk tells its sectors, and they hold what the machine's do
+-- The disk has specified contents, and its sectors hold what the machine's do.
 pub record SameSectors (m : Machine) (disk : Disk) (port : ℕ) : Type 0 where
   pub told_sectors : ℕ → List ℕ
   pub disk_tells : disk.sectors ≡ Some told_sectors
@@ -50,9 +50,9 @@ abbrev pub ServeDistinctRequests : SlotStates → Type 0
 ServeDistinctRequests uses = (port slot other_port other_slot : ℕ) (id : RequestId) → uses port slot ≡ Serves id
     → uses other_port other_slot ≡ Serves id → (port ≡ other_port) × (slot ≡ other_slot)
 
--- Device and machine agree: each slot is as its use says, each received FIS area that is in use is where it belongs,
--- disks are the same, and client frames hold the same bytes; so do the sectors of an adapter whose disks tell them, and
--- what those may come back with, the machine knows.
+-- Device and machine agree. Each slot is as its use says, each received FIS area that is in use is in its place, disks
+-- are the same, and client frames hold the same bytes. If the adapter's disks have specified contents, their sectors
+-- hold the same bytes, and the machine knows what those disks may come back with.
 pub record StateRelation (uses : SlotStates) (m : Machine) (d : Device) : Type 0 where
   pub relates_slots : (port slot : ℕ) → RelatesSlot m d.memory d.tape (d.port port) port slot (uses port slot)
   pub serve_distinct_requests : ServeDistinctRequests uses
@@ -65,8 +65,8 @@ pub record StateRelation (uses : SlotStates) (m : Machine) (d : Device) : Type 0
 
 -- ---- what stands beside it, by port
 
--- Each request of the port that is issued or kept has a slot, but for those of these ids: their slots were given up
--- before they were decided.
+-- Each request of the port that is issued or kept has a slot, except those with these ids: their slots were given up
+-- before the requests were decided.
 abbrev pub HaveSlotsUnlessParked : SlotStates → Machine → ℕ → List RequestId → Type 0
 HaveSlotsUnlessParked uses m port parked = (e : Pending) → IsIssuedOrKept m e → e.request.port.0 ≡ port
     → Contains parked e.request.id ⊎ ((slot : ℕ) × (uses port slot ≡ Serves e.request.id))

@@ -11,8 +11,8 @@ use Rattle.refinement.specs.Slots.{SlotStates}
 use Rattle.refinement.specs.Relation.{StateRelation}
 use Rattle.refinement.specs.Tape.{TapeTells, PortPlugsPutInDisks}
 
--- The entries that the tape gained are steps of the machine, each of which may come; reads moved what their disks hold,
--- where these tell it; the disks that were put in are the device's; and after the steps the two agree.
+-- The entries that the tape gained are steps of the machine, each of which may come. Reads moved what their disks hold,
+-- if these have specified contents. The disks that were put in are the device's. After the steps the two agree.
 pub record SimulatesSteps (uses : SlotStates) (m : Machine) (old new : Device) : Type 0 where
   pub steps : List Step
   pub disks_tell_sectors_is_same : new.disks_tell_sectors ≡ old.disks_tell_sectors

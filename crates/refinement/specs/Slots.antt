@@ -62,7 +62,7 @@ client_operation_of operation.ReadLog = None
 
 -- ---- the command of a slot
 
--- Where a request's bytes lie: its sectors at their places in its frames, a trim's block in the scratch frame.
+-- The places of a request's bytes: its sectors at their places in its frames, a trim's block in the scratch frame.
 abbrev pub AreRequestPlaces : Op → ℕ → Accepted → List ℕ → Type 0
 AreRequestPlaces Read port r places = (length places ≡ r.asked.count)
     × ((i : ℕ) → i < r.asked.count → slice_index places i ≡ sector_address r.asked.frames.items i)
@@ -85,7 +85,7 @@ pub record SlotDecodesTo (memory : ℕ → ℕ) (list port slot : ℕ) (c : Mean
   pub table_is : decodes_to.table ≡ command_table_address port slot
   pub prds_are_few : length decodes_to.prds ≤ MOST_REQUEST_FRAMES
 
--- the port's command list is where it belongs
+-- The port's command list is in its place.
 pub record HasListInPlace (p : DevicePort) (port slot : ℕ) : Type 0 where
   pub port_below : port < 4
   pub slot_below : slot < 32
@@ -126,7 +126,7 @@ TouchedAsMovedOrCleared Trim memory port e t =
     ⊎ ((t.moved ≡ 1) × MeansRange t.block e.request))
 TouchedAsMovedOrCleared Flush memory port e t = Unit {0}
 
--- taken by the device: the request isn't ended, also where all its sectors were touched
+-- Taken by the device: the request hasn't ended, even if all its sectors were touched.
 pub record IsTakenFor (memory : ℕ → ℕ) (p : DevicePort) (port slot : ℕ) (e : Pending) (c : Meaning)
     (places : List ℕ) : Type 0 where
   pub command : FetchedCommand
@@ -213,7 +213,7 @@ pub record OwnIsTaken (memory : ℕ → ℕ) (tape : List Entry) (p : DevicePort
       × PageCameSinceAndStandsInScratch memory tape port c.operation
       p.notes.st_set_at)
 
--- over: where ST is one, its page came since ST was set, and stands in the scratch frame
+-- Ended: if ST is one, its page came since ST was set, and is in the scratch frame.
 pub record OwnIsOverWithPageIfSt (memory : ℕ → ℕ) (tape : List Entry) (p : DevicePort) (port slot : ℕ)
     (c : Meaning) : Type 0 where
   pub over : SlotHasNoCommand p slot

@@ -26,7 +26,7 @@ pub record IsStoppedAndUpForStartIfDet3 (p : DevicePort) : Type 0 where
   pub is_up_if_det_3 : p.ssts_det ≡ 3 → IsUpForStart p
 
 -- The port runs, its disk is there with its link up and no other link due, and no error has stopped it since. Its bits
--- may tell of what was before.
+-- may show what was before.
 pub record IsStarted (p : DevicePort) : Type 0 where
   pub st_is_set : p.st ≡ true
   pub cr_is_set : p.cr ≡ true

@@ -30,12 +30,12 @@ StaysOverPermittedWritesWithCmdValue IsWritten P = (port : Port) (r : Reg) (v : 
     → IsStable (MayWrite r v) old
     → (r ≡ Px port Cmd → IsWritten v) → Writes r v old new → P (old.port port.0) → P (new.port port.0)
 
--- whatever the device does, where a reachable machine agrees with it
+-- Whatever the device does, if a reachable machine agrees with it.
 abbrev pub StaysOverStepsIfMachineAgrees : (DevicePort → Type 0) → Type 0
 StaysOverStepsIfMachineAgrees P = (uses : SlotStates) (m : Machine) (port : ℕ) (old new : Device) → IsReachable m
     → StateRelation uses m old → Steps old new → P (old.port port) → P (new.port port)
 
--- over each access that doesn't write this register of the port, where a reachable machine agrees with the device
+-- Over each access that doesn't write this register of the port, if a reachable machine agrees with the device.
 abbrev pub StaysUnlessWrittenIfMachineAgrees : PortReg → (DevicePort → Type 0) → Type 0
 StaysUnlessWrittenIfMachineAgrees r P = (uses : SlotStates) (m : Machine) (port : Port) (access : Access)
     (old new : Device)

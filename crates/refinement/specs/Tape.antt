@@ -46,7 +46,7 @@ abbrev pub with_sectors_touched : Pending → ℕ → ℕ → Pending
 with_sectors_touched e from zero = e
 with_sectors_touched e from (suc n) = touch (from + n) (with_sectors_touched e from n)
 
--- The machine touches so many sectors of the request, from this place on.
+-- The machine touches this many sectors of the request, from this place on.
 abbrev pub touch_steps : Pending → ℕ → ℕ → List Step
 touch_steps e from zero = []
 touch_steps e from (suc n) = Touch (with_sectors_touched e from n) (from + n) (λ b. 0) ∷ touch_steps e from n
@@ -76,7 +76,7 @@ abbrev pub TellsDone : Option Op → Machine → tape_done.Done → List Step �
 TellsDone None m done steps = steps ≡ []
 TellsDone (Some op) m done steps = EndsPending m op done steps
 
--- The machine's steps that an entry tells of. Of a disk that was put in the tape has the name alone.
+-- The machine's steps that an entry stands for. Of a disk that was put in the tape has only the name.
 abbrev pub TellsEntry : Machine → Entry → List Step → Type 0
 TellsEntry m (entry.Move move) steps = TellsTouchOrIsScratchMove (client_operation_of move.operation) m move steps
 TellsEntry m (entry.Clear clear) steps = ClearsSectors m clear steps
@@ -87,7 +87,7 @@ TellsEntry m (entry.Unplug port) steps = steps ≡ Unplug port ∷ []
 TellsEntry m (entry.Plug port name) steps =
     (size : ℕ) × (content : DiskBytes) × (steps ≡ PlugDisk port name size content ∷ [])
 
--- the entries, the oldest first, tell of these steps, the newest first: nothing else, and in their order
+-- The entries, the oldest first, are these steps, the newest first: nothing else, and in their order.
 abbrev pub TapeTells : Machine → List Entry → List Step → Type 0
 TapeTells m [] steps = steps ≡ []
 TapeTells m (entry ∷ entries) steps =
@@ -101,7 +101,7 @@ OneAtMost IsKind (entry ∷ entries) = (IsKind entry → All (λ e. IsKind e →
 
 -- ---- which disks were put in
 
--- the machine has the disk's name, its size and, where the disk tells its sectors, their bytes
+-- The machine has the disk's name, its size and, if the disk has specified contents, their bytes.
 pub record IsPutIn (disk : device.Disk) (name size : ℕ) (content : DiskBytes) : Type 0 where
   pub name_is : name ≡ disk.name
   pub size_is : size ≡ disk.sector_count
@@ -124,7 +124,7 @@ abbrev pub NoneByDevice : List Step → Type 0
 NoneByDevice [] = Unit {0}
 NoneByDevice (step ∷ before) = NoneByDevice before × (IsByDevice step → ⊥)
 
--- The entries, the oldest first, tell of the device's steps among these, the newest first; the others are the driver's
+-- The entries, the oldest first, are the device's steps among these, the newest first. The other steps are the driver's
 -- own.
 abbrev pub TellsDeviceSteps : Machine → List Entry → List Step → Type 0
 TellsDeviceSteps m [] steps = NoneByDevice steps

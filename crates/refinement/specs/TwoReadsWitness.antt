@@ -40,11 +40,11 @@ queued_read first = record { operation = ReadQueued; first = first; count = 8 }
 abbrev pub queued_read_fis : ℕ → ℕ → List ℕ
 queued_read_fis slot first = 0x27 ∷ 0x80 ∷ 0x60 ∷ 8 ∷ first ∷ 0 ∷ 0 ∷ 0x40 ∷ 0 ∷ 0 ∷ 0 ∷ 0 ∷ 8 * slot ∷ replicate 7 0
 
--- the header of slot 1, but for its zeros at the end: no W, one PRD, and the address of the slot's table
+-- The header of slot 1, without its zeros at the end: no W, one entry, and the address of the slot's table.
 abbrev pub second_header : List ℕ
 second_header = 5 ∷ 0 ∷ 1 ∷ replicate 5 0 ++ to_le_bytes w32 (command_table_address 0 1)
 
--- its PRD: a whole frame at 65000h, where frame 101 begins
+-- Its entry: a whole frame at 65000h, where frame 101 begins.
 abbrev pub second_prd : List ℕ
 second_prd = 0 ∷ 0x50 ∷ 6 ∷ 0 ∷ 0 ∷ 0 ∷ 0 ∷ 0 ∷ 0 ∷ 0 ∷ 0 ∷ 0 ∷ 0xff ∷ 0x0f ∷ 0 ∷ 0 ∷ []
 
@@ -85,8 +85,8 @@ two_reads_driver_state d =
       device = d;
     }
 
--- A machine is reached that agrees with the driver where both slots are armed; and one that has issued both requests,
--- which have no frame in common. Each write of PxCI is permitted; this machine agrees with the driver when both
+-- A machine is reached that agrees with the driver when both slots are armed, and one that has issued both requests,
+-- which have no frame in common. Each write of PxCI is permitted. This machine agrees with the driver when both
 -- commands are issued, and when the device has taken the one, which is queued, while the other waits.
 pub record TwoReadsWitness : Type 0 where
   pub machine_before_issue : Machine

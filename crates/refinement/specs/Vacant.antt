@@ -7,6 +7,6 @@ pub record IsVacant (p : DevicePort) : Type 0 where
   pub no_disk_is_in : p.present ≡ false
   pub det_is_not_3 : p.ssts_det ≢ 3
 
--- where PxSSTS.DET is 3, the first FIS of the disk has come
+-- If PxSSTS.DET is 3, the first FIS of the disk has come.
 abbrev pub HasFirstFisIfDet3 : DevicePort → Type 0
 HasFirstFisIfDet3 p = p.ssts_det ≡ 3 → p.fresh ≡ true

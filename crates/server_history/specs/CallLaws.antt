@@ -59,7 +59,7 @@ pub record LookLaws : Type 0 where
       → r ≢ Ssts → (old.port port.0).st ≡ true → RecordsFaultsIfSt old.tape (old.port port.0) port.0
       → IsHaltedByPlainOrQueued (old.port port.0).halt → IsHaltedByPlainOrQueued (new.port port.0).halt
       × ((new.port port.0).notes.last_ssts ≡ (old.port port.0).notes.last_ssts)
-  -- what a look tells of trouble
+  -- what a look shows of trouble
   pub look_tells_shown_change : (port : Port) (result : PortEvent) (old new : Device) → IsOn old
       → TakesEvent port result old new
       → ((old.port port.0).serr_n ≡ true) ⊎ ((old.port port.0).serr_x ≡ true) → result ≡ LinkChanged
@@ -75,11 +75,11 @@ pub record LookLaws : Type 0 where
   pub no_event_means_undisturbed : (port : Port) (result : PortEvent) (old new : Device) → IsOn old
       → (l : TakesEvent port result old new)
       → result ≡ NoEvent → ShowsNoTrouble (old.port port.0) × Undisturbed port.0 old l.after_is_read
-  -- a fatal error is told
+  -- a fatal error shows
   pub fatal_event_bits : (causes status : ℕ) → port_event_of causes status ≡ FatalError
       → ((bit causes 28 ≡ true) ⊎ (bit causes 29 ≡ true) ⊎ (bit causes 27 ≡ true)) × (bit causes 6 ≡ false)
       × (bit causes 22 ≡ false) × (status % 16 ≡ 3)
-  -- what a look doesn't tell hasn't come
+  -- what a look doesn't show hasn't come
   pub look_hides_no_fault : (port : Port) (result : PortEvent) (old new : Device) → IsOn old
       → (l : TakesEvent port result old new)
       → bit l.causes 30 ≡ false → HidesNoFault port.0 old new

@@ -38,8 +38,8 @@ use Rattle.server_history.specs.ServerState.{ServerState, quarantined_at, probed
 
 -- ---- a port's error is handled
 
--- How the trouble is found out: a look at the port tells that a command had failed, or the link or the host's bus, or
--- that the disk was lost. That a request is hung its age tells, and the port isn't looked at.
+-- How the trouble is found. A look at the port shows that a command had failed, or the link or the host's bus, or that
+-- the disk was lost. That a request is hung shows by its age, and the port isn't looked at.
 abbrev pub LookTellsErrorUnlessTimedOut : Port → PortError → Device → Device → Type 0
 LookTellsErrorUnlessTimedOut port TaskFileError old seen = TakesEvent port look.TaskFileError old seen
 LookTellsErrorUnlessTimedOut port FatalError old seen = TakesEvent port look.FatalError old seen
@@ -51,8 +51,8 @@ abbrev pub NamesNoneAndIsNotRunning : Recovered → Type 0
 NamesNoneAndIsNotRunning result = (result.failed ≡ None)
     × ((token : running_token.Running) → result.next ≢ next.Running token)
 
--- What is told then. Where a command had failed, the port was recovered. Where its link or the host's bus had, its disk
--- was lost, or a request is hung, nobody is named, and the port doesn't run.
+-- What is known then. If a command had failed, the port was recovered. If its link or the host's bus had, if its disk
+-- was lost, or if a request is hung, no request is named, and the port doesn't run.
 abbrev pub TellsRecoveryIfTaskFileErrorElseNamesNone : PortError → Port → ℕ → Bool → Recovered → List Access → Device
     → Device → Type 0
 TellsRecoveryIfTaskFileErrorElseNamesNone TaskFileError port outstanding queued result accesses old new =
@@ -98,7 +98,7 @@ RebootsAfterErrorOrFindsAbsent LinkChanged wanted port booted old new = RebootsW
     booted old new
 RebootsAfterErrorOrFindsAbsent port_error wanted port booted old new = RebootsPort wanted port booted old new
 
--- It is found to be this: what it was, where it runs; what its boot has found, where it has to be booted; or dead.
+-- What the port is found to be: what it was if it runs, what its boot has found if it has to be booted, or dead.
 abbrev pub IsFoundAfterError : Wanted → Port → PortError → DiskInfo → Next → Device → Device → ProbeResult → Type 0
 IsFoundAfterError wanted port port_error was (next.Running token) old new found = (found ≡ Ready was) × (new ≡ old)
 IsFoundAfterError wanted port port_error was (next.Restart token) old new found = (booted : Booted)
@@ -110,7 +110,7 @@ IsFoundAfterError wanted port port_error was next.Dead old new found = (found �
 abbrev pub IsDiskOfSameSerialAndSize : DiskInfo → DiskInfo → Type 0
 IsDiskOfSameSerialAndSize was info = (info.serial ≡ was.serial) × (info.sectors ≡ was.sectors)
 
--- What its requests may expect. Where its disk was lost, it doesn't count that the same one is there again.
+-- What its requests may expect. If its disk was lost, it doesn't count that the same one is there again.
 abbrev pub IsRevalidation : PortError → DiskInfo → ProbeResult → Revalidation → Type 0
 IsRevalidation port_error was found SameDisk = (port_error ≢ LinkChanged)
     × ((info : DiskInfo) × (found ≡ Ready info) × IsDiskOfSameSerialAndSize was info)
@@ -156,9 +156,9 @@ with_port_resolved port device found was mode slots now s = record s {
   book = now.book;
 }
 
--- The port's error was handled, and it was booted where it had to be; and its requests were resolved: the one that
--- failed is told so, and the others what their port is then. So it came to this server, by these replies after those
--- that tell what was done.
+-- The port's error was handled, and it was booted if it had to be. Then its requests were resolved: the one that failed
+-- is answered with its fault, and the others by what their port is then. This leads to this server, with these replies
+-- after those to what was done.
 pub record HasResolved (port : Port) (later : List Reply) (old new : ServerState) : Type 0 where
   pub disk_before : DiskInfo
   pub was_ready : probe_result_of old.probe_results port.0 ≡ Ready disk_before

@@ -10,8 +10,8 @@ use Rattle.driver_history.specs.Histories.{HasDriverInvariantAeAndIe, CallCorres
 use Rattle.server_history.specs.ServerState.{ServerState, ports_of, InvariantWithNoneDue, MachineRelation}
 use Rattle.server_history.specs.StuckServer.{StuckInvariant}
 
--- An instant of a history is where the server stands: the device is its own, the ports are what it says, and the
--- machine stands for it.
+-- The server stands at an instant of a history: the device is its own, the ports are what it says, and the machine
+-- stands for it.
 pub record ServerRelation (now : JointState Device) (s : ServerState) : Type 0 where
   pub device_is : now.device ≡ s.device
   pub ports_are : now.abstract.ports ≡ ports_of s

@@ -48,9 +48,9 @@ IsEmptyMask mask = (slot : ℕ) → slot < 32 → bit mask slot ≡ false
 abbrev pub IsAnsweredIn : RequestId → List Reply → Type 0
 IsAnsweredIn id replies = (reply : Reply) × Contains replies reply × (reply.id ≡ id)
 
--- PxCI and PxSACT were read, which tell which slots of the mask are done. A used slot's request was answered exactly if
--- its slot was found done; where none was, nobody was answered, and that was all. Of accesses, only those followed that
--- store for commands of the port, or write its PxSACT or PxCI, if any.
+-- PxCI and PxSACT were read, which show which slots of the mask are done. A used slot's request was answered exactly if
+-- its slot was found done. If none was, nobody was answered, and that was all. The only accesses that followed, if any,
+-- store for commands of the port, or write its PxSACT or PxCI.
 pub record PollsSlots (port : Port) (slots : PortSlots) (mask : ℕ) (replies : List Reply)
     (old new : Device) : Type 0 where
   pub done : ℕ
@@ -61,15 +61,14 @@ pub record PollsSlots (port : Port) (slots : PortSlots) (mask : ℕ) (replies : 
   pub none_done_answers_none : IsEmptyMask done → (replies ≡ []) × (new ≡ device_after_read)
   pub only_issuing_follows : IsDrivenBy (IsCommandIssueAccess port) device_after_read new
 
--- The slots that are used were checked. Where none is, nothing was read, nobody was answered, and that was all.
+-- The slots that are used were checked. If none is, nothing was read, nobody was answered, and that was all.
 pub record PollsUsedSlots (port : Port) (slots : PortSlots) (replies : List Reply) (old new : Device) : Type 0 where
   pub mask : ℕ
   pub is_mask_of : IsMaskOf slots mask
   pub none_used_reads_nothing : IsEmptyMask mask → (replies ≡ []) × (new ≡ old)
   pub polls_slots : (IsEmptyMask mask → ⊥) → PollsSlots port slots mask replies old new
 
--- A port's turn in a service, in which no trouble was told of: the port was looked at, and the slots that it uses were
--- checked.
+-- A port's turn in a service that found no trouble: the port was looked at, and the slots that it uses were checked.
 pub record PollsInTurnWithoutEvent (port : Port) (slots : PortSlots) (replies : List Reply) (old new : Device) : Type 0
   where
     pub look : PortEvent
@@ -143,7 +142,7 @@ pub record IssuesTogether (port : Port) (ids : List RequestId) (old new : Server
   pub issued : IsBatchIssued port tasks old.device new.device
   pub server_is : new ≡ record server_with_slots { device = new.device }
 
--- these requests of the port were issued together; where there is none, nothing was done
+-- These requests of the port were issued together. If there is none, nothing was done.
 abbrev pub IssuesTogetherIfAny : Port → List RequestId → ServerState → ServerState → Type 0
 IssuesTogetherIfAny port [] old new = new ≡ old
 IssuesTogetherIfAny port ids old new = IssuesTogether port ids old new
@@ -195,7 +194,7 @@ pub record AcceptsAndIssues (port : Port) (r : Request) (id : RequestId) (old ne
 
 -- ---- a port is served
 
--- but for the device, the loans, the slots and the book, the server is as it was
+-- Apart from the device, the loans, the slots and the book, the server is as it was.
 abbrev pub SameButDeviceLoansSlotsBook : ServerState → ServerState → Type 0
 SameButDeviceLoansSlotsBook old new = new
     ≡ record old { device = new.device; table = new.table; slots = new.slots; book = new.book }
@@ -252,7 +251,7 @@ TurnAnswers port replies old new turn =
 
 -- ---- as the machine has it
 
--- the steps are the device's, but for those that issue requests of the port
+-- The steps are the device's, apart from those that issue requests of the port.
 abbrev pub AllByDeviceOrIssue : QueueMode → Port → List Step → Type 0
 AllByDeviceOrIssue mode port [] = Unit {0}
 AllByDeviceOrIssue mode port (Issue its e ∷ steps) = (its ≡ mode) × (e.request.port ≡ port)
@@ -272,8 +271,8 @@ pub record HasEnded (port : Port) (request : BookEntry) (done : Pending) : Type 
   pub ended : done.ended ≡ true
   pub touched : AllTouched done
 
--- The steps are the device's, then the answers of these requests, which had ended, and then the device's but for the
--- issues of requests of the port.
+-- The steps are the device's, then the answers of these requests, which had ended, and then the device's again, apart
+-- from the issues of requests of the port.
 pub record StepsAnswer (mode : QueueMode) (port : Port) (replies : List Reply) (steps : List Step) : Type 0 where
   pub requests : List BookEntry
   pub replies_are : replies ≡ map done_reply requests

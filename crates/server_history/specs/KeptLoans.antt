@@ -5,15 +5,15 @@ use Rattle.dma_frames.specs.Loan.{Lending}
 use Rattle.dma_frames.specs.FrameTables.{OwnersAndLoans, lent_to}
 use Rattle.server_history.specs.ServerState.{DifferInRequest, IsLentOut, quarantined_at}
 
--- such loans end: their frames are lent to none, and nothing else changed
+-- These loans end: their frames are lent to none, and nothing else changed.
 pub record GivesBackLoans (old new : OwnersAndLoans) (Such : Lending → Type 0) : Type 0 where
   pub owners_are_kept : new.owners ≡ old.owners
   pub their_frames_are_free : (loan : Lending) (f : Frame) → Such loan → Contains loan.frames f → lent_to new f ≡ None
   pub other_loans_are_kept : (f : Frame) → ((loan : Lending) → Such loan → Contains loan.frames f → ⊥) → lent_to new f
       ≡ lent_to old f
 
--- Loans may be given back in parts. Where some have ended, a loan of another request is lent out still; where others
--- end then, all of them have ended; and it doesn't matter in which order they are told.
+-- Loans may be given back in parts. If some have ended, a loan of another request is still lent out. If others end
+-- then, all of them have ended. Their order doesn't matter.
 pub record GivingBackLoansComposes : Type 0 where
   pub other_loan_stays_lent_out : (old new : OwnersAndLoans) (ended : List Lending) (loan : Lending)
       → GivesBackLoans old new (Contains ended)

@@ -271,7 +271,7 @@ pub record PrerequisiteLaws : Type 0 where
       → address + length bytes ≤ DRIVER_BYTES
   pub boot_access_is_of_port : (port : Port) (access : Access) → IsBootAccess port access
       → AccessesNoOtherPort port access
-  -- what accesses tell of a port's engines
+  -- what accesses show of a port's engines
   pub fall_holds_with_later : (early late : List Access) (start running : ℕ) (port : Port)
       → EngineFalls start running port early
       → EngineFalls start running port (early ++ late)

@@ -1,4 +1,4 @@
--- How a port that isn't ready is looked at, and booted again where its disk may have come, or may be another by now
+-- How a port that isn't ready is looked at, and is booted again if its disk may have come, or may be another by now
 -- (this project's own).
 use Rattle.std.specs.Prelude.{Bool, true, false, ◌≡◌, slice_set}
 use Rattle.ata_types.specs.declared.Port.{Port}
@@ -59,8 +59,7 @@ pub record BootsUnreadyPort (port : Port) (old new : ServerState) : Type 0 where
     slots = slice_set old.slots port.0 slots;
   }
 
--- The turn of a port that isn't ready, in a service: it is looked at, and booted where that was found which it was
--- looked at for.
+-- The turn of a port that isn't ready, in a service: it is looked at, and is booted if the look found a reason.
 pub record ProbesPort (port : Port) (old new : ServerState) : Type 0 where
   pub state : PortState
   pub unready_state_is : probe_result_of old.probe_results port.0 ≡ Unready state

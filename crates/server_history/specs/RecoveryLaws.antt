@@ -37,7 +37,7 @@ use Rattle.port_boot.specs.States.{ShownDiskIsIn}
 
 -- The laws on recoveries that the proofs of this crate use.
 pub record RecoveryLaws : Type 0 where
-  -- where each issued request of a port has a slot, as many slots serve one
+  -- if each issued request of a port has a slot, as many slots serve one
   pub serving_slots_are_issued_count : (uses : SlotStates) (m : Machine) (d : Device) → IsReachable m
       → StateRelation uses m d → (port : Port)
       → NoneKept m port → (n : ℕ) → HaveSlotsUnlessParked uses m port.0 []
@@ -78,7 +78,7 @@ pub record RecoveryLaws : Type 0 where
       → KeepsWhatBacksProbeResult found (old.port port) (new.port port) → (found ≢ Unready Dead
       → GainsNoMove port Identify old new)
       → StillBacksProbeResult wanted found port old → StillBacksProbeResult wanted found port new
-  -- and one that was booted where a device showed
+  -- and one that was booted because a device showed
   pub boot_start_access_is_of_port : (port : Port) (access : Access) → IsCapPiOrBootAccess port access
       → AccessesNoOtherPort port access
   pub conditional_boot_is_of_port : (wanted : Wanted) (port : Port) (booted : Booted) (old new : Device)
@@ -102,7 +102,7 @@ pub record PortErrorLaws : Type 0 where
   pub serr_n_shows_plug_events : (port : Port) (access : Access) (old new : Device) → old.hr ≡ false
       → DoesNotWrite (Px port Serr) access → Does access old new → (new.port port.0).serr_n ≡ false
       → ((old.port port.0).serr_n ≡ false) × NoPlugEvents port.0 old new
-  -- where nothing disturbs a port
+  -- if nothing disturbs a port
   pub undisturbed_has_no_fatal : (port : ℕ) (old new : Device) → Undisturbed port old new → NoFatalErrors port old new
   pub undisturbed_has_no_plug_event : (port : ℕ) (old new : Device) → Undisturbed port old new
       → NoPlugEvents port old new

@@ -72,8 +72,8 @@ with_book_and_loans port now s = record s {
   book = now.book;
 }
 
--- The requests of a port were resolved, in order of acceptance: none is told a fault, and what becomes of each else
--- its port's revalidation says. So it came to this server.
+-- The requests of a port were resolved, in order of acceptance. None is answered with a fault, and what becomes of each
+-- depends on its port's revalidation. This leads to this server.
 pub record ResolvesPort (port : Port) (replies : List Reply) (old new : ServerState) : Type 0 where
   pub revalidation : Revalidation
   pub is_revalidation : IsResetRevalidation (remembered_at old.remembered port.0)
@@ -83,7 +83,7 @@ pub record ResolvesPort (port : Port) (replies : List Reply) (old new : ServerSt
       (book_and_loans_of port old) book_and_loans_after
   pub server_is : new ≡ with_book_and_loans port book_and_loans_after old
 
--- so it was with these ports, one after another, of which the first has this number
+-- The same for these ports, one after another; the first of them has this number.
 abbrev pub ResolvesEachPort : ℕ → List ProbeResult → List Reply → ServerState → ServerState → Type 0
 ResolvesEachPort port [] replies old new = (replies ≡ []) × (new ≡ old)
 ResolvesEachPort port (found ∷ rest) replies old new =
@@ -103,7 +103,7 @@ pub record MayResolve (s : ServerState) : Type 0 where
 
 -- ---- the whole
 
--- what is due was issued on those of these ports that are ready, one after another, of which the first has this number
+-- What is due was issued on those of these ports that are ready, one after another; the first of them has this number.
 abbrev pub IssuesOnEachReadyPort : ℕ → List ProbeResult → ServerState → ServerState → Type 0
 IssuesOnEachReadyPort port [] old new = new ≡ old
 IssuesOnEachReadyPort port (Ready info ∷ rest) old new = (mid : ServerState) × IssuesDueOfPort (port_at port) old mid

@@ -42,8 +42,8 @@ abbrev pub loans_newest_first : List Pending → List Lending
 loans_newest_first [] = []
 loans_newest_first (e ∷ rest) = loans_newest_first rest ++ loan_of e ∷ []
 
--- The machine has the book and the loans. These are requests of the port in the book, each with a mark that tells
--- whether the machine has its grant; and no slot serves one of them whose loan isn't kept.
+-- The machine has the book and the loans. These are requests of the port in the book, each with a mark that says
+-- whether the machine has its grant. No slot serves one of them whose loan isn't kept.
 pub record AreResolvable (port : Port) (disposition : PendingRequest
     → Disposition) (requests : List BookEntry) (now : BookAndLoans)
     (k : DriverState)
@@ -66,9 +66,9 @@ abbrev pub IsRequeuedOrAnsweredWithoutKeptLoan : (PendingRequest → Disposition
 IsRequeuedOrAnsweredWithoutKeptLoan disposition e = (disposition e.request ≢ Wait)
     × (completes_keeping_loan (disposition e.request) e.request ≡ false)
 
--- They are resolved by steps that decide on requests of the port, after which the machine has the book and the
--- loans that are left. Those whose loans are kept are kept in the machine beside those that were, and each has one more
--- loan. What is parked of the port was before, and is none of those that were let go.
+-- They are resolved by steps that decide on requests of the port, after which the machine has the book and the loans
+-- that are left. Those whose loans are kept are kept in the machine beside those that were, and each has one more loan.
+-- What is parked of the port was parked before, and none of it belongs to those that were let go.
 pub record AreResolvedInMachine (port : Port) (disposition : PendingRequest → Disposition) (requests : List BookEntry)
     (replies : List Reply)
     (old new : BookAndLoans) (k : DriverState) (m : Machine) : Type 0 where

@@ -16,8 +16,8 @@ with_grant_revoked client number s = record s {
   book = with_requests_under_grant_revoked client number s.book;
 }
 
--- A client's grant was revoked: its row was there, and is gone; requests that were accepted under it are marked; and
--- of these the ones that waited were told Revoked. Nothing else changed.
+-- A client's grant was revoked: its row was there, and is gone. Requests that were accepted under it are marked, and
+-- those of them that waited were answered Revoked. Nothing else changed.
 pub record RevokesGrant (client : ClientId) (number : ℕ) (replies : List Reply) (old new : ServerState) : Type 0 where
   pub has_grant_row : HasRow client number old.grants
   pub waiting_are_told_revoked : CompletesAllWith (waits_under client number) Revoked replies

@@ -200,8 +200,8 @@ pub record KeptRequestsRelation (found : List ProbeResult) (kept : List (List Le
       → (e : Pending) × Contains requests e × (e.request.port.0 ≡ port) × IsLoanOf loan e
   pub loans_differ_in_request : (port : ℕ) → AllPairs DifferInRequest (quarantined_at kept port)
 
--- The machine agrees with what the server knows of its device, where only a dead port's requests may have been taken
--- from their slots; and it has the server's book, the requests whose loans it keeps, its grants, its owners, its loans
+-- The machine agrees with what the server knows of its device. Only a dead port's requests may have been taken from
+-- their slots. The machine has the server's book, the requests whose loans it keeps, its grants, its owners, its loans
 -- and its next id.
 pub record MachineRelation (s : ServerState) (m : Machine) : Type 0 where
   pub uses : SlotStates
@@ -228,9 +228,9 @@ abbrev pub OwnedFramesAreClientsAndInMemory : OwnersAndLoans → ℕ → Type 0
 OwnedFramesAreClientsAndInMemory table size = (frame : Frame) (client : ClientId) → owner_of table frame ≡ Some client
     → (DRIVER_FRAMES ≤ frame.0) × (FRAME_BYTES * frame.0 + FRAME_BYTES ≤ size)
 
--- What stands behind each port, as it was found; a ready one runs, has a disk in if it shows one, and doesn't wait for
--- READ LOG EXT, and where a queued command halted it a queued one is taken; and one with a disk that isn't served shows
--- a device, or has none in.
+-- What stands behind each port, as it was found. A ready one runs, has a disk in if it shows one, and doesn't wait for
+-- READ LOG EXT; if a queued command halted it, a queued one is taken. One with a disk that isn't served shows a device,
+-- or has none in.
 pub record PortInvariant (wanted : List Wanted) (found : List ProbeResult) (port : ℕ) (d : Device) : Type 0 where
   pub probe_result_is_backed : StillBacksProbeResult (wanted_of wanted port) (probe_result_of found port) port d
   pub ready_engine_runs : state_of (probe_result_of found port) ≡ ReadyState → EngineRuns port d
@@ -245,7 +245,7 @@ abbrev pub usable_slots_of : ProbeResult → QueueMode → ℕ
 usable_slots_of (Ready info) mode = mode.usable_slots
 usable_slots_of _ mode = 0
 
--- The port may use so many of its 32 slots, and uses no other.
+-- The port may use this many of its 32 slots, and uses no other.
 pub record SlotsInvariant (found : List ProbeResult) (modes : List QueueMode) (slots : List PortSlots)
     (port : ℕ) : Type 0 where
   pub has_32_slots : length (slots_at slots port).slot_uses ≡ 32
@@ -274,11 +274,11 @@ pub record RevokedMarkInvariant (rows : List GrantRow) (e : BookEntry) : Type 0 
   pub waiting_is_unmarked : e.request.issued ≡ false → e.request.revoked ≡ false
 
 -- What holds of a server at each moment of a call. The adapter is on and has the memory of the driver and of the
--- clients, and each port that is served; each port is as it was found, and runs if that was ready; of each of the four
--- ports a disk may be remembered, and 32 loans at most be kept; they take commands as adapter and disk can, and use the
--- slots that they may, for queued commands or for plain ones, of which each is alone in slot 0; grants are as a
--- configuration may give them; requests are as they were accepted, in order, with marks that tell of their grants, and
--- of ready ports; and some machine that a history leads to stands for the server.
+-- clients, and each port that is served. Each port is as it was found, and runs if that was ready. For each of the four
+-- ports a disk may be remembered, and at most 32 loans may be kept. Ports take commands as adapter and disk can, and
+-- use the slots that they may, for queued commands or for plain ones; a plain one is alone in slot 0. Grants are as a
+-- configuration may give them. Requests are as they were accepted, in order, with marks that say whether their grants
+-- are there, and belong to ready ports. Some machine that a history leads to stands for the server.
 pub record InCallInvariant (s : ServerState) : Type 0 where
   pub adapter_is_on : IsOn s.device
   pub driver_memory_fits : DRIVER_BYTES ≤ s.device.memory_size
@@ -318,7 +318,7 @@ pub record InvariantWithNoneDue (s : ServerState) : Type 0 where
   pub none_is_due : (port : Port) → NoneDue (mode_in s port) (unanswered_of s.book) port
 
 -- A server as it is made: what was found and wanted of four ports, of which it remembers nothing else, at most 64
--- grants that differ in name, owners that are clients 1 to 8, no frame lent, nothing asked or kept, and no id handed
+-- grants that differ in name, owners that are clients 1 to 8, no frame lent, nothing asked or kept, and no id given
 -- out.
 pub record IsNewServer (host : Host) (s : ServerState) : Type 0 where
   pub probe_results_are_of_host : s.probe_results ≡ host.ports

@@ -19,11 +19,11 @@ use Rattle.server_history.specs.ErrorHandling.{requests_of}
 use Rattle.server_history.specs.ServerState.{ServerState, MachineRelation, RevokedMarkInvariant, OwnedFramesAreClientsAndInMemory, last_disk_in, is_served, quarantined_at, mode_at, plain_mode, remembered_at, slots_at, used_for}
 
 -- What holds of a server whether or not its adapter is on. The adapter has the memory of the driver and of the clients.
--- Ports are served in which a disk is wanted, and which the adapter has; another one is idle, has no slot that is used,
--- and nobody waits for it. Of each of the four ports a disk may be remembered, and there is a place for the loan of
--- each of its requests that is issued beside those that are kept. Grants are as a configuration may give them; requests
--- are as they were accepted, in order, with marks that tell of their grants, of served ports, and by ids that were
--- handed out; and some machine that a history leads to stands for the server.
+-- Ports are served in which a disk is wanted, and which the adapter has. Another one is idle, has no slot that is used,
+-- and no request waits for it. For each of the four ports a disk may be remembered, and there is a place for the loan
+-- of each of its issued requests beside those that are kept. Grants are as a configuration may give them. Requests are
+-- as they were accepted, in order, with marks that say whether their grants are there, of served ports, and with ids
+-- that were given out. Some machine that a history leads to stands for the server.
 pub record ServerInvariant (s : ServerState) : Type 0 where
   pub driver_memory_fits : DRIVER_BYTES ≤ s.device.memory_size
   pub served_iff_wanted_and_there : (port : ℕ) → port < 4 → (is_served (probe_result_of s.probe_results port) ≡ true)
@@ -57,9 +57,9 @@ abbrev pub ServedPortsAreDead : List ProbeResult → Type 0
 ServedPortsAreDead found = (port : ℕ) → is_served (probe_result_of found port) ≡ true
     → probe_result_of found port ≡ Unready Dead
 
--- What holds of a server between calls since a reset that got stuck: the adapter isn't on (HR is still one, or AE fell
--- when the reset ended unseen), and each port that is served is dead. Requests from before that reset may wait for the
--- service that tells them.
+-- What holds of a server between calls after a reset that got stuck: the adapter isn't on (HR is still one, or AE fell
+-- when the reset finished unseen), and each port that is served is dead. Requests from before that reset may wait for
+-- the service that answers them.
 pub record StuckInvariant (s : ServerState) : Type 0 where
   pub server_invariant : ServerInvariant s
   pub adapter_is_not_on : IsOn s.device → ⊥

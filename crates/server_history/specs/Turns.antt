@@ -66,8 +66,8 @@ pub record PortListsNameOnly (port : Port) (evidence : Evidence) : Type 0 where
   pub stopped : All (λ q. q ≡ port) evidence.stopped
   pub stuck : All (λ q. q ≡ port) evidence.stuck
 
--- A fault of the port stood on the tape since ST was set before the turn, at a moment of it before PxCMD was written;
--- and status and error are its own, where it is of this slot's plain command, or are what the log's last page tells of
+-- A fault of the port was on the tape since ST was set before the turn, at a moment of it before PxCMD was written.
+-- Status and error are its own if it is a fault of this slot's plain command, or are what the log's last page has of
 -- this slot's queued one.
 abbrev pub IsFaultOfCommand : Bool → Port → List Access → Device → Device → ℕ → RequestFault → Type 0
 IsFaultOfCommand false port accesses old new slot told =
@@ -77,8 +77,8 @@ IsFaultOfCommand true port accesses old new slot told =
     ((fault : tape_fault.Fault) × HasFailed port accesses old new fault)
     × ((page : List ℕ) × BringsLastLogPage port old new page × NamesQueuedCommand page slot told.status told.error)
 
--- The fault that is told is of a request that had a slot of the port when the turn began. (Where the log's page told
--- it, the port doesn't end dead.)
+-- The fault is one of a request that had a slot of the port when the turn began. (If the log's page named it, the port
+-- doesn't end dead.)
 pub record IsFaultOfUsedSlot (port : Port) (accesses : List Access) (old new : ServerState)
     (told : RequestFault) : Type 0 where
   pub slot : ℕ
@@ -122,9 +122,9 @@ pub record LosesNoErrorAndRunsWellAnew (port : Port) (accesses : List Access) (o
   pub loses_no_error : LosesNoPortError evidence old ports new port
   pub runs_well_anew : RunsWellAnew evidence accesses old ports new port
 
--- In a service the turn has done of its port what a call does of one; where it probed a port that showed X, and no disk
--- came, no link is due at its end, unless the port is absent or dead (NoLinkDueAfterXUnlessAbsentDeadOrDiskComes);
--- where it restarts the port it has done what a call does of trouble; of a port that rests nothing is asked.
+-- In a service the turn has done for its port what a call does for one. If it probed a port that showed X, and no disk
+-- came, no link is due at its end, unless the port is absent or dead (NoLinkDueAfterXUnlessAbsentDeadOrDiskComes). If
+-- it restarts the port, it has done what a call does about trouble. A port that rests is owed nothing.
 abbrev pub CorrespondsInServiceLosesNoErrorInRestart : Turn → Port → List Reply → List Access → ServerState
     → ServerState → Machine → Evidence → List Step → Type 0
 CorrespondsInServiceLosesNoErrorInRestart ServingReady port replies accesses old new m evidence steps =
@@ -145,10 +145,10 @@ pub record FindsDoneInTurn (port : Port) (accesses : List Access) (old : ServerS
       → (bit finds_done.ci slot ≡ false)
       × (bit finds_done.sact slot ≡ false)
 
--- What a tick does of a port that it restarts. What was done was found by a reading of the masks, and the port was
--- booted anew, unless it got stuck. What had ended is answered Ok; the port was stopped, or got stuck; and what is
--- issued on it then was issued anew. Unplugged is told only where the port is neither dead nor ready with its disk; and
--- it shows a disk only where one was in.
+-- What a tick does for a port that it restarts. What was done was found by a reading of the masks, and the port was
+-- booted anew, unless it got stuck. What had ended is answered Ok. The port was stopped, or got stuck, and what is
+-- issued on it at the end was issued anew. Unplugged is answered only if the port is neither dead nor ready with its
+-- disk. The port shows a disk only if one was in.
 pub record RestartsPort (port : Port) (accesses : List Access) (old new : ServerState) (m : Machine)
     (evidence : Evidence)
     (steps : List Step) : Type 0 where
@@ -162,9 +162,9 @@ pub record RestartsPort (port : Port) (accesses : List Access) (old new : Server
   pub shown_disk_was_in_or_came : ShownDiskWasInOrCame (abstract_state_of old m) steps
       (abstract_state_of new (after m steps)) port
 
--- What a turn does of requeues, aborts, Revoked and faults. In a service requests wait again, are aborted, told Revoked
--- or a fault, on ports alone that failed; of a port that isn't ready no fault is told, and no loss. A restart restarts
--- the port, and tells no fault. Where a port rests nothing is done.
+-- What a turn does about requeues, aborts, Revoked and faults. In a service requests wait again, or are answered
+-- Aborted, Revoked or with a fault, only on ports that failed. A port that isn't ready has no answers with a fault, and
+-- none of a loss. A restart restarts the port, and answers with no fault. If a port rests, nothing is done.
 abbrev pub RequeuesAndAbortsFitTurn : Turn → Port → List Access → ServerState → ServerState
     → Machine
     → Evidence → List Step
@@ -234,9 +234,9 @@ pub record LeavesOtherPortsGrantsAndLastId (port : Port) (old new : ServerState)
   pub others_requests_are_same : (q : Port) → q ≢ port → requests_of_port q (unanswered_of new.book)
       ≡ requests_of_port q (unanswered_of old.book)
 
--- A port's turn, in which these replies were given: its accesses are of the port, and those of memory in the driver's
--- frames; it leaves the other ports, of which each that isn't dead is sent no page of the log; and from each machine
--- that stands for the old server it makes one that stands for the new.
+-- A port's turn, with these replies. Its accesses are of the port, and those of memory are in the driver's frames. It
+-- leaves the other ports alone, and each of them that isn't dead is sent no page of the log. From each machine that
+-- stands for the old server it makes one that stands for the new.
 pub record IsPortTurn (turn : Turn) (port : Port) (replies : List Reply) (old new : ServerState) : Type 0 where
   pub accesses : List Access
   pub accesses_are_done : DoesAll accesses old.device new.device
@@ -248,7 +248,7 @@ pub record IsPortTurn (turn : Turn) (port : Port) (replies : List Reply) (old ne
   pub simulates_turn : (m : Machine) → IsReachable m → MachineRelation old m
       → SimulatesTurn turn port replies accesses old new m
 
--- The port's error was handled, where a look told of one; else those of its requests were answered that were found
+-- If a look found an error of the port, it was handled. Otherwise those of its requests were answered that were found
 -- done.
 abbrev pub DoesServiceTurn : Port → List Reply → ServerState → ServerState → Type 0
 DoesServiceTurn port replies old new =
@@ -261,7 +261,7 @@ pub record ServicesPort (port : Port) (replies : List Reply) (old new : ServerSt
   pub does_turn : DoesServiceTurn port replies old new
   pub is_port_turn : IsPortTurn ServingReady port replies old new
 
--- What serving a port that isn't ready does: it is looked at, and probed where it may have a disk, which is a part of a
+-- What serving a port that isn't ready does: it is looked at, and probed if it may have a disk. This is a part of a
 -- service.
 pub record ProbesUnready (port : Port) (old new : ServerState) : Type 0 where
   pub does_turn : ProbesPort port old new
@@ -298,8 +298,8 @@ is_ready found = false
 abbrev pub a_tick_older : ServerState → ServerState
 a_tick_older s = record s { book = aged_entries (λ port. is_ready (probe_result_of s.probe_results port.0)) s.book }
 
--- A ready port's turn in a tick, where the book was this when requests had got older: its error was handled, where one
--- was overdue; else it rests.
+-- A ready port's turn in a tick, when the book was this after requests had got older. If one was overdue, the port's
+-- error was handled. Otherwise it rests.
 abbrev pub TakesTickTurn : List BookEntry → Port → List Reply → ServerState → ServerState → Type 0
 TakesTickTurn book port replies old new =
     (HasOverdueOn port book × (handling : HandlesPortError port replies old new)
