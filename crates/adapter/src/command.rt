@@ -71,8 +71,8 @@ impl Operation {
         matches!(self, Operation::Trim)
     }
 
-    /// How many pieces of 512 bytes it moves, for so many sectors, 1 to 65,536: these matter only if it moves disk
-    /// sectors. (0 stands for 65,536 in a FIS, but not here.)
+    /// How many pieces of 512 bytes it moves, for this many sectors, 1 to 65,536. The sectors matter only if it moves
+    /// disk sectors. (0 means 65,536 in a FIS, but not here.)
     #[inline]
     pub fn transfer_sector_count(self, count: u32) -> u32
         ensures { result ≡ transfer_sector_count self count }
@@ -84,7 +84,7 @@ impl Operation {
         }
     }
 
-    /// Where the bytes of its moves go: `ToMemory` also for a flush, which moves none.
+    /// The direction of its moves. A flush has `ToMemory` too, and moves nothing.
     #[inline]
     pub fn direction(self) -> Direction
         ensures { result ≡ direction_of self }
@@ -110,13 +110,13 @@ pub struct Command {
 /// An entry of a command table's list of memory regions (AHCI 1.3.1, 4.2.3.3).
 #[derive(Clone, Copy, Debug, Default, PartialEq, Eq)]
 pub struct Prd {
-    /// Where the region begins: even.
+    /// The address at which the region begins, which is even.
     pub address: u32,
     /// How many bytes it has: even, from 2 to 4 MiB.
     pub bytes: u32,
 }
 
-/// Where the bytes of a move went.
+/// The direction in which the bytes of a move went.
 #[derive(Clone, Copy, Debug, PartialEq, Eq)]
 pub enum Direction {
     ToMemory,

@@ -13,7 +13,7 @@ pub fn law_steps_compose()
     ensures transitive { (old mid new : Device) → Steps old mid → Steps mid new → Steps old new }
 {}
 
-/// What a device was told to do is some of its steps.
+/// What a device was asked to do consists of some of its steps.
 pub fn law_asked_steps_are_transitions()
     ensures { (s : DeviceStep) (old new : Device) → DoesOrFailsStep s old new → Steps old new }
 {}
@@ -112,9 +112,9 @@ pub fn law_kept_controls_and_rising_flags_compose()
         → KeepsControlsFlagsRise old new }
 {}
 
-/// The port's interrupt is pending where PxIS shows a cause that PxIE enables; and so it is after each step of the
-/// device that raises such a cause: an end of a command, a fault, a fatal error, a disk that comes or goes (AHCI 1.3.1,
-/// 3.1.3 and 3.3.5). What steps raise is one of the causes that are named, and the mask has the bits of exactly these.
+/// The port's interrupt is pending if PxIS shows a cause that PxIE enables. It is pending after each step of the device
+/// that raises such a cause: an end of a command, a fault, a fatal error, a disk that comes or goes (AHCI 1.3.1, 3.1.3
+/// and 3.3.5). What steps raise is one of the causes that are named, and the mask has the bits of exactly these.
 pub fn law_ips_is_set_while_enabled_cause_is_shown()
     ensures named { (place : ℕ) → is_named_cause place ≡ true → bit named_causes_mask place ≡ true }
     ensures no_other_is_named { (place : ℕ) → place < 32 → bit named_causes_mask place ≡ is_named_cause place }
@@ -143,9 +143,9 @@ pub fn law_ips_stays_set_until_written_or_hba_reset()
         → is_ips_set (new.port port) ≡ raises_interrupt (new.port port) }
 {}
 
-/// Where PxIE enables each named cause, what the tape tells of leaves the port's interrupt pending: a command that
-/// ended or failed, a fatal error, a disk that went or came. So it is at the end of any accesses that write neither
-/// PxIE nor the port's bit of IS, and reset nothing (AHCI 1.3.1, 5.5.3).
+/// If PxIE enables each named cause, the port's interrupt is pending after each of these entries of the tape: a command
+/// that ended or failed, a fatal error, a disk that went or came. It is still pending at the end of any accesses that
+/// write neither PxIE nor the port's bit of IS, and reset nothing (AHCI 1.3.1, 5.5.3).
 pub fn law_interrupting_entries_set_ips_until_written()
     ensures { (port : ℕ) (e : Entry) (accesses : List Access) (gained : List Entry)
         (old new : Device) → interrupting_port e ≡ Some port → DoesAll accesses old new → All (KeepsIsBit port) accesses
@@ -154,9 +154,9 @@ pub fn law_interrupting_entries_set_ips_until_written()
         → is_ips_set (new.port port) ≡ true }
 {}
 
-/// There is an interrupt that comes and goes, so that the laws above speak of something: a flush may end on a port
-/// that tells of all causes; then its bit of IS stays while PxIS shows the cause, though it is written, and also once
-/// PxIS was cleared; then a write of the bit clears it.
+/// There is an interrupt that comes and goes, so the laws above are about something. A flush may end on a port that
+/// enables all causes. Then its bit of IS stays set while PxIS shows the cause, even if it is written, and also after
+/// PxIS was cleared. Then a write of the bit clears it.
 pub fn law_flush_ips_example_clears_pxis_then_is()
     ensures none_is_pending { is_ips_set (flushing.port 0) ≡ false }
     ensures causes_are_enabled { (flushing.hr ≡ false) × EnablesNamedCauses (flushing.port 0) }
@@ -167,8 +167,7 @@ pub fn law_flush_ips_example_clears_pxis_then_is()
     ensures goes_by_is_write { is_ips_set ((device_after_write adapter.Is 1 flush_cause_cleared).port 0) ≡ false }
 {}
 
-/// Where no slot has a command, any bytes that are not of a received FIS area in use are guarded, and no table is
-/// needed.
+/// If no slot has a command, any bytes that are not of a received FIS area in use are guarded, and no table is needed.
 pub fn law_an_adapter_without_commands_is_guarded()
     ensures { (kept : ℕ → Bool) (d : Device) → NoSlotHasCommand d
         → ((port : ℕ) → (d.port port).fre ≡ true
@@ -195,8 +194,8 @@ pub fn law_an_adapter_with_one_command_is_guarded()
         → IsOutsideCommand (layout_of d port slot c.command) at n d → IsStable (IsInMemoryNotOwnedByDevice at n) d }
 {}
 
-/// A read that may be fetched can be done, on a disk that tells its sectors: some steps of its slot's command lead to
-/// where each sector stands in its piece, and the slot is free.
+/// A read that may be fetched can be done, on a disk with specified contents: some steps of its slot's command lead to
+/// a state in which each sector is in its piece, and the slot is free.
 pub fn law_fetchable_read_can_complete()
     ensures { (port slot first count : ℕ) (places : List ℕ) (told : ℕ → List ℕ) (old : Device)
         → IsReadThatCanComplete old port slot first count places told → (new : Device)

@@ -1,5 +1,5 @@
-// What the device did, as its tape tells it. Entries are named as the steps that leave them. Wide fields stand first:
-// an entry has 24 bytes so.
+// What the device did, as its tape has it. Entries are named as the steps that leave them. Wide fields come first, so
+// an entry has 24 bytes.
 use crate::command::{Direction, Operation};
 use ata_types::{Port, Slot};
 use std::snapshot::Snapshot;
@@ -7,7 +7,7 @@ use std::snapshot::Snapshot;
 /// 512 bytes that a command moved between disk and memory.
 #[derive(Drop)]
 pub struct Move {
-    /// 0 where the command names no sectors.
+    /// 0 if the command names no sectors.
     pub sector: u64,
     pub address: u32,
     pub port: Port,

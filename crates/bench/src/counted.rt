@@ -25,7 +25,7 @@ impl Counts {
         loads: 0,
     };
 
-    /// Those that were made since there were so many.
+    /// Returns the accesses that were made since there were this many.
     pub fn since(self, earlier: Counts) -> Counts {
         Counts {
             reads: self.reads.saturating_sub(earlier.reads),

@@ -73,8 +73,8 @@ fn transfer(server: &mut Served, client: u8, op: Op, frame: u16) -> Option<()> {
     Some(())
 }
 
-/// Has the disk do what is issued in the lowest slots, so many, the last first, and asks the server for replies: `None`
-/// if there aren't this many.
+/// Has the disk do what is issued in this many lowest slots, the last first, and asks the server for replies. It
+/// returns `None` if there aren't this many.
 fn answer(server: &mut Served, slots: u8, replies: usize) -> Option<()> {
     for slot in (0..slots).rev() {
         let _done = server.device(&DeviceStep::Finish(Port(0), Slot(slot)));
@@ -135,8 +135,8 @@ fn measure_single_calls<W: io::Write>(server: &mut Served, table: &mut Table<'_,
     table.row("a store of 64 bytes", server)
 }
 
-/// Reads that are asked, by two clients where one may not ask so many, done by the disk in the opposite order, and
-/// answered by one service.
+/// Asks for reads, by two clients if one may not ask for so many, has the disk do them in the opposite order, and has
+/// one service answer them.
 fn measure_batches<W: io::Write>(server: &mut Served, table: &mut Table<'_, W>) -> Option<()> {
     for (count, calls) in TOGETHER {
         for place in 0..count {
@@ -167,8 +167,8 @@ fn measure_all<W: io::Write>(server: &mut Served, out: &mut W) -> Option<()> {
     measure_batches(server, &mut table)
 }
 
-/// Prints a row for each kind of call: its register reads and writes, and its stores and loads of memory. `None` where
-/// a call did something else than it should, or memory or output was refused.
+/// Prints a row for each kind of call: its register reads and writes, and its stores and loads of memory. It returns
+/// `None` if a call did something else than it should, or if memory or output was refused.
 pub fn print_counts<W: io::Write>(alloc: Global, out: &mut W) -> Option<()> {
     let image = MemStore::new(alloc, SECTORS).ok()?;
     let blank = MemStore::new(alloc, 0).ok()?;

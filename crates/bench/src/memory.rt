@@ -8,8 +8,8 @@ use std::{fs, io};
 /// The sectors of the disk.
 const SECTORS: u32 = 70_000;
 
-/// Plays the script of one file with the configuration of another. `None` where either is wrong or can't be read, or
-/// memory or output was refused.
+/// Plays the script of one file with the configuration of another. It returns `None` if either is wrong or can't be
+/// read, or if memory or output was refused.
 pub fn play_files(
     rt: &(impl AllocGlobal + Files<File = File> + Print),
     config: &str,

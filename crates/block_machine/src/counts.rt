@@ -4,7 +4,7 @@ ghost use Rattle.block_machine.specs.Rules.{IsAllowedCount, frame_count_for};
 
 use ata_types::{MOST_READ_OR_WRITE_SECTORS, Op};
 
-/// Whether the operation may have so many sectors.
+/// Whether the operation may have this many sectors.
 pub fn is_allowed_count(op: Op, count: u32) -> bool
     ensures { IsTrue result ↔ IsAllowedCount op count }
 {
@@ -15,7 +15,7 @@ pub fn is_allowed_count(op: Op, count: u32) -> bool
     }
 }
 
-/// How many frames the operation has for so many sectors: one for eight, rounded up, where bytes are moved.
+/// Returns how many frames the operation has for this many sectors: if it moves bytes, one for eight, rounded up.
 pub fn frame_count(op: Op, count: u32) -> usize
     ensures { result ≡ frame_count_for op count }
 {

@@ -1,5 +1,5 @@
-//! Laws about the definitions in specs/. The clause of each function is the law; the functions do nothing, and nothing
-//! calls them. `D` are the steps that a device can be told to do: a law on runs holds for any device.
+//! Laws about the definitions in specs/. The clause of each function is the law. The functions do nothing, and nothing
+//! calls them. `D` is the type of the steps that a device can be asked to make: a law on runs holds for any device.
 
 ghost use Rattle.std.specs.Prelude.{◌≡◌, ◌≢◌, ◌↔◌, ◌<◌, ℕ, Bool, IsTrue, true, false, List, [], ◌∷◌, ◌++◌, ◌≤◌, ◌&&◌, nat_lt, Option, Some, All, length, map, count_by, Contains};
 ghost use Rattle.ata_types.specs.{declared.Port.{Port}, declared.PortState.TheVariants.{Ready}, declared.request.ClientId.{ClientId}, declared.request.Frame.{Frame}, declared.request.Request.{Request}, declared.request.RequestId.{RequestId}, declared.grant.GrantRow.{GrantRow}, declared.request.Outcome.{Outcome}, declared.request.Op.TheVariants.{Read}};
@@ -53,8 +53,8 @@ pub fn law_run_steps_are_enabled<D>()
         × KeepsNonFrameRulesAndHoldsFrames (after first.machine early) e.request }
 {}
 
-/// Steps go on from what earlier ones left: after some, and then others, the machine is as after them all, which may
-/// come where each part may. So a machine that is reached leads to others that are.
+/// Steps go on from what earlier ones left. After some, and then others, the machine is as after them all, and they may
+/// all come if each part may. So a machine that is reached leads to others that are.
 pub fn law_step_lists_compose()
     ensures after_joins { (m : Machine) (late early : List Step) → after m (late ++ early)
         ≡ after (after m early) late }
@@ -131,8 +131,8 @@ pub fn law_one_id_is_one_request()
         → WasAccepted start history other → one.id ≡ other.id → one ≡ other }
 {}
 
-/// The frames of a request that is unanswered or kept hold what they held when it was accepted, but for the sectors of
-/// a read: so the device moves a write's own bytes.
+/// The frames of a request that is unanswered or kept hold what they held when it was accepted, except for the sectors
+/// of a read. So the device moves a write's own bytes.
 pub fn law_frames_keep_bytes_outside_read_range()
     ensures { (start : Machine) (history : List Step) (e : Pending) → IsInitial start
         → AllEnabled start history
@@ -180,7 +180,7 @@ pub fn law_due_finds_slot()
         × (is_plain mode r.op ≡ false → issued_count book r.port < mode.usable_slots) }
 {}
 
-/// Once a due request is issued, another request of its port is due exactly where it was due before.
+/// After a due request is issued, another request of its port is due exactly if it was due before.
 pub fn law_issue_leaves_others_due_as_before()
     ensures { (mode : QueueMode) (book : List Unanswered) (r other : Unanswered) → IsInOrder book
         → IsDue mode book r
@@ -209,13 +209,13 @@ pub fn law_earlier_ones_stand_before()
         (front ++ r ∷ back) ≡ count_by passes front }
 {}
 
-/// A request of the book is due exactly where the test says so.
+/// A request of the book is due exactly if the test says so.
 pub fn law_due_test_is_exact()
     ensures { (mode : QueueMode) (book : List Unanswered) (r : Unanswered) → Contains book r
         → IsTrue (is_due mode book r) ↔ IsDue mode book r }
 {}
 
-/// A request of the port is due exactly where it is one of the port's due requests; and these are of the port.
+/// A request of the port is due exactly if it is one of the port's due requests, and these are of the port.
 pub fn law_due_of_port_is_exact()
     ensures exact { (mode : QueueMode) (port : Port) (book : List Unanswered) (r : Unanswered) → r.port ≡ port
         → Contains (due_of mode port book) r ↔ IsDue mode book r }

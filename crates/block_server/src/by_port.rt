@@ -53,8 +53,8 @@ pub(crate) fn destroy_quarantines(kept: [Quarantine; PORTS])
     fourth.destroy_empty();
 }
 
-/// Ports of which these disks are wanted, and that keep these loans. None is served yet: each takes plain commands, and
-/// uses no slot.
+/// Makes the ports in which these disks are wanted, and that keep these loans. None is served yet: each takes plain
+/// commands, and uses no slot.
 pub(crate) fn unserved_ports(
     wanted: &[Wanted; PORTS],
     kept: [Quarantine; PORTS],
@@ -113,8 +113,8 @@ pub(crate) fn ready_ports(ports: &[ServedPort; PORTS]) -> [bool; PORTS]
     ]
 }
 
-/// By port, whether a request of it is overdue, where it is known whether one of any port is. Mostly none is, and then
-/// no request is looked at.
+/// By port, whether a request of it is overdue, given whether one of any port is. Usually none is, and then no request
+/// is looked at.
 pub(crate) fn overdue_ports(book: &Book, any_overdue: bool) -> [bool; PORTS]
     requires { IsTrue any_overdue ↔ HasAnyOverdue book.now }
     ensures { (number : ℕ) → number < 4 → IsTrue (slice_index_or result number false)

@@ -18,13 +18,13 @@ use driver_history::laws::{
 };
 use host_boot::laws::law_ready_ports_run_and_unusable_disks_show;
 
-/// Calls that add an event each to every history that leads to the server before them keep their promise: none at all,
-/// one, and calls after others. With them the history is a run of the block machine, in which each read that was
+/// Calls that each add an event to every history that leads to the server before them keep their promise: no call, one
+/// call, and calls after others. With them the history is a run of the block machine, in which each read that was
 /// answered Ok has what was left, each disk that comes back has what was flushed, and moves and clears keep to their
-/// places; of the device each call does its part on each port, ready or not; and on a port that is ready and runs well,
-/// while it tells of no fault and no fatal error, and no disk of it goes or comes, each call issues exactly what is
-/// due, each service answers what has ended, with Ok, and nothing else, and the port stays as it is, unless a tick
-/// restarts it.
+/// places. Each call does its part for the device on each port, ready or not. Consider a port that is ready and runs
+/// well, while it shows no fault and no fatal error, and no disk of it goes or comes. On it each call issues exactly
+/// what is due, each service answers what has ended, with Ok, and nothing else, and the port stays as it is, unless a
+/// tick restarts it.
 pub fn law_calls_that_extend_history_keep_promise<A: Stepped>()
     ensures no_calls { (s : ServerView A) → Simulates A.device s s [] [] }
     ensures one_call { (old new : ServerView A) (call : Call DeviceStep) (one : AbstractCallResult)
@@ -44,8 +44,7 @@ pub fn law_calls_that_extend_history_keep_promise<A: Stepped>()
     law_replugs_keep_flushed_if_sectors_told();
 }
 
-/// A port that is ready when its server is made runs well then, where nothing went wrong on it since the adapter was
-/// idle.
+/// A port that is ready when its server is made runs well then, if nothing went wrong on it since the adapter was idle.
 pub fn law_ready_ports_of_new_server_run_if_undisturbed<A: Stepped>()
     ensures { (config : Config) (adapter : A) (server : ServerView A) (port : Port) → IsIdle (A.device adapter)
         → IsInitialServer A.device config adapter server → state_of (probe_result_of server.probe_results port.0)

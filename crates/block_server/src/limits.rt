@@ -3,7 +3,7 @@ ghost use Rattle.std.specs.Prelude.{◌≢◌, ◌<◌, ◌+◌, ◌↔◌, IsTr
 
 use ata_types::{Op, Request};
 
-/// Whether sectors of a request leave a disk of so many. A flush has none.
+/// Whether a request has sectors past the end of a disk with this many. A flush has no sectors.
 pub(crate) fn exceeds_disk(r: &Request, sectors: u64) -> bool
     ensures { IsTrue result ↔ ((r.now.op ≢ Op.Flush) × (sectors < r.now.first.0 + r.now.count)) }
 {

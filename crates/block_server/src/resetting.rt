@@ -1,4 +1,4 @@
-// What becomes of ports and requests where the adapter is reset.
+// What becomes of ports and requests when the adapter is reset.
 ghost use Rattle.std.specs.Prelude.{◌≡◌, ◌<◌, ◌≤◌, ◌+◌, ◌*◌, ◌++◌, List, length, map};
 ghost use Rattle.adapter.specs.AccessBounds.{MakesAtMost};
 ghost use Rattle.ata_types.specs.declared.request.Reply.{Reply};

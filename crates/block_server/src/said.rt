@@ -27,11 +27,11 @@ pub enum Said {
     Stored(Result<(), MemFault>),
     /// What `client_load` returned, with the bytes.
     Loaded(Result<ArrayVec<u8, MOST_CALL_BYTES>, MemFault>),
-    /// A service or a tick answered so many requests: so many replies follow.
+    /// A service or a tick answered this many requests, and as many replies follow.
     Replied(usize),
-    /// A reset ended and answered so many requests, whose replies follow; or the adapter got stuck.
+    /// A reset finished and answered this many requests, whose replies follow; or the adapter got stuck.
     WasReset(Result<usize, AdapterStuck>),
-    /// A revocation answered so many requests, whose replies follow; or the client has no such grant.
+    /// A revocation answered this many requests, whose replies follow; or the client has no such grant.
     WasRevoked(Result<usize, NoSuchGrant>),
     /// What `state` returned.
     State(PortState),

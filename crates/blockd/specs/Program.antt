@@ -23,14 +23,14 @@ use Rattle.blockd.specs.declared.program.FileError.TheVariants.{NoMemory, Unavai
 
 -- ---- its files
 
--- the fault that is told where a file can't be had: this one, unless memory was refused
+-- The fault that is reported if a file can't be had: this one, unless memory was refused.
 abbrev pub file_fault_of : FileError → BlockdError → BlockdError
 file_fault_of NoMemory _ = fault.NoMemory
 file_fault_of Unavailable told = told
 
 module _ {H : Type 0} (reads : H → H → List ℕ → Result (Vec ℕ) FileError → Type 0)
     (opens : H → H → List ℕ → Result FileStore FileError → Type 0) (args : Args) where
-  -- what the run is made of, where the image could be opened
+  -- what the run is made of, if the image could be opened
   abbrev pub inputs_of : (config script : Vec ℕ) → Result FileStore FileError → Result Inputs BlockdError
   inputs_of config script (Ok image) = Ok (record { config = config; script = script; image = image })
   inputs_of config script (Err why) = Err (file_fault_of why Image)

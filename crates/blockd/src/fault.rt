@@ -11,7 +11,7 @@ use std::{fmt, io};
 pub enum BlockdError {
     /// The words of the command line ask nothing.
     CommandLine,
-    /// The configuration has a fault of the kind with this number, 1 to 8; or 0, where its file can't be read.
+    /// The configuration has a fault of the kind with this number, 1 to 8. The number is 0 if its file can't be read.
     Config(u8),
     /// The image's file can't be opened.
     Image,
@@ -50,7 +50,8 @@ impl fmt::Display for BlockdError {
 }
 
 impl BlockdError {
-    /// The status with which the program ends: 2 for a bad command line, 3 for a script that can't be read, and else 1.
+    /// Returns the status with which the program ends: 2 for a bad command line, 3 for a script that is bad or can't be
+    /// read, and 1 for any other fault.
     pub fn status(self) -> u8
         ensures { result ≡ status_of self }
     {
@@ -64,7 +65,7 @@ impl BlockdError {
         }
     }
 
-    /// Tells the fault in one line on standard error. Of an output that fails nothing is told.
+    /// Writes the fault to standard error, as one line. If the output failed, it writes nothing.
     pub fn tell(self, rt: &impl Eprint) -> io::Result<()> {
         match self {
             BlockdError::Unwritten => Ok(()),

@@ -1,9 +1,9 @@
 //! Plays a script against a block server over a modelled adapter: the program.
 //!
-//! `blockd --config FILE --image FILE --script FILE [--trace]`. The disk of the adapter's port 0 is
-//! the image, and a blank disk in memory can be put in for it. What the lines of the script answer
-//! is printed; where it can't be played, a line on standard error says why. `program` has what is
-//! made of the files, over any host that has files; `main` hands over what the system gives.
+//! `blockd --config FILE --image FILE --script FILE [--trace]`. The disk of the adapter's port 0 is the image, and a
+//! blank disk in memory can be put in for it. The program prints what the lines of the script answer. If the script
+//! can't be played, a line on standard error says why. `program` has what happens with the files, over any host that
+//! has files. `main` passes on what the system gives.
 #![tactic(auto)]
 
 use command_line::{Args, ArgsFault};
@@ -22,7 +22,7 @@ mod program;
 /// The bytes that are gathered before they are written.
 const GATHERED: usize = 8192;
 
-/// Want of memory, where that is the error, or else this fault.
+/// Returns `NoMemory` if that is the error, and this fault otherwise.
 fn unless_memory(error: &io::Error, fault: BlockdError) -> BlockdError {
     if error.kind() == io::ErrorKind::OutOfMemory {
         BlockdError::NoMemory
@@ -36,7 +36,7 @@ fn unless_memory(error: &io::Error, fault: BlockdError) -> BlockdError {
 fn words(rt: &(impl Env + AllocGlobal)) -> Result<Args, BlockdError> {
     // Words that are no text aren't a command line either.
     let given = env::args(rt).map_err(|error| unless_memory(&error, BlockdError::CommandLine))?;
-    // One by one: `collect` asks for less where it is refused the room for all, and so goes on without memory.
+    // // One by one: if `collect` is refused the room for all, it asks for less, and goes on without memory.
     let mut words: Vec<String> = Vec::new(rt.alloc());
     for word in given {
         words.push(word).map_err(|_full| BlockdError::NoMemory)?;
@@ -53,9 +53,9 @@ fn words(rt: &(impl Env + AllocGlobal)) -> Result<Args, BlockdError> {
     })
 }
 
-/// The files of the system. It gives a file the lowest number that is free, and 0, 1 and 2 are those of standard input,
-/// output and error. Where some of these were closed, three files that can only be read take their places until the
-/// end, and never the image: else what is printed would be written into it.
+/// The files of the system. The system gives a file the lowest number that is free. Numbers 0, 1 and 2 are those of
+/// standard input, output and error. If some of these were closed, three files that can only be read take their places
+/// until the end, so that the image never does. Otherwise what is printed would be written into the image.
 #[derive(Drop)]
 struct System<'a, R> {
     rt: &'a R,
@@ -101,8 +101,8 @@ impl<R: AllocGlobal + Files<File = File>> FileSource for System<'_, R> {
     }
 }
 
-/// Plays a script over an image, and prints what it answers. Where somebody watches, what a line answers is written at
-/// once, and else it is gathered.
+/// Plays a script over an image, and prints what it answers. At a terminal the answers of a line are written at once,
+/// and elsewhere they are gathered.
 fn print_played(
     rt: &(impl AllocGlobal + Print),
     config: &[u8],
@@ -152,7 +152,7 @@ fn main(rt: HostRuntime) -> ExitCode {
     match run(&rt, rt.stdout().is_terminal()) {
         Ok(()) => ExitCode::SUCCESS,
         Err(fault) => {
-            // Where standard error fails, too, the status says what it can.
+            // // If standard error fails, too, only the status says what happened.
             let _told = fault.tell(&rt);
             ExitCode::from(fault.status())
         }

@@ -28,7 +28,7 @@ pub enum FileError {
 }
 
 impl FileError {
-    /// The fault that is told of it: this one, unless memory was refused.
+    /// Returns the fault that is reported: this one, unless memory was refused.
     fn fault(self, fault: BlockdError) -> BlockdError
         ensures { result ≡ file_fault_of self fault }
     {
@@ -63,8 +63,8 @@ pub struct Inputs {
     pub image: FileStore,
 }
 
-/// Reads the configuration and the script, and opens the image, in this order. The first that can't be had is told, and
-/// nothing is asked after it.
+/// Reads the configuration and the script, and opens the image, in this order. The first of them that can't be had is
+/// the fault, and nothing is asked after it.
 pub fn load<H: FileSource>(host: &mut H, args: &Args) -> Result<Inputs, BlockdError>
     ensures { Loads H.reads H.opens args.now host.old host.new result }
 {

@@ -22,7 +22,7 @@ pub struct Args {
     pub image: String,
     /// The file of the script (`--script`).
     pub script: String,
-    /// Whether what the device moved is told, too (`--trace`).
+    /// Whether the moves of the device are printed, too (`--trace`).
     pub trace: bool,
 }
 
@@ -120,9 +120,12 @@ impl Args {
         })
     }
 
-    /// Reads the words of `blockd --config FILE --image FILE --script FILE [--trace]`, the program's name first. Words
-    /// are refused exactly where `clap` finds a fault in them under this command: a file is missing, a file or the flag
-    /// is given twice, the flag has a value, a word is unknown or too many, or help is asked for.
+    /// Reads the words of `blockd --config FILE --image FILE --script FILE [--trace]`, the program's name first.
+    ///
+    /// # Errors
+    ///
+    /// Words are refused exactly if `clap` finds a fault in them under this command: a file is missing, a file or the
+    /// flag is given twice, the flag has a value, a word is unknown or one too many, or help is asked for.
     pub fn read(alloc: Global, words: &[&str]) -> Result<Args, ArgsFault>
         ensures ok { IfOk result (AreArgsOf (map (λ word. word.now) words.now)) }
         ensures refused { result ≡ Err ArgsFault.Refused

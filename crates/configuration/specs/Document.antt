@@ -1,4 +1,4 @@
--- What a text has to be, and which kind of fault is told of it (this project's own).
+-- What a text has to be, and which kind of fault is reported of it (this project's own).
 use Rattle.std.specs.Prelude.{◌≡◌, ℕ, List, Some}
 use Rattle.std.specs.Str.{IsUtf8}
 use Rattle.toml.specs.Data.{Members}
@@ -19,8 +19,8 @@ pub record DocumentReadsAsValidConfig (document : Members) (c : Config) : Type 0
   pub spells_config : Spells document c
   pub lacks_every_fault : LacksEveryFault c
 
--- The least kind of fault that a document has. Where its keys and types are right, and it has the values of no
--- `Config`, whose numbers aren't negative, one of its numbers is negative, and so out of range.
+-- The least kind of fault that a document has. If its keys and types are right, and it has the values of no `Config`,
+-- whose numbers aren't negative, then one of its numbers is negative, and so out of range.
 pub data IsLeastDocumentFault (document : Members) : FaultKind → Type 0 where
   wrong_keys : (HasValidKeys document → ⊥) → IsLeastDocumentFault document WrongKeys
   wrong_types : HasValidKeys document → (HasAllTypes document → ⊥) → IsLeastDocumentFault document WrongTypes

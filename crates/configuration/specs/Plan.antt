@@ -45,8 +45,8 @@ pub record AreClientExtents (frames : ℕ) (runs : List FrameExtent) : Type 0 wh
   pub frames_are_clients_frames : All (HasClientFrames frames) runs
   pub extents_share_no_frame : AllPairs ExtentsApart runs
 
--- A grant that a server can serve where these disks are wanted: its client, number, port and sectors are in range, and
--- a disk is wanted in its port.
+-- A grant that a server can serve if these disks are wanted: its client, number, port and sectors are in range, and a
+-- disk is wanted in its port.
 pub record IsServableGrant (wanted : List Wanted) (row : GrantRow) : Type 0 where
   pub row_is_valid : IsValidRow row
   pub disk_is_wanted : (w : Wanted) × (slice_get wanted row.port.0 ≡ Some w) × (w ≢ Nothing)

@@ -6,7 +6,7 @@ use Rattle.configuration.specs.declared.PortConfig.{PortConfig}
 use Rattle.configuration.specs.declared.ClientConfig.{ClientConfig}
 use Rattle.configuration.specs.declared.GrantConfig.{GrantConfig}
 
--- 1 to 20 printable ASCII characters, of which the space is one
+-- 1 to 20 printable ASCII characters; the space is one of them.
 pub record IsSerialText (text : List ℕ) : Type 0 where
   pub is_not_empty : 1 ≤ length text
   pub at_most_20 : length text ≤ 20

@@ -1,6 +1,6 @@
--- The rules that the values of a configuration have to meet (this project's own). A range is told first: a client that
--- isn't 1 to 8 is out of range, and not unknown. What is no TOML is as the crate `toml` has it (TOML 1.1): also bytes
--- that aren't UTF-8, a key that stands twice, and a number that isn't within 64 bits with a sign.
+-- The rules that the values of a configuration have to meet (this project's own). A fault of a range comes first: a
+-- client that isn't 1 to 8 is out of range, and not unknown. The crate `toml` defines what is no TOML (TOML 1.1). This
+-- includes bytes that aren't UTF-8, a key that appears twice, and a number that doesn't fit into 64 bits with a sign.
 use Rattle.std.specs.Prelude.{◌≡◌, ◌≢◌, ◌⊎◌, ◌+◌, ◌<◌, ◌≤◌, ℕ, List, All, Any, AllPairs, codes, length, string_bytes}
 use Rattle.ata_types.specs.declared.limits.TheConstants.{MOST_GRANTS, SLOTS}
 use Rattle.ata_types.specs.declared.memory.TheConstants.{FEWEST_FRAMES, MOST_FRAMES}
@@ -69,7 +69,8 @@ HasClient clients id = Any (λ c. c.id ≡ id) clients
 unfoldable pub ConfiguresPort : List PortConfig → ℕ → Type 0
 ConfiguresPort ports number = Any (λ p. p.number ≡ number) ports
 
--- What the values have to meet, by the kind of fault that it is else. The first three kinds are of texts alone.
+-- What the values have to meet, by the kind of fault that they have otherwise. The first three kinds are of texts
+-- alone.
 abbrev pub LacksFault : Config → FaultKind → Type 0
 LacksFault c NotToml = Unit {0}
 LacksFault c WrongKeys = Unit {0}
@@ -80,7 +81,7 @@ LacksFault c SharedFrames = AllPairs FramesApart c.client.items
 LacksFault c UnknownClient = All (λ g. HasClient c.client.items g.client) c.grant.items
 LacksFault c UnknownPort = All (λ g. ConfiguresPort c.port.items g.port) c.grant.items
 
--- the kinds' numbers say which is told first
+-- The kinds' numbers: the fault of the least one is reported.
 abbrev pub kind_number : FaultKind → ℕ
 kind_number NotToml = 1
 kind_number WrongKeys = 2

@@ -23,7 +23,8 @@ abbrev pub optional_key : List ℕ → ValueType → KeyRule
 optional_key name value_type = record { name = name; value_type = value_type; is_required = false }
 
 -- A list is an array of tables, in either spelling of TOML. One table in its place (`[port]`) is of a wrong type, and
--- isn't looked into; so is an array with something else in it, of which the keys of the tables are looked at, too.
+-- nobody looks into it. An array with something else in it is of a wrong type, too, and the keys of its tables are
+-- checked.
 abbrev pub document_keys : List KeyRule
 document_keys =
     required_key (codes "frames") Integer ∷ required_key (codes "slots") Integer ∷ required_key (codes "ncq") Boolean

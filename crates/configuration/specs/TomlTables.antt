@@ -22,7 +22,7 @@ abbrev pub array_items : Option Data → Items
 array_items (Some (array items)) = items
 array_items _ = no_items
 
--- the tables in the array at a key, none where there is no such key
+-- The tables in the array at a key, or none if there is no such key.
 abbrev pub tables_at : List ℕ → Members → List Members
 tables_at name members = tables_of (array_items (get_member name members))
 
@@ -39,7 +39,7 @@ abbrev pub HasTextOrIsAbsent : Members → List ℕ → Option (List ℕ) → Ty
 HasTextOrIsAbsent members name None = get_member name members ≡ None
 HasTextOrIsAbsent members name (Some text) = HasText members name text
 
--- the key is set so; where there is no such key it isn't
+-- The key is set so. If there is no such key, it isn't.
 abbrev pub IsSetOrAbsent : Members → List ℕ → Bool → Type 0
 IsSetOrAbsent members name is_set =
     (get_member name members ≡ Some (boolean is_set)) ⊎ ((get_member name members ≡ None) × (is_set ≡ false))

@@ -1,4 +1,4 @@
-//! Laws of what is told of a text.
+//! Laws on the faults of a text.
 
 ghost use Rattle.std.specs.Prelude.{◌≡◌, ℕ, List};
 ghost use Rattle.configuration.specs.{Document.{TextReadsAsValidConfig, IsLeastTextFault}, declared.Config.{Config}, declared.FaultKind.{FaultKind}};

@@ -40,9 +40,12 @@ impl Model for Plan {
 impl Plan {
     ghost use Rattle.configuration.specs.{Rules.{LacksEveryFault, IsLeastFault}, Plan.{IsServablePlan, IsPlanOf}};
 
-    /// The plan of a configuration: a run of frames for each client and a row for each grant, in their order, and of
-    /// each port that it names the disk with the serial number that it asks for, or any disk. A configuration that
-    /// breaks a rule has no plan: the least of its kinds of fault is told. No memory is taken.
+    /// Makes the plan of a configuration: a run of frames for each client and a row for each grant, in their order, and
+    /// for each port that it names the disk with the serial number that it asks for, or any disk. It takes no memory.
+    ///
+    /// # Errors
+    ///
+    /// A configuration that breaks a rule has no plan. The least of its kinds of fault is returned.
     #[inline(never)]
     pub fn of(config: &Config) -> Result<Plan, FaultKind>
         ensures config_has_no_fault { OnOk result (LacksEveryFault config.now) }

@@ -126,7 +126,7 @@ impl FrameTable {
         }
     }
 
-    /// Notes the owners of the runs' frames, where nobody owned a frame.
+    /// Notes the owners of the runs' frames, if nobody owned a frame before.
     fn mark_all(&mut self, runs: &[(ClientId, Frame, u16)])
         requires runs { All IsValidExtent runs.now }
         requires apart { AllPairs ExtentsApart runs.now }
@@ -139,9 +139,12 @@ impl FrameTable {
         }
     }
 
-    /// Says whether these frames can be lent for the client, and else the first that is wrong with them: a frame
-    /// that isn't the client's comes before one that stands twice, that before one that is lent, and of faults of
-    /// one kind the one at the least place is told.
+    /// Checks whether these frames can be lent for the client.
+    ///
+    /// # Errors
+    ///
+    /// A frame that isn't the client's comes first, then one that appears twice, then one that is lent. Of several
+    /// faults of one kind the one at the least place is returned.
     pub fn check(&self, client: ClientId, frames: &[Frame]) -> Result<(), FrameFault>
         ensures ok { OnOk result (HasNoFault (owner_of self.now) (lent_to self.now) client frames.now) }
         ensures err { IfErr result (IsFirstFaultByKindThenPlace (owner_of self.now)
@@ -244,7 +247,7 @@ impl FrameTable {
         is_frame_bit_set(&self.lent, frame)
     }
 
-    /// The first place whose frame the client doesn't own. Where there is none, all frames are in the memory.
+    /// Returns the first place whose frame the client doesn't own. If there is none, all frames are in the memory.
     fn first_foreign(&self, client: ClientId, frames: &[Frame]) -> Option<usize>
         ensures place { IsLeastPlace (IsForeignAt (owner_of self.now) client frames.now) result }
         ensures within { result ≡ None → All (λ f. f.0 < FRAMES) frames.now }

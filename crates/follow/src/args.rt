@@ -14,7 +14,7 @@ pub struct FollowArgs {
     pub to_peer: String,
     /// The file that gives a line for each.
     pub from_peer: String,
-    /// Where the adapter's registers begin.
+    /// The address at which the adapter's registers begin.
     pub registers: u32,
     /// The disks of the model, from port 0 on: one to four.
     pub images: Vec<String>,

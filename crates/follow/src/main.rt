@@ -1,10 +1,10 @@
 //! Plays a script over an adapter that lines of text reach, and that the model follows.
 //!
-//! `follow CONFIG SCRIPT TO FROM REGISTERS IMAGE..`. TO is the file that takes a line for each
-//! access, and FROM the one that gives its answer; REGISTERS is where the adapter's registers
-//! begin, and the memory begins at 0. The disks of the model are the images, one to four, from port
-//! 0 on, which hold the same sectors as the adapter's own. What the lines answer is printed. Where
-//! the two stray, the access is told on standard error, and the run ends.
+//! `follow CONFIG SCRIPT TO FROM REGISTERS IMAGE..`. TO is the file that takes a line for each access, and FROM the one
+//! that gives its answer. REGISTERS is the address at which the adapter's registers begin, and the memory begins at 0.
+//! The disks of the model are the images, one to four, from port 0 on, which hold the same sectors as the adapter's
+//! own. The program prints what the lines answer. If the two differ, it reports the access on standard error, and the
+//! run ends.
 //!
 //! The crate `followed` makes the accesses on both, and compares.
 #![tactic(auto)]
@@ -87,7 +87,7 @@ fn open_peer(
     Ok(QtestPeer::new(rt.alloc(), from, to, words.registers)?)
 }
 
-/// Tells where the two strayed, or how many accesses were made, and what the run's end was.
+/// Reports where the two differed, or how many accesses were made, and how the run ended.
 fn told(
     rt: &impl Eprint,
     adapter: Option<Adapter>,
@@ -145,7 +145,7 @@ fn main(rt: HostRuntime) -> ExitCode {
     match run(&rt) {
         Ok(()) => ExitCode::SUCCESS,
         Err(fault) => {
-            // Where standard error fails, too, the status says what it can.
+            // // If standard error fails, too, only the status says what happened.
             let _told = eprintln!(rt; "follow: {fault}");
             ExitCode::from(fault.status())
         }

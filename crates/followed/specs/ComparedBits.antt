@@ -24,7 +24,7 @@ modelled_port_bits Clbu = 0xffffffff
 modelled_port_bits Fb = 0xffffffff
 modelled_port_bits Fbu = 0xffffffff
 
--- those of any register that `Shows` names, but for IS, whose bits follow causes that are known to differ
+-- Those of any register that `Shows` names, except IS, whose bits follow causes that are known to differ.
 abbrev pub modelled_bits : Reg → ℕ
 modelled_bits Cap = 0xffffffff
 modelled_bits Pi = 0xffffffff
@@ -33,7 +33,7 @@ modelled_bits Ghc = 0x80000003
 modelled_bits (Px port r) = modelled_port_bits r
 modelled_bits _ = 0
 
--- the bits of a known difference, where these slots of its port are known to differ
+-- The bits of a known difference, if these slots of its port are known to differ.
 abbrev pub difference_bits : KnownDifference → ℕ → ℕ
 difference_bits OtherCapabilities slot_mask = 0xbfffe0ff
 difference_bits FurtherPorts slot_mask = 0xfffffff0
@@ -54,16 +54,16 @@ difference_of (Px port Ci) = Some FailedSlots
 difference_of (Px port Sact) = Some SactOfUntakenSlots
 difference_of _ = None
 
--- these bits of 32 but for those
+-- These bits of 32 without those.
 abbrev pub bits_without : ℕ → Option KnownDifference → ℕ → ℕ
 bits_without bits None slot_mask = bits
 bits_without bits (Some known) slot_mask = bit_and bits (2 ^ 32 - 1 - difference_bits known slot_mask)
 
--- what is compared: the bits that the definitions name, but for the known difference
+-- What is compared: the bits that the definitions name, without those of the known difference.
 abbrev pub compared_bits : Reg → ℕ → ℕ
 compared_bits r slot_mask = bits_without (modelled_bits r) (difference_of r) slot_mask
 
--- two values of a register agree, where these slots of its port are known to differ
+-- Two values of a register agree, if these slots of its port are known to differ.
 abbrev pub AgreesInComparedBits : Reg → (slot_mask model_value peer_value : ℕ) → Type 0
 AgreesInComparedBits r slot_mask model_value peer_value = bit_and model_value (compared_bits r slot_mask)
     ≡ bit_and peer_value (compared_bits r slot_mask)
@@ -78,7 +78,7 @@ difference_index TaskFileWhileNoPlainFailed = 4
 difference_index FailedSlots = 5
 difference_index SactOfUntakenSlots = 6
 
--- the one that a register may show, where two values differ by its bits, of those that the definitions name
+-- The difference that a register may show, if two values differ by its bits, among those that the definitions name.
 abbrev pub difference_if_shown : Option KnownDifference → (named slot_mask model_value peer_value : ℕ)
     → Option KnownDifference
 difference_if_shown None named slot_mask model_value peer_value = None

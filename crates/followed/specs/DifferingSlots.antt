@@ -32,7 +32,7 @@ AddsSlotIf is_added port slot old new =
     (q k : ℕ) → q < 4 → k < 32
     → bit (slice_index new q) k ≡ (bit (slice_index old q) k || (is_added && (nat_eq q port && nat_eq k slot)))
 
--- It is noted that a slot's command has failed, a queued one or a plain one, and nothing else.
+-- It is noted that a slot's command has failed, a queued one or a plain one, and nothing else changed.
 pub record NotesFailed (port slot : ℕ) (is_queued : Bool) (old new : DifferingSlotMasks) : Type 0 where
   pub failed_slots_gain_it : AddsSlotIf true port slot old.failed new.failed
   pub plain_slots_are : AddsSlotIf (not is_queued) port slot old.plain new.plain

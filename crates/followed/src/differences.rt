@@ -8,34 +8,34 @@ use std::fmt;
 /// How many known differences there are.
 const KNOWN: usize = 7;
 
-/// A difference between the model and adapters that are about. Of the bits that the definitions name they are all that
-/// is passed over; of memory, a page of IDENTIFY DEVICE that reads the same. The server is told the model's bits. Of
-/// most of these it makes nothing; by those of `FailedSlots` and `SactOfUntakenSlots` it takes a request for done, so
-/// that an adapter without a model beside it has to show them as the model does.
+/// A known difference between the model and other adapters. Of the bits that the definitions name only these are
+/// ignored, and of memory only a page of IDENTIFY DEVICE that reads the same. The server gets the model's bits. Most of
+/// these make no difference to it. By those of `FailedSlots` and `SactOfUntakenSlots` it takes a request for done, so
+/// an adapter without a model beside it has to show them as the model does.
 #[derive(Clone, Copy, Debug, PartialEq, Eq)]
 pub enum KnownDifference {
-    /// CAP but for NCS and SNCQ: NP and what else an adapter can do. The server reads NCS, bits 12:8, and SNCQ, bit 30,
-    /// alone (AHCI 1.3.1, 3.1.1).
+    /// CAP without NCS and SNCQ: NP, and what an adapter can do. The server reads only NCS, bits 12:8, and SNCQ, bit 30
+    /// (AHCI 1.3.1, 3.1.1).
     OtherCapabilities,
     /// PI from bit 4 on: an adapter may have more ports than the four that the server looks for (AHCI 1.3.1, 3.1.4).
     FurtherPorts,
-    /// GHC.AE: where an adapter is AHCI alone (CAP.SAM) it reads as one always, also after a reset (AHCI 1.3.1, 3.1.2).
-    /// The server writes it before it uses the adapter, and never looks.
+    /// GHC.AE: if an adapter has AHCI mode only (CAP.SAM), it always reads as one, even after a reset (AHCI 1.3.1,
+    /// 3.1.2). The server writes it before it uses the adapter, and never reads it.
     AlwaysAhci,
-    /// DHRS, PSS and SDBS of PxIS: the server clears them and looks which slots' bits fell (AHCI 1.3.1, 5.5.3). The
+    /// DHRS, PSS and SDBS of PxIS: the server clears them, and reads which slots' bits fell (AHCI 1.3.1, 5.5.3). The
     /// model ends a command when its slot is seen to be clear, which may be after the write of PxIS that cleared its
-    /// cause; and an adapter may tell of a Register FIS behind a page that came by PIO.
+    /// cause. An adapter may also report a Register FIS behind a page that came by PIO.
     InterruptCauses,
-    /// PxTFD but for BSY and DRQ, while no plain command has failed on the port: the server uses status and error of a
-    /// failed plain command alone (AHCI 1.3.1, 6.2.2); of a queued one it asks the log.
+    /// PxTFD without BSY and DRQ, while no plain command has failed on the port: the server uses status and error only
+    /// of a failed plain command (AHCI 1.3.1, 6.2.2). For a queued one it asks the log.
     TaskFileWhileNoPlainFailed,
     /// PxCI of a slot whose command has failed: it stays set until ST is zero (AHCI 1.3.1, 3.3.14), but an adapter may
-    /// clear that of a plain one, and may set that of a queued one that it has refused. A server that were told so
-    /// would take a failed plain command for done.
+    /// clear that of a plain one, and may set that of a queued one that it has refused. A server that saw this would
+    /// take a failed plain command for done.
     FailedSlots,
     /// PxSACT of a slot that was issued, and not taken, when a queued command failed: an adapter may do its command all
-    /// the same, and leave its bit of PxCI set. The server takes a slot for done only where both bits are clear, and
-    /// stops the port then.
+    /// the same, and leave its bit of PxCI set. The server takes a slot for done only if both bits are clear, and stops
+    /// the port then.
     SactOfUntakenSlots,
 }
 
@@ -67,7 +67,7 @@ impl KnownDifference {
         }
     }
 
-    /// Its bits, where the slots in this mask, of the register's port, are known to differ.
+    /// Returns its bits, if the slots in this mask, of the register's port, are known to differ.
     pub fn bits(self, slot_mask: u32) -> u32
         ensures { result ≡ difference_bits self slot_mask }
     {
@@ -128,7 +128,7 @@ fn modelled_bits(r: Reg) -> u32
     }
 }
 
-/// The bits of a register that are compared: those that the definitions name, but for the known difference.
+/// The bits of a register that are compared: those that the definitions name, without those of the known difference.
 fn compared(r: Reg, slot_mask: u32) -> u32
     ensures { result ≡ compared_bits r slot_mask }
 {
@@ -138,8 +138,8 @@ fn compared(r: Reg, slot_mask: u32) -> u32
     }
 }
 
-/// Whether two values of a register agree, where these slots of its port are known to differ: those whose commands
-/// failed, of PxTFD the plain ones of these, and of PxSACT those that were not taken before a queued one failed.
+/// Whether two values of a register agree, if these slots of its port are known to differ: those whose commands failed;
+/// for PxTFD the plain ones of these, and for PxSACT those that were not taken before a queued one failed.
 pub fn agrees_in_compared_bits(r: Reg, slot_mask: u32, model_value: u32, peer_value: u32) -> bool
     ensures { IsTrue result ↔ AgreesInComparedBits r slot_mask model_value peer_value }
 {
@@ -193,7 +193,7 @@ impl MetDifferences {
 }
 
 impl fmt::Display for MetDifferences {
-    /// Their names, parted by spaces; `none` where there are none.
+    /// Their names, separated by spaces, or `none` if there are none.
     fn fmt<W: fmt::Write>(&self, f: &mut fmt::Formatter<W>) -> fmt::Result {
         let mut is_first = true;
         for known in KnownDifference::ALL {

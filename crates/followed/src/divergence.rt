@@ -18,7 +18,7 @@ pub enum Divergence {
         shown: u8,
         said: u8,
     },
-    /// The peer gave no answer, and why: it is gone, it said something else, or memory was refused.
+    /// The peer gave no answer, for this reason: it is gone, it said something else, or memory was refused.
     Silent(PeerFault),
 }
 

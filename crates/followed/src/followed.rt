@@ -205,8 +205,8 @@ impl<A: Inspectable, P: Peer> Followed<A, P> {
             | self.model.shown(Reg::Px(port, PortReg::Sact))
     }
 
-    /// Before a reading: what the peer shows of the register, once the model has gone on by what that tells; `None`
-    /// where they have strayed.
+    /// Before a reading: returns what the peer shows of the register, after the model has followed what that means. It
+    /// returns `None` if they differ.
     fn prepare_read(&mut self, r: Reg) -> Option<u32>
         ensures goes { GoesOnBySteps (A.device self.old.model) (A.device self.new.model) }
         ensures counted { A.access_count self.new.model ≡ A.access_count self.old.model }
@@ -474,8 +474,7 @@ impl<A: Inspectable, P: Peer> Adapter for Followed<A, P> {
         self.send(r, v);
     }
 
-    /// Unless the two have strayed, the peer was asked for these bytes and nothing else, and they are taken for the
-    /// same.
+    /// Unless the two differ, the peer was asked for these bytes and nothing else, and they count as the same.
     fn load(&mut self, addr: u32, out: &mut [u8])
         requires { IsStable (IsInMemoryNotOwnedByDevice addr (length out.old)) (A.device self.old.model) }
         ensures does { Loads addr out.new (A.device self.old.model) (A.device self.new.model) }
@@ -491,7 +490,7 @@ impl<A: Inspectable, P: Peer> Adapter for Followed<A, P> {
         self.compare_bytes(addr, out);
     }
 
-    /// Unless the two have strayed, the peer was asked to store the bytes, and for nothing else.
+    /// Unless the two differ, the peer was asked to store the bytes, and for nothing else.
     fn store(&mut self, addr: u32, bytes: &[u8])
         requires { IsStable (IsInMemoryNotOwnedByDevice addr (length bytes.now)) (A.device self.old.model) }
         ensures does { Stores addr bytes.now (A.device self.old.model) (A.device self.new.model) }

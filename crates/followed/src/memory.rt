@@ -47,7 +47,7 @@ fn read_same(shown: &[u8; PAGE_BYTES], said: &[u8; PAGE_BYTES]) -> bool
     is_same_disk(&of_model, &of_peer)
 }
 
-/// Whether two pages of IDENTIFY DEVICE, in a port's scratch frame, are the same to the server: it decides by what
+/// Whether two pages of IDENTIFY DEVICE, in a port's scratch frame, are the same to the server. It decides by what
 /// `identify` reads in them, and by nothing else.
 fn are_pages_of_one_disk(address: u32, shown: &[u8], said: &[u8]) -> bool
     ensures { result ≡ true → ArePagesOfOneDisk address shown.now said.now }

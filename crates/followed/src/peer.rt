@@ -10,7 +10,7 @@ use hba_regs::Reg;
 pub enum PeerFault {
     /// It can't be written to, or its answers have ended.
     Closed,
-    /// It answered with other words than it was asked for, as where it refuses.
+    /// It answered with other words than it was asked for, for example because it refuses.
     Garbled,
     /// Memory was refused.
     NoMemory,

@@ -8,7 +8,7 @@ use std::str;
 /// Bytes of memory that one line carries at most.
 const CHUNK: usize = 64;
 
-/// Lines before an answer that tell of something else.
+/// The most lines before an answer that are about something else.
 const MOST_NOTICES: u32 = 65_536;
 
 /// A peer behind two files: one takes a line for each access, and the other gives a line for each. The registers begin
@@ -43,12 +43,12 @@ impl<R: BufRead + Drop, W: Write + Drop> QtestPeer<R, W> {
         })
     }
 
-    /// Where a register stands.
+    /// The address of a register.
     fn place(&self, r: Reg) -> u64 {
         u64::from(self.registers) + u64::from(r.offset())
     }
 
-    /// Sends the line, and reads the one that answers it; lines that tell of an interrupt are passed over.
+    /// Sends the line, and reads the one that answers it. Lines about an interrupt are skipped.
     fn exchange(&mut self) -> Result<(), PeerFault> {
         if self.to.write_all(self.asked.as_slice()).is_err() || self.to.flush().is_err() {
             return Err(PeerFault::Closed);

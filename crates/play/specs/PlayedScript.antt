@@ -74,7 +74,7 @@ pub record IsNewServerOfNewModel {S : Type 0} (size : S → ℕ) (told : S → O
   pub is_initial_server : IsInitialServer (device_at size told) config model server
 
 -- What these calls answered, from this server to that one, keeps the server's promise. The history begins where a new
--- server stands, of this configuration and of a model of image and blank disk; and where both disks tell their sectors,
+-- server stands, of this configuration and of a model of image and blank disk. If both disks have specified contents,
 -- the adapter's disks do.
 pub record AnswersKeepPromise {S : Type 0} (size : S → ℕ) (told : S → Option (ℕ → List ℕ)) (config : Config)
     (image blank : S)
@@ -86,9 +86,10 @@ pub record AnswersKeepPromise {S : Type 0} (size : S → ℕ) (told : S → Opti
   pub told_disks_are_told : IsSome (told image) → IsSome (told blank) → initial_state.device.disks_tell_sectors ≡ true
   pub keeps_promise : KeepsPromise (device_at size told) initial_state [] server last calls said
 
--- These calls lead from the old server to the new one, say this in turn, and keep the server's promise each; none is
--- made of an adapter that is starved. The text of the last call stands by itself, after that of those before it; where
--- there is none, both are empty. So many entries of the tape count as shown then: all, once a call was made.
+-- These calls lead from the old server to the new one, say this in turn, and each keep the server's promise. None is
+-- made of an adapter that is starved. The text of the last call stands by itself, after that of those before it; if
+-- there is none, both are empty. This many entries of the tape count as shown then, which is all of them once a call
+-- was made.
 pub data CallsAnswerAndPrint {A : Type 0} (device : A → Device) (starved : A → Bool) (trace : Bool) (old : ServerView A)
     : ServerView A → ℕ → List (Call DeviceStep) → List AbstractCallResult → List ℕ → List ℕ → Type 0 where
   prints_nothing : CallsAnswerAndPrint device starved trace old old 0 [] [] [] []
@@ -102,8 +103,8 @@ pub data CallsAnswerAndPrint {A : Type 0} (device : A → Device) (starved : A �
       (before ++ last)
       (call_text trace shown (device new.adapter).tape (said_of one))
 
--- A call was made, which keeps the server's promise, and of what is printed of it a part was, from its beginning on:
--- nothing, where it starved the adapter.
+-- A call was made, which keeps the server's promise, and a beginning of what is printed of it was printed: nothing, if
+-- it starved the adapter.
 pub record PrintsAllOrBeginning {A : Type 0} (device : A → Device) (starved : A → Bool) (trace : Bool) (shown : ℕ)
     (asked : Call DeviceStep) (old new : ServerView A)
     (before after : Option (List ℕ)) : Type 0 where
@@ -117,9 +118,8 @@ pub record PrintsAllOrBeginning {A : Type 0} (device : A → Device) (starved : 
 
 -- ---- the whole
 
--- Of a script the first lines were played, which lead from the old server to the new one, and the rest were not. Each
--- of them was printed but for the last one, of whose text a part was, from its beginning on: nothing, where it starved
--- the adapter.
+-- The first lines of a script were played, which lead from the old server to the new one, and the rest were not. Each
+-- of them was printed except the last one. Of its text a beginning was printed: nothing, if it starved the adapter.
 pub record RanFirstLines {A : Type 0} (device : A → Device) (starved : A → Bool) (trace : Bool) (script : List ℕ)
     (old new : ServerView A)
     (before after : Option (List ℕ)) : Type 0 where
@@ -144,10 +144,10 @@ pub record RanWholeScript {A : Type 0} {device : A → Device} {starved : A → 
     pub all_is_printed : length ran.last_text ≤ ran.part
     pub is_not_starved : starved new.adapter ≡ false
 
--- The configuration's text and the whole script were read. A new server was asked what the first lines ask, and of what
--- they print all was printed but for a part of the last one's. At first nothing of the tape counts as shown: so with a
--- trace, what moved while the server was made stands before the first answer. What the last of these lines left the
--- model as, the run gives back: so the disks are as it left them.
+-- The configuration's text and the whole script were read. A new server was asked what the first lines ask. All that
+-- they print was printed, except for a part of the last one's. At first nothing of the tape counts as shown, so with a
+-- trace what moved while the server was made comes before the first answer. The run gives the model back as the last of
+-- these lines left it, and so are the disks.
 pub record PlaysFirstLines {S : Type 0} (size : S → ℕ) (told : S → Option (ℕ → List ℕ)) (config script : List ℕ)
     (image blank : S) (trace : Bool)
     (old new : Option (List ℕ)) (model : Model S) : Type 0 where
@@ -173,9 +173,8 @@ abbrev pub ended_by_stop : PlayError → Ended
 ended_by_stop stop.NoMemory = NoMemory
 ended_by_stop stop.Unwritten = Unwritten
 
--- What is so where a run stopped at its last line, of whether the adapter is starved and how much of that line's text
--- was printed: where want of memory is told, nothing was; where an output that failed is told, the adapter isn't
--- starved.
+-- What holds if a run stopped at its last line, of whether the adapter is starved, and of how much of that line's text
+-- was printed. If the end is want of memory, nothing was. If it is an output that failed, the adapter isn't starved.
 abbrev pub NoMemoryPrintsNoneUnwrittenIsNotStarved : Bool → ℕ → PlayError → Type 0
 NoMemoryPrintsNoneUnwrittenIsNotStarved starved part stop.NoMemory = part ≡ 0
 NoMemoryPrintsNoneUnwrittenIsNotStarved starved part stop.Unwritten = starved ≡ false
@@ -191,10 +190,10 @@ IsWhyNothingIsPlayed config script NoMemory = Unit {0}
 IsWhyNothingIsPlayed config script Done = ⊥
 IsWhyNothingIsPlayed config script Unwritten = ⊥
 
--- How it ended, with what the output was and is, and the model that it gives back. With one, lines were played: it is
--- done where all of them were, and printed; else the first ones were, and why it stopped is told. Where the output
--- failed, the model isn't starved; where memory was refused, nothing of the last line is printed, and the model says
--- whether the memory was refused to it. Without a model nothing is printed.
+-- How it ended, with what the output was and is, and the model that it gives back. With a model, lines were played. It
+-- is done if all of them were, and were printed. Otherwise the first ones were, and the end says why it stopped. If the
+-- output failed, the model isn't starved. If memory was refused, nothing of the last line is printed, and the model
+-- says whether the memory was refused to it. Without a model nothing is printed.
 abbrev pub EndsPlay : {S : Type 0} → (S → ℕ) → (S → Option (ℕ → List ℕ)) → List ℕ → List ℕ → S → S → Bool
     → Option (List ℕ)
     → Option (List ℕ) → Ended → Option (Model S) → Type 0

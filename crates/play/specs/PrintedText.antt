@@ -14,12 +14,12 @@ use Rattle.adapter.specs.declared.tape.Entry.TheVariants as entry
 use Rattle.script.specs.Answer.{answer_line}
 use Rattle.script.specs.declared.answer.Answer.TheVariants as answer
 
--- a value as an answer refers to it; no line tells where it lies
+-- A value as an answer refers to it. No line shows its address.
 abbrev pub as_reference : {X : Type 0} → X → Bor X
 as_reference x = record { ref_ptr = (0, 0); now = x }
 
--- What is printed of one thing that was said. Where replies follow, their lines are what is printed of a service or a
--- tick; where none follows, there is a line that it is quiet.
+-- What is printed of one thing that was said. If replies follow, their lines are what is printed of a service or a
+-- tick. If none follows, there is a line that it is quiet.
 abbrev pub said_text : Said → List ℕ
 said_text (said.Submitted (Ok id)) = answer_line (answer.Accepted id)
 said_text (said.Submitted (Err refusal)) = answer_line (answer.Refused refusal)
@@ -42,7 +42,7 @@ abbrev pub line_of_ended_flush_else_empty : Operation → Done → List ℕ
 line_of_ended_flush_else_empty Flush done = answer_line (answer.Flushed done)
 line_of_ended_flush_else_empty _ done = []
 
--- a move, a clear and the end of a flush have a line; nothing else on a tape has one
+-- A move, a clear and the end of a flush have a line. Nothing else on a tape has one.
 abbrev pub entry_text : Entry → List ℕ
 entry_text (entry.Move moved) = answer_line (answer.Moved (as_reference moved))
 entry_text (entry.Clear cleared) = answer_line (answer.Cleared cleared)
@@ -56,7 +56,7 @@ entry_text (entry.Plug port name) = []
 abbrev pub entries_text : List Entry → List ℕ
 entries_text entries = flat_map entry_text entries
 
--- with a trace, what a tape has gained past so many entries
+-- With a trace, the entries that a tape has past this number.
 abbrev pub trace_text : Bool → ℕ → List Entry → List ℕ
 trace_text true shown tape = entries_text (drop shown tape)
 trace_text false shown tape = []

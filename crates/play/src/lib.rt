@@ -1,9 +1,9 @@
 //! Plays a script against a block server over a modelled adapter, into any writer.
 //!
-//! The lines of the script are the server's calls, each a list of one for `run`, and are answered
-//! at once, in lines of text. The configuration and the whole script are read before the first line
-//! is played. A run ends where the model is starved: its answers aren't to be believed then.
-//! `play_adapter` does so over any adapter that can be watched.
+//! The lines of the script are the server's calls. `run` gets each of them as a list of one, and the answers are
+//! printed at once, as lines of text. The configuration and the whole script are read before the first line is played.
+//! A run ends if the model is starved, because its answers can't be trusted then. `play_adapter` plays over any adapter
+//! that can be watched.
 #![tactic(auto)]
 
 mod model_setup;

@@ -14,7 +14,7 @@ use thiserror::Error;
 #[derive(Clone, Copy, Debug, PartialEq, Eq, Error)]
 #[error("the output can't be written: {kind}")]
 pub struct Unwritten {
-    /// How: of the write that failed, or `WriteZero` where one took nothing.
+    /// How it failed: the error of the write, or `WriteZero` if a write took nothing.
     pub kind: io::ErrorKind,
 }
 
@@ -86,7 +86,7 @@ fn print_entries<W: io::Write>(out: &mut W, gained: &[Entry]) -> io::Result<()>
     Ok(())
 }
 
-/// With a trace, prints what a tape has gained past so many entries.
+/// With a trace, prints the entries that a tape has past this number of them.
 fn print_trace<W: io::Write>(
     out: &mut W,
     trace: bool,
@@ -101,8 +101,8 @@ fn print_trace<W: io::Write>(
     print_entries(out, tape.get(shown..).unwrap_or_default())
 }
 
-/// Puts what is printed of a call into `text`, in place of what it had: with a trace, what the tape gained past so many
-/// entries, and then what the call said. It fails only if memory is refused.
+/// Puts what is printed of a call into `text`, in place of what it had. With a trace these are the entries of the tape
+/// past this number, and then what the call said. It fails only if memory is refused.
 pub fn set_call_text(
     text: &mut Vec<u8>,
     trace: bool,
@@ -117,8 +117,8 @@ pub fn set_call_text(
     print_said(text, said)
 }
 
-/// Writes bytes. Where the output fails, it has taken a beginning of them, which may be nothing; and never is it that a
-/// signal interrupted a write, which is made again then.
+/// Writes bytes. If the output fails, it has taken a beginning of them, which may be empty. A write that a signal
+/// interrupts is made again, and counts as no failure.
 pub fn write_out<W: io::Write>(out: &mut W, bytes: &[u8]) -> Result<(), Unwritten>
     ensures written { (part : ℕ) × Appends (W.contents out.old) (W.contents out.new) (take part bytes.now)
         × OnOk result (length bytes.now ≤ part) }
@@ -136,6 +136,6 @@ pub fn write_out<W: io::Write>(out: &mut W, bytes: &[u8]) -> Result<(), Unwritte
             Err(error) => return Err(Unwritten::of(error.kind())),
         }
     }
-    // Nobody waits for so many interruptions.
+    // No run is interrupted this often.
     Err(Unwritten::of(io::ErrorKind::TimedOut))
 }

@@ -46,8 +46,8 @@ pub enum Ended {
 #[derive(Drop)]
 pub struct PlayResult<S: SectorStore> {
     pub ended: Ended,
-    /// The model, with its disks, as the last line that was played left it. There is none where the run had no server
-    /// to ask.
+    /// The model, with its disks, as the last line that was played left it. It is `None` if the run had no server to
+    /// ask.
     pub model: Option<Model<S>>,
 }
 
@@ -107,7 +107,7 @@ impl From<BadLine> for Ended {
     }
 }
 
-/// The values of a configuration's text, where the lines of the script are good, too.
+/// Returns the values of a configuration's text, if the lines of the script are good, too.
 pub fn parse_inputs(alloc: Global, config: &[u8], script: &[u8]) -> Result<Config, Ended>
     ensures read { IfOk result (TextReadsAsValidConfig config.now) }
     ensures is_script { OnOk result ((calls : List (Call DeviceStep)) × IsScript script.now calls) }
@@ -118,7 +118,7 @@ pub fn parse_inputs(alloc: Global, config: &[u8], script: &[u8]) -> Result<Confi
     Ok(values)
 }
 
-/// The server on the heap. Where memory for it is refused, it is closed.
+/// Puts the server on the heap. If memory for it is refused, the server is closed.
 #[inline(never)]
 fn on_heap<A: Adapter + Drop>(alloc: Global, server: Server<A>) -> Result<Box<Server<A>>, NoMemory>
     ensures { IfOk result (λ there. there.value ≡ server) }
@@ -174,9 +174,9 @@ fn make_call<A: Stepped>(server: &mut Server<A>, call: &Event, said: &mut Vec<Sa
     let _done = server.run(slice::from_ref(call), said);
 }
 
-/// Plays a line: makes its call, and prints of it what the tape gained past so many entries, with a trace, and what it
-/// said. Gives how many entries the tape has then. Where it fails, a beginning of that text is printed, which may be
-/// nothing.
+/// Plays a line: makes its call, and prints what it said. With a trace it first prints the entries of the tape past
+/// this number. It returns how many entries the tape has then. If it fails, a beginning of that text is printed, which
+/// may be empty.
 fn play_line<A: TapedAdapter, W: io::Write>(
     server: &mut Server<A>,
     call: &Event,
@@ -212,9 +212,9 @@ fn play_line<A: TapedAdapter, W: io::Write>(
     Ok(tape.len())
 }
 
-/// Asks a server what the lines of a script ask, one after another, and prints of each at once what the tape gained,
-/// with a trace, and what it said. Where memory is refused, to the model too, or the output fails, it stops at that
-/// line: no later one is played.
+/// Asks a server what the lines of a script ask, one after another, and prints at once what each said, with a trace
+/// after the new entries of the tape. If memory is refused, to the model too, or if the output fails, it stops at that
+/// line, and plays no later one.
 #[inline(never)]
 fn play_lines<A: TapedAdapter, W: io::Write>(
     alloc: Global,
@@ -279,9 +279,9 @@ fn unbegun<S: SectorStore>(ended: Ended) -> PlayResult<S>
 }
 
 /// Plays a script against a new server of this configuration over this adapter, and prints at once what each line
-/// answers. The adapter comes back as the last line that was played left it; or as it was, with nothing printed, where
-/// no server could be made of it for want of memory. It doesn't come back where there was no memory to keep the server
-/// in: nothing is printed then either. Where it can't go on, `NoMemory` is told, too.
+/// answers. The adapter comes back as the last line that was played left it. If no server could be made of it because
+/// memory was refused, the adapter comes back as it was, and nothing is printed. If there was no memory to keep the
+/// server in, it doesn't come back, and nothing is printed either. In both cases the end is `NoMemory`.
 pub fn play_adapter<A: TapedAdapter + Drop, W: io::Write>(
     alloc: Global,
     config: Config,
@@ -318,14 +318,14 @@ pub fn play_adapter<A: TapedAdapter + Drop, W: io::Write>(
 
 /// Plays a script against a new server over a modelled adapter, and prints at once what each line answers.
 ///
-/// The text of the configuration is read first, and then the whole script; the first fault that is found ends it. Then
-/// each line is read again when it is played. Disk 0 of port 0 is the image, and disk 1 the blank one. With a trace,
-/// the moves, clears and ends of flushes that the tape has gained stand before a line's own answers; before the first
-/// line's also those since the model was made.
+/// The text of the configuration is read first, and then the whole script. The first fault ends the run. Each line is
+/// read again when it is played. Disk 0 of port 0 is the image, and disk 1 the blank one. With a trace, the moves,
+/// clears and ended flushes since the line before come before a line's own answers. Before the first line's these are
+/// the ones since the model was made.
 ///
-/// Where the output fails, or memory is refused, the line that it happens at was the last one that was played, and
-/// those before it were printed. What the output has of that line then is a beginning of its text: nothing, where
-/// memory was refused. The model is given back as that line left it.
+/// If the output fails, or memory is refused, the line at which it happens is the last one that is played, and those
+/// before it were printed. The output then has a beginning of that line's text, which is empty if memory was refused.
+/// The model comes back as that line left it.
 pub fn play_script<S: SectorStore, W: io::Write>(
     alloc: Global,
     inputs: PlayInputs<S>,

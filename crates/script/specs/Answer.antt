@@ -1,4 +1,4 @@
--- The lines that answer a script, and those that tell what the device moved and cleared, and that a flush ended (this
+-- The lines that answer a script, and those of a trace: what the device moved and cleared, and that a flush ended (this
 -- project's own). A line feed ends each.
 use Rattle.std.specs.Prelude.{ℕ, ◌++◌, ◌∷◌, [], List, true, false, codes}
 use Rattle.std.specs.List.{join_with_byte}
@@ -72,7 +72,7 @@ mem_fault_word FrameForeign = codes "FrameForeign"
 mem_fault_word FrameLent = codes "FrameLent"
 mem_fault_word OutsideFrame = codes "OutsideFrame"
 
--- what a move is told as; queued and plain commands alike
+-- The word for a move, for queued and plain commands alike.
 abbrev pub moved_word : Operation → Word
 moved_word command.Identify = codes "identify"
 moved_word command.Read = codes "read"

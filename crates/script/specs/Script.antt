@@ -10,7 +10,7 @@ use Rattle.script.specs.Line.{HasLine, line_text}
 abbrev pub lines_of : List ℕ → List (List ℕ)
 lines_of text = slice_split (λ b. b == 10) text
 
--- the lines of what stands after a line; none where nothing does
+-- The lines of what comes after a line. There are none if nothing does.
 abbrev pub lines_after : Option (Bor (List ℕ)) → List (List ℕ)
 lines_after None = []
 lines_after (Some after) = lines_of after.now
@@ -78,7 +78,7 @@ pub record LineLaws : Type 0 where
       → AskForCalls (before ++ text ∷ after) lines → SplitsAt before text after lines
   pub asked_line_is_not_bad : (text : List ℕ) (asked : Option (Call DeviceStep)) → Asks text asked → IsBadLine text → ⊥
 
--- the line with this number, of which the first is 1, is bad, and the lines before it ask something or nothing
+-- The line with this number, counted from 1, is bad, and each line before it asks something or nothing.
 pub record IsFirstBadLine (text : List ℕ) (number : ℕ) : Type 0 where
   pub before : List (List ℕ)
   pub bad : List ℕ

@@ -155,7 +155,7 @@ impl fmt::Display for Named {
     }
 }
 
-/// The number of a refusal, 1 to 13: of those that apply, the one with the least is told.
+/// Returns the number of a refusal, 1 to 13. If several apply, the server answers with the one of the least number.
 pub fn refusal_number(refusal: Refusal) -> u8
     ensures { result ≡ (refusal_rank refusal).0 }
 {

@@ -1,4 +1,4 @@
-// Where the call that a line asks for is read into.
+// The place into which the call that a line asks for is read.
 ghost use Rattle.std.specs.Prelude.{◌≡◌};
 ghost use Rattle.ata_types.specs.declared.call.Call.TheVariants.{Service};
 

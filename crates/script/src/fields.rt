@@ -151,7 +151,7 @@ fn push_frame(word: &[u8], frames: &mut ArrayVec<Frame, MOST_REQUEST_FRAMES>) ->
     frames.try_push(parse_frame(word)?).ok()
 }
 
-/// Reads frames by their numbers, at most 128, parted by commas, in place of those that are there; `-` is none.
+/// Reads frames by their numbers, at most 128, separated by commas, in place of those that are there. `-` means none.
 pub(crate) fn parse_frames(
     word: &[u8],
     frames: &mut ArrayVec<Frame, MOST_REQUEST_FRAMES>,

@@ -61,7 +61,7 @@ fn transfer(op: Op, words: &[&[u8]], request: &mut Request) -> Option<()>
     }
 }
 
-/// The lie that the disk of the port is to tell of this page: where, and which bits are turned.
+/// The step that has the disk of the port falsify this page: the place, and the bits that are inverted.
 fn lie(port: &[u8], page: &[u8], offset: &[u8], bits: &[u8]) -> Option<DeviceStep>
     ensures found { FoundStepHasWords (codes "lie" ∷ port.now ∷ page.now ∷ offset.now ∷ bits.now ∷ []) result }
     ensures only { FindsSpelledStep (codes "lie" ∷ port.now ∷ page.now ∷ offset.now ∷ bits.now ∷ []) result }
@@ -73,7 +73,7 @@ fn lie(port: &[u8], page: &[u8], offset: &[u8], bits: &[u8]) -> Option<DeviceSte
     Some(DeviceStep::Lie(port, page, offset, bits))
 }
 
-/// The clear that the device is to do: where, and of how many sectors.
+/// The clear that the device is asked for: the slot, and the number of sectors.
 fn clear(port: &[u8], slot: &[u8], count: &[u8]) -> Option<DeviceStep>
     ensures found { FoundStepHasWords (codes "clear" ∷ port.now ∷ slot.now ∷ count.now ∷ []) result }
     ensures only { FindsSpelledStep (codes "clear" ∷ port.now ∷ slot.now ∷ count.now ∷ []) result }
@@ -84,7 +84,7 @@ fn clear(port: &[u8], slot: &[u8], count: &[u8]) -> Option<DeviceStep>
     Some(DeviceStep::Clear(port, slot, count))
 }
 
-/// The fault that a command of the device is to end with: where, and which error.
+/// The fault with which a command of the device is to end: the slot, and the error.
 fn fault(port: &[u8], slot: &[u8], error: &[u8]) -> Option<DeviceStep>
     ensures found { FoundStepHasWords (codes "fault" ∷ port.now ∷ slot.now ∷ error.now ∷ []) result }
     ensures only { FindsSpelledStep (codes "fault" ∷ port.now ∷ slot.now ∷ error.now ∷ []) result }
@@ -116,7 +116,7 @@ fn scribble(port: &[u8], byte: &[u8]) -> Option<DeviceStep>
     Some(DeviceStep::Scribble(port, byte))
 }
 
-/// A step of which nothing but its port is told.
+/// A step with a port, and nothing more.
 fn of_port(name: &[u8], port: &[u8]) -> Option<DeviceStep>
     ensures found { FoundStepHasWords (name.now ∷ port.now ∷ []) result }
     ensures only { FindsSpelledStep (name.now ∷ port.now ∷ []) result }
@@ -140,7 +140,7 @@ fn of_port(name: &[u8], port: &[u8]) -> Option<DeviceStep>
     None
 }
 
-/// A step of which its port and one thing more is told.
+/// A step with a port and one thing more.
 fn of_port_and(name: &[u8], port: &[u8], last: &[u8]) -> Option<DeviceStep>
     ensures found { FoundStepHasWords (name.now ∷ port.now ∷ last.now ∷ []) result }
     ensures only { FindsSpelledStep (name.now ∷ port.now ∷ last.now ∷ []) result }
@@ -170,7 +170,7 @@ fn of_port_and(name: &[u8], port: &[u8], last: &[u8]) -> Option<DeviceStep>
     None
 }
 
-/// A step of which its port, a slot and one thing more is told.
+/// A step with a port, a slot and one thing more.
 fn of_slot_and(name: &[u8], port: &[u8], slot: &[u8], last: &[u8]) -> Option<DeviceStep>
     ensures found { FoundStepHasWords (name.now ∷ port.now ∷ slot.now ∷ last.now ∷ []) result }
     ensures only { FindsSpelledStep (name.now ∷ port.now ∷ slot.now ∷ last.now ∷ []) result }
@@ -187,7 +187,7 @@ fn of_slot_and(name: &[u8], port: &[u8], slot: &[u8], last: &[u8]) -> Option<Dev
     None
 }
 
-/// A step of which its port, a page and two things more are told.
+/// A step with a port, a page and two things more.
 fn of_page_and(
     name: &[u8],
     port: &[u8],
@@ -338,8 +338,8 @@ fn make_step(call: &mut Call<DeviceStep>, step: DeviceStep)
     *call = Call::Device(step);
 }
 
-/// Reads a step of the device, from the words after `dev`, in place of a call. Where that is a step already, no other
-/// call is written, which would have room for a request.
+/// Reads a step of the device, from the words after `dev`, in place of a call. If the call is a step already, no other
+/// call is written first, because that would need room for a request.
 #[inline(never)]
 fn of_device(words: &[&[u8]], call: &mut Call<DeviceStep>) -> Option<()>
     ensures found { FoundCallHasWords (codes "dev" ∷ map (λ w. w.now) words.now) result call.new }
@@ -354,7 +354,7 @@ fn of_device(words: &[&[u8]], call: &mut Call<DeviceStep>) -> Option<()>
     Some(())
 }
 
-/// A line that is one word. Where the call is a service already, none is written over it.
+/// A line that is one word. If the call is a service already, none is written over it.
 #[inline(never)]
 fn of_word(name: &[u8], call: &mut Call<DeviceStep>) -> Option<()>
     ensures found { FoundCallHasWords (name.now ∷ []) result call.new }

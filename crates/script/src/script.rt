@@ -25,9 +25,9 @@ fn is_empty_or_comment(text: &[u8]) -> bool
     matches!(text, [] | [b'#', ..])
 }
 
-/// Reads the call that a line of a script asks for, without its line feed, and says whether it asks for any: an empty
-/// line does not, nor one that begins with `#`. What stands in the place is any call then, and so it is where the line
-/// is bad.
+/// Reads the call that a line of a script asks for, without its line feed, and returns whether it asks for any. An
+/// empty line doesn't, nor does one that begins with `#`. In that case, and if the line is bad, the call in the place
+/// is any call.
 pub fn parse_script_line(text: &[u8], call: &mut CallBuffer) -> Result<bool, Misspelled>
     ensures ok { IfOk result (λ some. Asks text.now (call_if_asked some call.new)) }
     ensures bad { OnErr result (IsBadLine text.now) }
@@ -41,9 +41,9 @@ pub fn parse_script_line(text: &[u8], call: &mut CallBuffer) -> Result<bool, Mis
     }
 }
 
-/// Looks at the lines of a script: what stands between its line feeds, and what stands after the last one. The fault
-/// tells the first bad line; lines that ask nothing are counted, too. It takes no memory, and keeps no line:
-/// `parse_script_line` reads each again.
+/// Checks the lines of a script: what is between its line feeds, and what comes after the last one. The fault names the
+/// first bad line. Lines that ask nothing are counted, too. It takes no memory, and keeps no line: `parse_script_line`
+/// reads each again.
 pub fn check_script(text: &[u8]) -> Result<(), BadLine>
     ensures ok { OnOk result ((calls : List (Call DeviceStep)) × IsScript text.now calls) }
     ensures bad { IfErr result (λ bad. IsFirstBadLine text.now bad.0) }
@@ -63,7 +63,7 @@ pub fn check_script(text: &[u8]) -> Result<(), BadLine>
     Ok(())
 }
 
-/// Where the first line of a text ends with a line feed.
+/// Returns the place of the line feed that ends the first line of a text, if one does.
 fn line_feed(text: &[u8]) -> Option<usize>
     ensures { result ≡ position (λ b. b == 10) text.now }
 {
@@ -75,8 +75,8 @@ fn line_feed(text: &[u8]) -> Option<usize>
     None
 }
 
-/// The first line of a text, without its line feed, and what stands after it; `None` where no line feed ends it, so
-/// that it is the last.
+/// Returns the first line of a text, without its line feed, and what comes after it. It returns `None` if no line feed
+/// ends that line, which is the last then.
 pub fn first_line(text: &[u8]) -> (&[u8], Option<&[u8]>)
     ensures is_first_line { IsFirstLine text.now result.0.now result.1 }
     ensures rest_is_shorter { IfSome result.1 (λ after. length after.now < length text.now) }

@@ -23,7 +23,7 @@ const ALIKE: u32 = 32;
 
 impl<A: Inspectable, P: Peer> Followed<A, P> {
     /// Has a slot's command of the model fail as the peer's has, which shows this task file. It is noted as a queued
-    /// one where its bit of PxSACT was set.
+    /// one if its bit of PxSACT was set.
     fn fail(&mut self, port: Port, slot: u32, task_file: TaskFile)
         requires port { port.0 < 4 }
         requires slot { slot < 32 }
@@ -135,8 +135,8 @@ impl<A: Inspectable, P: Peer> Followed<A, P> {
         }
     }
 
-    /// Which slots of the peer's port are in flight once a command has failed there: if it goes on with others, those
-    /// are waited for, until so many looks have shown the same.
+    /// Which slots of the peer's port are in flight after a command has failed there. If the peer goes on with others,
+    /// it waits for those, until this many looks have shown the same.
     fn settled(&mut self, port: Port) -> Option<u32>
         ensures model { self.new.model ≡ self.old.model }
         ensures asks { GoesOnAsking P.makes P.fails self.old self.new }
@@ -426,7 +426,7 @@ impl<A: Inspectable, P: Peer> Followed<A, P> {
     }
 }
 
-/// Of the slots in flight, those that were taken, and aren't shown as issued any more; all where none was.
+/// Of the slots in flight, those that were taken, and aren't shown as issued any more; or all if none was taken.
 fn taken_or_all(in_flight: u32, issued: u32) -> u32
     ensures { result ≡ taken_or_all_of in_flight issued }
 {
