@@ -82,6 +82,7 @@ def parts(processors):
     yield Part("compile-fail", ["scripts/compile-fail.sh"], set(), 20, 1, 2)
     yield Part("names", ["scripts/names.py"])
     yield Part("layout", ["scripts/layout.py"])
+    yield Part("format", ["scripts/format.py"])
     yield Part("crates", ["scripts/crates_table.py"])
     yield Part("believed", ["scripts/believed.py", "--check"])
     yield Part("excerpts", ["scripts/excerpts.py"])
