@@ -1,4 +1,4 @@
-//! Where modelled disks keep their sectors, and the pages by which they tell of themselves.
+//! Keeps the sectors of modelled disks, and makes the pages by which they describe themselves.
 //!
 //! A store in memory tells its sectors, so that claims on bytes hold over it; one over a file tells
 //! none. A store tells of calls that failed on a sector that is there (`failures`), and of no

@@ -1,4 +1,4 @@
-//! Tests of the server, its boots and the play of scripts, where no script shows it.
+//! Tests of the server, its boots and the play of scripts, for what no script can show.
 //!
 //! Which accesses are made, when waits end, what lying disks are found to be, and what comes of an
 //! output or a disk that fails. `histories` has functions by which histories of the server are
