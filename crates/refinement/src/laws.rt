@@ -56,7 +56,7 @@ pub fn law_client_store_is_machine_store()
     law_prerequisites();
 }
 
-/// A client's load from its frame is the machine's: it is told the bytes that the machine's frame holds.
+/// A client's load from its frame is the machine's: it gets the bytes that the machine's frame holds.
 pub fn law_client_load_is_machine_load()
     ensures { (k : DriverState) (m : Machine) (client : ClientId) (frame : Frame) (offset : ℕ) (bytes : List ℕ)
         (new : Device)
@@ -83,10 +83,9 @@ pub fn law_backing_composes()
         → TapeBacksSteps mid new (after m early) late → TapeBacksSteps old new m (late ++ early) }
 {}
 
-/// A driver's moves compose in one form. It goes by no step, where it knows the same device, and by one fragment after
-/// another. So it does by a step of its own; by what the device makes alone; by an access that ends with a step of its
-/// own; and by what any access or part of a call adds. And what goes so from each machine that agrees is a part of a
-/// call. The machine that is gone to is reached.
+/// A driver's moves compose in one form: no step, when it knows the same device; one fragment after another; a step of
+/// its own; what the device makes alone; an access that ends with a step of its own; and what any access or part of a
+/// call adds. What goes so from each machine that agrees is a part of a call. The machine that it leads to is reached.
 pub fn law_driver_advances_compose()
     ensures reflexive { (k : DriverState) (m : Machine) → DriverRelation m k → DriverAdvances k m [] k }
     ensures transitive { (a b c : DriverState) (m : Machine) (early late : List Step) → DriverAdvances a m early b
@@ -196,8 +195,8 @@ pub fn law_slotless_request_waiting_again_agrees()
         → DriverRelation (after_step m (WaitAgain e)) (record k { awaiting_disposition = later }) }
 {}
 
-/// The frames of kept requests may be given back where no slot serves one of them. Those that were parked needn't be so
-/// any more.
+/// The frames of kept requests may be given back if no slot serves one of them. Those that were parked needn't be
+/// parked any more.
 pub fn law_releasing_kept_frames_agrees()
     ensures { (k : DriverState) (m : Machine) (later : ℕ → List RequestId) → IsReachable m → DriverRelation m k
         → ((e : Pending) → Contains m.kept e → HasNoSlot k.slot_states e.request.id)
@@ -211,9 +210,9 @@ pub fn law_waiting_has_no_slot()
         → Contains m.book e → e.issued ≡ false → HasNoSlot uses e.request.id }
 {}
 
-/// Where no kept request is on the port, each slot that serves a request serves one of those that are issued there, and
-/// no two the same. So no more serve than are issued; and just as many, where each that is issued has a slot, and these
-/// are below n.
+/// If no kept request is on the port, each slot that serves a request serves one of those that are issued there, and no
+/// two serve the same. So no more slots serve than requests are issued. There are just as many if each issued request
+/// has a slot, and these are below n.
 pub fn law_no_more_slots_serve_than_requests_issued()
     ensures no_more_serve { (uses : SlotStates) (m : Machine) (d : Device) → IsReachable m → StateRelation uses m d
         → (port : Port)
@@ -229,8 +228,8 @@ pub fn law_no_more_slots_serve_than_requests_issued()
         → serving_count uses port.0 n ≡ issued_count (map unanswered m.book) port }
 {}
 
-/// So a request that is due finds a free slot, where slot 0 has no command of the driver's own: a plain one slot 0, and
-/// a queued one some slot that is usable.
+/// So a request that is due finds a free slot, if slot 0 has no command of the driver's own: a plain one finds slot 0,
+/// and a queued one some slot that is usable.
 pub fn law_due_finds_free_slot()
     ensures plain { (uses : SlotStates) (m : Machine) (d : Device) → IsReachable m → StateRelation uses m d
         → (mode : QueueMode) (e : Pending) → IsEnabled m (Issue mode e)
@@ -265,8 +264,8 @@ pub fn law_tables_and_idle_scratch_are_kept()
         → (r : Reg) (v : ℕ) → Writes r v old new → KeepsTablesAndScratchUnlessOwn uses old new }
 {}
 
-/// A page comes only where slot 0 of its port has that command of the driver's own, which isn't over; and one at most
-/// comes for it, whatever the device does, also while a reset is pending. So it is over each access.
+/// A page comes only if slot 0 of its port has that command of the driver's own, and the command hasn't ended. At most
+/// one page comes for it, whatever the device does, even while a reset is pending. The same holds over each access.
 pub fn law_pages_come_only_for_own_commands()
     ensures steps { (uses : SlotStates) (m : Machine) (old new : Device) (port : ℕ) (o : Operation)
         (gained : List Entry)
@@ -292,8 +291,8 @@ pub fn law_pages_come_only_for_own_commands()
     law_prerequisites();
 }
 
-/// So the bytes of a slot that say a command go on saying it, and a trim's block stays where slot 0 has no command of
-/// the driver's own. A store beside them leaves them, too; and one for a free slot is beside what belongs to a slot in
+/// So the bytes of a slot that mean a command still mean it, and a trim's block stays if slot 0 has no command of the
+/// driver's own. A store beside them leaves them, too, and a store for a free slot is beside what belongs to a slot in
 /// use.
 pub fn law_stored_commands_stay()
     ensures told { (uses : SlotStates) (old new : Device) → KeepsTablesAndScratchUnlessOwn uses old new
@@ -330,10 +329,10 @@ pub fn law_enabled_issues_stay()
         → (own : List Step) → All IsIssueStep own → AllEnabled m own → AllEnabled (after m steps) own }
 {}
 
-/// The device's own steps leave the machine's grants and owners, its loans and its next id; and the same requests are
-/// unanswered and kept, in the same order, each as far as it was, or further. So what is due is the same. A frame that
-/// isn't lent to a request that the device may move keeps its bytes. And a port of which no request is kept has none
-/// kept after them.
+/// The device's own steps keep the machine's grants and owners, its loans and its next id. The same requests are
+/// unanswered and kept, in the same order, each as far as it was, or further. So what is due is the same. A frame keeps
+/// its bytes if it isn't lent to a request that the device may move. If no request of a port is kept, none is kept
+/// after them.
 pub fn law_requests_only_advance_over_device_steps()
     ensures spares { (m : Machine) (steps : List Step) → AllByDevice steps
         → KeepsLoansAndPendingsOnlyAdvance m (after m steps) }
@@ -356,7 +355,7 @@ pub fn law_requests_only_advance_over_device_steps()
         → NoneKept (after m steps) port }
 {}
 
-/// Where entries of the tape tell of the device's steps among these, one of the entries is of a disk of the port that
+/// Let entries of the tape be the device's steps among these. Then one of the entries is of a disk of the port that
 /// goes or comes exactly if one of the steps takes the port's disk out or puts one in.
 pub fn law_plug_events_match_disk_changes()
     ensures steps { (port : Port) (m : Machine) (gained : List Entry) (steps : List Step)
@@ -389,8 +388,8 @@ pub fn law_device_and_faithful_step_lists_compose()
     law_step_lists_compose();
 }
 
-/// A bit of PxSACT that is clear stays so whatever the device does, over readings, and over writes but for one of
-/// PxSACT that sets it.
+/// A bit of PxSACT that is clear stays clear, whatever the device does, over readings, and over all writes except one
+/// of PxSACT that sets it.
 pub fn law_clear_sact_bits_stay()
     ensures device { (port slot : ℕ) (old new : Device) → Steps old new → (old.port port).sact slot ≡ false
         → (new.port port).sact slot ≡ false }
@@ -442,8 +441,8 @@ pub fn law_writes_but_ci_stay_permitted()
         → IsStable (KeepsSlotStates uses r v) d }
 {}
 
-/// Where a port's engine stands its command list may be put into its place; and where it receives no FISes, the
-/// received FIS area may.
+/// If a port's engine stands, its command list may be put into its place. If it receives no FISes, the received FIS
+/// area may.
 pub fn law_clb_fb_writes_are_permitted_if_stopped()
     ensures list { (d : Device) (port : Port) → IsOn d → HasPort d port.0 → (d.port port.0).st ≡ false
         → (d.port port.0).cr ≡ false → command_list_address port.0 + LIST_BYTES ≤ d.memory_size
@@ -457,8 +456,8 @@ pub fn law_clb_fb_writes_are_permitted_if_stopped()
         → (d.port port.0).fr ≡ false → IsStable (MayWrite (Px port Fbu) 0) d }
 {}
 
-/// PxCMD may be written as it was last read, but for ST and FRE: with ST set where the port may start; with ST clear
-/// and FRE as it is; with FRE set and ST as it is where the port may receive; and with FRE and ST clear where its
+/// PxCMD may be written as it was last read, with other values of ST and FRE: with ST set if the port may start; with
+/// ST clear and FRE as it is; with FRE set and ST as it is if the port may receive; and with FRE and ST clear if its
 /// engine stands.
 pub fn law_pxcmd_st_and_fre_writes_are_permitted()
     ensures start { (port : Port) (was v : ℕ) (d : Device) → IsOn d → HasPort d port.0 → (d.port port.0).notes.last_cmd
@@ -494,7 +493,7 @@ pub fn law_own_issuing_is_permitted()
     law_prerequisites();
 }
 
-/// A device that is taken over idle agrees with a machine that has nothing in it, where both have the same disks and
+/// A device that is taken over idle agrees with a machine that has nothing in it, if both have the same disks and
 /// client frames, and the machine has put aside what these disks may come back with.
 pub fn law_idle_device_agrees_with_initial_machine()
     ensures { (m : Machine) (d : Device) → IsInitial m → IsIdle d → ((port : ℕ) → IsDiskOf m (d.port port) port)

@@ -34,11 +34,11 @@ pub fn law_cr_read_clear_means_engine_stopped()
     law_prerequisites();
 }
 
-/// HR of GHC begins a reset of the adapter, and is read 1 while it is pending. Once it is read 0, each port is as the
-/// reset left it, but for what the device did since, which alone made steps before it, too: its engines stand, no bit
-/// of PxIS is set, and what comes since sets N or X. Its engines stand on, whatever the device does, over readings,
-/// and over each write that may be made and sets neither its ST nor its FRE. A port is after a reset exactly if it is
-/// idle.
+/// HR of GHC begins a reset of the adapter, and is read 1 while the reset is pending. After it is read 0, each port is
+/// as the reset left it, except for what the device did since; only the device made steps before that, too. Its engines
+/// stand, no bit of PxIS is set, and what comes since sets N or X. Its engines go on standing, whatever the device
+/// does, over readings, and over each write that may be made and sets neither its ST nor its FRE. A port is as after a
+/// reset exactly if it is idle.
 pub fn law_hr_read_clear_means_ports_are_quiescent()
     ensures begins { (v : ℕ) (old new : Device) → bit v 0 ≡ true → Writes Ghc v old new → new.hr ≡ true }
     ensures hr_and_ae_are_read { (v : ℕ) (old new : Device) → Reads Ghc v old new → (new.hr ≡ bit v 0)
@@ -59,8 +59,8 @@ pub fn law_hr_read_clear_means_ports_are_quiescent()
     law_prerequisites();
 }
 
-/// A request of the book that has ended is issued still. One that may move and has ended leaves its slot clear, also
-/// where ST is 0. And on a running port a slot that serves a request and whose bits are both clear has ended it.
+/// A request of the book that has ended is still issued. One that may move and has ended leaves its slot clear, even if
+/// ST is 0. On a running port a slot that serves a request and whose bits are both clear has ended it.
 pub fn law_slot_is_clear_iff_ended_while_st_set()
     ensures issued { (m : Machine) (e : Pending) → IsReachable m → Contains m.book e → e.ended ≡ true
         → e.issued ≡ true }
@@ -135,9 +135,9 @@ pub fn law_ci_read_clear_means_page_has_come()
     law_prerequisites();
 }
 
-/// Where the commands of a request are over, the device uses none of the frames that are lent to it any more, whatever
-/// it does; so they may leave the loan. (One slot alone serves a request.) Nor does it use a client's frame that is
-/// lent to nobody, nor any frame where it is idle. The bytes of such a frame may be loaded and stored.
+/// If the commands of a request have ended, the device uses none of the frames that are lent to it any more, whatever
+/// it does, so they may leave the loan. (Only one slot serves a request.) Nor does it use a client's frame that is lent
+/// to nobody, or any frame while it is idle. The bytes of such a frame may be loaded and stored.
 pub fn law_device_never_owns_frames_out_of_use()
     ensures lent { (uses : SlotStates) (m : Machine) (d : Device) (frame : Frame) (id : RequestId) → IsReachable m
         → StateRelation uses m d → m.lent frame ≡ Some id → CommandsAreOver uses d id
@@ -155,7 +155,7 @@ pub fn law_device_never_owns_frames_out_of_use()
 {}
 
 /// While no reset is pending, a healthy port on which nothing goes wrong stays healthy, whatever else the device does,
-/// over readings, and over writes that neither clear ST nor write SCTL. There is one.
+/// over readings, and over writes that neither clear ST nor write SCTL. There is such a port.
 pub fn law_running_well_stays_if_undisturbed()
     ensures steps { (port : ℕ) (old new : Device) → old.hr ≡ false → Steps old new → Undisturbed port old new
         → RunsWell (old.port port) → RunsWell (new.port port) }
@@ -170,9 +170,9 @@ pub fn law_running_well_stays_if_undisturbed()
 }
 
 /// While no reset is pending, whatever goes wrong on a port sets a bit of PxIS or of PxSERR, which stays until the
-/// driver clears it: where none is set, none was, and nothing went wrong. PxIS alone tells of each, and a healthy port
-/// has none; so where it is read with none, or with none of its own and then PxSERR with none, a port that was healthy
-/// is so still when PxIS is read.
+/// driver clears it. If none is set, none was, and nothing went wrong. PxIS alone shows each of them, and a healthy
+/// port has none. So if PxIS is read with none, or with none of its own and then PxSERR with none, a port that was
+/// healthy still is when PxIS is read.
 pub fn law_no_trouble_shown_means_undisturbed()
     ensures steps { (port : ℕ) (old new : Device) → old.hr ≡ false → Steps old new → ShowsNoTrouble (new.port port)
         → ShowsNoTrouble (old.port port) × Undisturbed port old new }
@@ -204,9 +204,8 @@ pub fn law_no_trouble_shown_means_undisturbed()
     law_prerequisites();
 }
 
-/// And each error sets bits of its own, which stay until PxIS is written, while no reset is pending: where TFES, bit
-/// 30, is clear, it was, and no fault of the port came; and where 27 to 29 are clear, they were, and no fatal error
-/// came.
+/// Each error sets bits of its own, which stay until PxIS is written, while no reset is pending. If TFES, bit 30, is
+/// clear, it was, and no fault of the port came. If 27 to 29 are clear, they were, and no fatal error came.
 pub fn law_clear_pxis_error_bits_mean_no_error()
     ensures fault { (port : ℕ) (old new : Device) → old.hr ≡ false → Steps old new → (new.port port).is 30 ≡ false
         → ((old.port port).is 30 ≡ false) × NoFaults port old new }
@@ -224,11 +223,11 @@ pub fn law_clear_pxis_error_bits_mean_no_error()
     law_step_lists_keep_what_steps_keep();
 }
 
-/// From COMRESET or a reset of the adapter on, while the engine stands and the tape tells of no disk of the port that
-/// comes: where PxSSTS.DET is read 3, the link is up. Whatever the device does, also over a reset that ends, and over
-/// each access that doesn't set ST. So it is where no device shows. While no reset is pending, a link that is up stays
-/// so, too, but for a write of PxSCTL, where no disk goes or comes; and whether the engine stands or runs, where the
-/// tape tells of no disturbance of the port.
+/// Consider the time from COMRESET or a reset of the adapter on, while the engine stands and the tape has no disk of
+/// the port that comes. If PxSSTS.DET is read 3, the link is up. This holds whatever the device does, even over a reset
+/// that finishes, and over each access that doesn't set ST. It also holds while no device shows. While no reset is
+/// pending, a link that is up stays up, except over a write of PxSCTL, if no disk goes or comes. Whether the engine
+/// stands or runs, it stays up if the tape has no disturbance of the port.
 pub fn law_det_3_means_up_for_start_if_no_disk_came()
     ensures comreset { (port : Port) (v : ℕ) (old new : Device) → (old.port port.0).cr ≡ false → v % 16 ≡ 1
         → Writes (Px port Sctl) v old new → IsStoppedAndUpForStartIfDet3 (new.port port.0) }
@@ -261,12 +260,12 @@ pub fn law_det_3_means_up_for_start_if_no_disk_came()
     law_prerequisites();
 }
 
-/// ST is set while the engine stands and the link is up, no reset is pending, and the tape tells of no disk that goes
-/// or comes: the port is started. So it stays, unless the tape tells of a disturbance of the port, whatever else the
-/// device does, and over each access that neither clears ST nor writes PxSCTL. Where no bit tells of trouble, it runs
-/// well; and so it does where PxIS is read with none. So where ST is set with the link up, and PxIS is read with no
-/// trouble right after that, the port runs well, whatever the tape tells. A port that was started has its link up,
-/// unless COMRESET is being sent: so it may be stopped and started again.
+/// If ST is set while the engine stands and the link is up, no reset is pending, and the tape has no disk that goes or
+/// comes, the port is started. It stays so, unless the tape has a disturbance of the port, whatever else the device
+/// does, and over each access that neither clears ST nor writes PxSCTL. If no bit shows trouble, it runs well, and it
+/// does if PxIS is read with none. So if ST is set with the link up, and PxIS is read with no trouble right after that,
+/// the port runs well, whatever the tape has. A port that was started has its link up, unless COMRESET is being sent.
+/// So it may be stopped and started again.
 pub fn law_started_port_without_trouble_runs_well()
     ensures starts { (port : Port) (v : ℕ) (old new : Device) → old.hr ≡ false → (old.port port.0).st ≡ false
         → (old.port port.0).cr ≡ false → bit v 0 ≡ true → Writes (Px port Cmd) v old new
@@ -293,18 +292,18 @@ pub fn law_started_port_without_trouble_runs_well()
 }
 
 /// There is a boot for these laws: COMRESET, the link's coming up, what clears the port's errors, the start, and
-/// readings that tell so; and each write of it is permitted when it is made.
+/// readings that show these. Each write of it is permitted when it is made.
 pub fn law_boot_example_runs_well()
     ensures { BootWitness }
 {
     law_prerequisites();
 }
 
-/// While no reset is pending and no link of the port is due, as on a port that runs: each bit that tells of trouble and
-/// is clear stays so, unless the tape tells of a disturbance of the port, whatever else the device does, and over each
-/// access. So where none is set, none is then. Those of PxIS rise with their own errors alone, whatever the link does,
-/// and also where a reset is pending or ends: 27 to 29 only where the tape tells of a fatal error of the port, and 30
-/// only where it tells of a fault of it.
+/// Consider a port with no link due, as one that runs, while no reset is pending. Each bit that shows trouble and is
+/// clear stays clear, unless the tape has a disturbance of the port, whatever else the device does, and over each
+/// access. So if none is set, none is set then. Those of PxIS rise only with their own errors, whatever the link does,
+/// and even if a reset is pending or finishes: 27 to 29 only if the tape has a fatal error of the port, and 30 only if
+/// it has a fault of it.
 pub fn law_clear_error_bits_stay_clear()
     ensures steps { (port : ℕ) (old new : Device) → old.hr ≡ false → (old.port port).link_due ≡ false
         → Undisturbed port old new → Steps old new → ErrorBitsStayClear (old.port port) (new.port port) }
@@ -319,8 +318,9 @@ pub fn law_clear_error_bits_stay_clear()
     law_prerequisites();
 }
 
-/// What the tape tells nothing of in two parts of a call it tells nothing of in the whole, and the other way round: all
-/// that goes wrong with a port, its disks that go or come, its disks that come, its fatal errors, and its faults.
+/// If the tape of neither of two parts of a call has such an entry, the tape of the whole has none, and the other way
+/// round. This holds for all that goes wrong with a port, its disks that go or come, its disks that come, its fatal
+/// errors, and its faults.
 pub fn law_tape_absence_composes()
     ensures undisturbed { IsCompositional Undisturbed }
     ensures plugs { IsCompositional NoPlugEvents }
@@ -329,8 +329,8 @@ pub fn law_tape_absence_composes()
     ensures fails { IsCompositional NoFaults }
 {}
 
-/// Where nothing goes wrong with a port, the tape tells of no disk that goes or comes, of no fatal error and of no
-/// fault; and where none goes or comes, none comes.
+/// If nothing goes wrong with a port, the tape has no disk that goes or comes, no fatal error and no fault. If none
+/// goes or comes, none comes.
 pub fn law_undisturbed_has_no_error_or_plug()
     ensures plugs { (port : ℕ) (old new : Device) → Undisturbed port old new → NoPlugEvents port old new }
     ensures comes { (port : ℕ) (old new : Device) → NoPlugEvents port old new → NoDiskComes port old new }
@@ -339,8 +339,9 @@ pub fn law_undisturbed_has_no_error_or_plug()
 {}
 
 /// What the adapter is stays over each access: its memory's size, its capabilities, its ports, and whether its disks
-/// tell their sectors; and so over one fragment after another. One that is switched on, with no reset pending, stays so
-/// over each access but a write of GHC that clears AE or sets HR, and over any that don't write it.
+/// have specified contents. It also stays over one fragment after another. An adapter that is on, with no reset
+/// pending, stays so over each access except a write of GHC that clears AE or sets HR, and over any accesses that don't
+/// write GHC.
 pub fn law_adapter_stays_same_and_on_until_ghc_write()
     ensures access_keeps_adapter { (access : Access) (old new : Device) → Does access old new → SameAdapter old new }
     ensures adapter_reflexive { (d : Device) → SameAdapter d d }
@@ -403,10 +404,10 @@ pub fn law_writes_set_port_controls()
     law_prerequisites();
 }
 
-/// While no reset is pending, N of PxSERR tells each disk that goes or comes, until PxSERR is written: where it is 0
-/// after the device's steps or an access, or is read 0, no disk of the port went or came, and it was 0 before. A disk
-/// that goes and comes between the link's coming up and the clearing of PxSERR sets N alone, which the link may have
-/// set, too: that is found only where N is read 0 before it is cleared.
+/// While no reset is pending, N of PxSERR shows each disk that goes or comes, until PxSERR is written. If N is 0 after
+/// the device's steps or an access, or is read 0, no disk of the port went or came, and it was 0 before. A disk that
+/// goes and comes between the link's coming up and the clearing of PxSERR sets only N, which the link may have set,
+/// too. That is found only if N is read 0 before it is cleared.
 pub fn law_serr_n_clear_means_no_plug_event()
     ensures steps { (port : ℕ) (old new : Device) → old.hr ≡ false → Steps old new → (new.port port).serr_n ≡ false
         → ((old.port port).serr_n ≡ false) × NoPlugEvents port old new }
@@ -420,8 +421,8 @@ pub fn law_serr_n_clear_means_no_plug_event()
     law_prerequisites();
 }
 
-/// Where the tape tells of no disk of the port that goes or comes, the same disk is in, or out, whatever else the
-/// device does, also over a reset of the adapter that ends, and over each access.
+/// If the tape has no disk of the port that goes or comes, the same disk is in, or out, whatever else the device does,
+/// even over a reset of the adapter that finishes, and over each access.
 pub fn law_disk_stays_without_plug_events()
     ensures steps { (port : ℕ) (old new : Device) → Steps old new → NoPlugEvents port old new
         → KeepsDisk (old.port port) (new.port port) }
@@ -431,8 +432,8 @@ pub fn law_disk_stays_without_plug_events()
     law_prerequisites();
 }
 
-/// Where the tape tells of no disk of the port that goes or comes, and no reset is pending, the port's link stays as it
-/// was, or one that was due has come up: whatever else the device does, and over each access but a write of PxSCTL.
+/// If the tape has no disk of the port that goes or comes, and no reset is pending, the port's link stays as it was, or
+/// one that was due has come up, whatever else the device does, and over each access except a write of PxSCTL.
 pub fn law_link_is_same_or_comes_up_without_plugs()
     ensures steps { (port : ℕ) (old new : Device) → old.hr ≡ false → Steps old new → NoPlugEvents port old new
         → LinkIsSameOrComesUp (old.port port) (new.port port) }
@@ -456,12 +457,11 @@ pub fn law_det_3_if_disk_present_stays()
     law_prerequisites();
 }
 
-/// The faults of a port since its ST was set stand on the tape, and the task file shows the last one: so it stays,
-/// whatever the device does, over readings, and over each write that may be made, where ST is set on a port that is
-/// clean to start alone, and PxSCTL is written while the engine stands alone: while no reset is pending, what is asked
-/// of the write stays so until it is made, and nothing is asked where commands are issued. Nor is it of any access that
-/// writes neither PxCMD nor PxSCTL of the port. So it is while ST is 0, on a port that runs, and on one that has
-/// failed.
+/// The tape has the faults of a port since its ST was set, and the task file shows the last one. This stays so,
+/// whatever the device does, over readings, and over each write that may be made, if ST is set only on a port that is
+/// clean to start, and PxSCTL is written only while the engine stands. While no reset is pending, what a write needs
+/// stays true until it is made, and a write that issues commands needs nothing. Nor does any access that writes neither
+/// PxCMD nor PxSCTL of the port. It is so while ST is 0, on a port that runs, and on one that has failed.
 pub fn law_tape_and_tfd_keep_faults_since_st()
     ensures steps { (port : ℕ) (old new : Device) → Steps old new → RecordsFaultsIfSt old.tape (old.port port) port
         → RecordsFaultsIfSt new.tape (new.port port) port }
@@ -484,10 +484,10 @@ pub fn law_tape_and_tfd_keep_faults_since_st()
         × RecordsFaults new.tape (new.port 0) 0 }
 {}
 
-/// From COMRESET until the link comes up the engine stands, and the task file shows DRQ: COMRESET begins it, and so
-/// does a reset of the adapter; and so it stays, whatever the device does, over readings, over each write that may be
-/// made and keeps the record of faults, and over each access that writes neither PxCMD nor PxSCTL of the port. So it is
-/// where no link is due and PxSCTL.DET isn't 1, as on a port that runs.
+/// From COMRESET until the link comes up the engine stands, and the task file shows DRQ. COMRESET begins this, and so
+/// does a reset of the adapter. It stays so, whatever the device does, over readings, over each write that may be made
+/// and keeps the record of faults, and over each access that writes neither PxCMD nor PxSCTL of the port. It also holds
+/// if no link is due and PxSCTL.DET isn't 1, as on a port that runs.
 pub fn law_drq_is_shown_while_link_awaited()
     ensures begins { (port : Port) (v : ℕ) (old new : Device) → (old.port port.0).cr ≡ false → v % 16 ≡ 1
         → Writes (Px port Sctl) v old new → WhileLinkAwaitedCrIsClearAndDrqSet (new.port port.0) }
@@ -532,10 +532,10 @@ pub fn law_tfes_and_drq_clear_mean_clean_to_start()
     law_prerequisites();
 }
 
-/// While no reset is pending: where TFES of PxIS is read 1 of a running port, a fault has halted it, and so it stays
+/// While no reset is pending: if TFES of PxIS is read 1 of a running port, a fault has halted it, and it stays halted
 /// while ST is 1, whatever the device does, over readings, and over writes, PxIS among them. TFD then shows status and
-/// error of the port's last fault since ST was set. And where the machine agrees with the device, the slot of a fault
-/// that the task file shows, which is still in use, isn't a free one.
+/// error of the port's last fault since ST was set. If the machine agrees with the device, the slot of a fault that the
+/// task file shows, which is still in use, isn't a free one.
 pub fn law_tfes_read_set_means_fault_halts_port()
     ensures told { (port : Port) (v : ℕ) (old new : Device) → old.hr ≡ false → (old.port port.0).st ≡ true
         → RecordsFaultsIfSt old.tape (old.port port.0) port.0 → Reads (Px port Is) v old new → bit v 30 ≡ true
@@ -580,8 +580,8 @@ pub fn law_set_pxis_serr_nx_bits_stay_until_written()
 }
 
 /// While no reset is pending and no link of the port is due, N of PxSERR rises only for a disk that goes or comes, and
-/// X only for one that comes; and where PxSSTS.DET is 3 and no disk has come, it was 3 before, and none has gone:
-/// whatever the device does, and over each access, and over one fragment after another. No link is due then either, but
+/// X only for one that comes. If PxSSTS.DET is 3 and no disk has come, it was 3 before, and none has gone. This holds
+/// whatever the device does, over each access, and over one fragment after another. No link is due then either, except
 /// after a write of PxSCTL.
 pub fn law_serr_nx_rise_only_by_plugs_if_no_link_due()
     ensures steps { (port : ℕ) (old new : Device) → old.hr ≡ false → (old.port port).link_due ≡ false → Steps old new
@@ -601,9 +601,9 @@ pub fn law_serr_nx_rise_only_by_plugs_if_no_link_due()
     law_prerequisites();
 }
 
-/// While a port's engine stands, no move, clearing, end, fault or fatal error of the port comes; and where no disk
-/// comes either, the disk holds what it did: whatever the device does, also over a reset of the adapter that ends, and
-/// over each access, also the write of ST itself.
+/// While a port's engine stands, no move, clearing, end, fault or fatal error of the port comes. If no disk comes
+/// either, the disk holds what it did. This holds whatever the device does, even over a reset of the adapter that
+/// finishes, and over each access, even the write of ST itself.
 pub fn law_stopped_engine_records_no_work()
     ensures steps { (port : ℕ) (old new : Device) (gained : List Entry) → (old.port port).cr ≡ false → Steps old new
         → new.tape ≡ old.tape ++ gained → All (λ e. IsEngineWorkOrErrorOf port e → ⊥) gained }
@@ -631,7 +631,7 @@ pub fn law_sctl_det_1_sends_comreset()
     law_prerequisites();
 }
 
-/// A write of PxSERR clears N and X where it has their bits, 16 and 26, and one of PxIS clears each bit that it has.
+/// A write of PxSERR clears N and X if it has their bits, 16 and 26, and a write of PxIS clears each bit that it has.
 pub fn law_writing_ones_clears_pxis_and_serr()
     ensures errors { (port : Port) (v : ℕ) (old new : Device) → Writes (Px port Serr) v old new
         → (bit v 16 ≡ true → (new.port port.0).serr_n ≡ false) × (bit v 26 ≡ true → (new.port port.0).serr_x ≡ false) }
@@ -656,9 +656,8 @@ pub fn law_port_register_read_is_noted_as_last()
     law_prerequisites();
 }
 
-/// What the readings of a port noted stays, whatever the device does, and over each access: each value but for a
-/// reading of its register, and so its count; those of the link, of busy and of the command also but for a write of
-/// PxSCTL.
+/// What the readings of a port noted stays, whatever the device does, and over each access: each value, and its count,
+/// changes only by a reading of its register; those of the link, of busy and of the command also by a write of PxSCTL.
 pub fn law_noted_reads_change_only_by_read_or_sctl()
     ensures steps { (port : ℕ) (old new : Device) → Steps old new → (new.port port).notes ≡ (old.port port).notes }
     ensures access { (port : Port) (access : Access) (old new : Device) → Does access old new

@@ -54,7 +54,7 @@ pub fn law_readied_may_be_issued()
 }
 
 /// What one bit of a write does, with no step of the device. A bit of PxSACT arms its free slot on a running port,
-/// which is no step of the machine; and one of PxCI is its request's issue, where the slot is prepared.
+/// which is no step of the machine. A bit of PxCI is its request's issue, if the slot is prepared.
 pub fn law_one_bit_arms_or_issues_slot()
     ensures arms { (k : DriverState) (m : Machine) (port : Port) (slot v : ℕ) → DriverRelation m k
         → k.slot_states port.0 slot ≡ Free → (k.device.port port.0).st ≡ true → IsSoleBit slot v

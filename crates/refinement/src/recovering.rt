@@ -10,9 +10,9 @@ ghost use Rattle.refinement.specs.{StartedPort.{IsUpForStart, IsStarted, WritesC
 
 use super::prerequisites::law_prerequisites;
 
-/// While no reset is pending, a link that is up stays so where the tape tells of no disk that goes or comes, whatever
-/// else the device does, faults and fatal errors among it, and over each access but a write of PxSCTL. So it is of a
-/// port that was started, and of one whose link came up.
+/// While no reset is pending, a link that is up stays up if the tape has no disk that goes or comes, whatever else the
+/// device does, faults and fatal errors included, and over each access except a write of PxSCTL. This holds for a port
+/// that was started, and for one whose link came up.
 pub fn law_link_stays_online()
     ensures steps { (port : ℕ) (old new : Device) → old.hr ≡ false → NoPlugEvents port old new → Steps old new
         → IsLinked (old.port port) → IsLinked (new.port port) }
@@ -25,11 +25,11 @@ pub fn law_link_stays_online()
     law_prerequisites();
 }
 
-/// Where the machine agrees with the device, a port that works on plain commands alone goes on so, whatever the device
-/// does, also over a reset that ends, and over each access but a write of PxSACT: faults halt it in a way that ends
-/// once ST is set. A port that runs without a halt does so exactly if no bit of PxSACT is set. And where its link is
-/// there, it is up for a start: so where ST is set then, and PxIS is read with no trouble right after that, the port
-/// runs well.
+/// If the machine agrees with the device, a port that works only on plain commands goes on so, whatever the device
+/// does, even over a reset that finishes, and over each access except a write of PxSACT: faults halt it in a way that
+/// ends when ST is set. A port that runs without a halt does so exactly if no bit of PxSACT is set. If its link is
+/// there, it is up for a start. So if ST is set then, and PxIS is read with no trouble right after that, the port runs
+/// well.
 pub fn law_port_stays_unqueued_until_sact_written()
     ensures steps { StaysOverStepsIfMachineAgrees WorksOnUnqueuedCommandsOnly }
     ensures access { StaysUnlessWrittenIfMachineAgrees Sact WorksOnUnqueuedCommandsOnly }
@@ -47,9 +47,9 @@ pub fn law_port_stays_unqueued_until_sact_written()
     law_prerequisites();
 }
 
-/// While ST is one, READ LOG EXT isn't awaited, and a queued command is taken if one has halted the port: so it stays
-/// where the machine agrees with the device, whatever the device does, over each access but a write of PxCMD, and over
-/// acts without one. So it is without a halt, and of a port that works on plain commands alone.
+/// While ST is one, READ LOG EXT isn't awaited, and a queued command is taken if one has halted the port. This stays so
+/// if the machine agrees with the device, whatever the device does, over each access except a write of PxCMD, and over
+/// acts without one. It holds without a halt, and for a port that works only on plain commands.
 pub fn law_halt_fits_taken_until_pxcmd_written()
     ensures steps { StaysOverStepsIfMachineAgrees HaltFitsTakenCommandsIfSt }
     ensures access { StaysUnlessWrittenIfMachineAgrees Cmd HaltFitsTakenCommandsIfSt }
@@ -64,9 +64,9 @@ pub fn law_halt_fits_taken_until_pxcmd_written()
     law_prerequisites();
 }
 
-/// ST is set while the engine stands and the link is up: the port runs, though a queued fault may halt it still. It
-/// runs on where the tape tells of no fatal error of the port and of no disk that goes or comes, whatever else the
-/// device does, and over each access that neither clears ST nor writes PxSCTL. It is started where no fault halts it.
+/// If ST is set while the engine stands and the link is up, the port runs, though a queued fault may still halt it. It
+/// runs on if the tape has no fatal error of the port and no disk that goes or comes, whatever else the device does,
+/// and over each access that neither clears ST nor writes PxSCTL. It is started if no fault halts it.
 pub fn law_port_runs_on_without_fatal_or_plug()
     ensures starts { (port : Port) (v : ℕ) (old new : Device) → old.hr ≡ false → (old.port port.0).st ≡ false
         → (old.port port.0).cr ≡ false → bit v 0 ≡ true → NoPlugEvents port.0 old new → Writes (Px port Cmd) v old new
@@ -83,10 +83,10 @@ pub fn law_port_runs_on_without_fatal_or_plug()
     law_prerequisites();
 }
 
-/// The write of PxCI issues a command of the driver's own on a port with no other: its end ends a halt. So it stays,
-/// whatever the device does, and over each access that doesn't clear ST, doesn't write PxSACT and leaves no reset
-/// pending. Once PxCI is read with bit 0 clear, no fault halts the port; and where PxIS is read then with no trouble,
-/// it runs well.
+/// The write of PxCI issues a command of the driver's own on a port with no other, and its end ends a halt. This stays
+/// so, whatever the device does, and over each access that doesn't clear ST, doesn't write PxSACT and leaves no reset
+/// pending. After PxCI is read with bit 0 clear, no fault halts the port. If PxIS is read then with no trouble, it runs
+/// well.
 pub fn law_own_command_end_ends_halt()
     ensures issued { (uses : SlotStates) (m : Machine) (port : Port) (o : Operation) (v : ℕ) (old new : Device)
         → IsReachable m
@@ -117,11 +117,11 @@ pub fn law_own_command_end_ends_halt()
     law_prerequisites();
 }
 
-/// ST is set on a quiet port with no slot in use and no bit of PxSACT: from then on, while slot 0 alone is used, by a
-/// plain command, a fault shows only while that isn't over. So it stays, whatever the device does, where slot 0 is put
-/// to use, and over each access that clears no ST, writes neither PxSACT nor PxSCTL and leaves no reset pending. So
-/// once PxCI is read with bit 0 clear, TFES is clear: a command that a fault has halted isn't over. And then the port
-/// runs well, where no other bit tells of trouble.
+/// Let ST be set on a quiet port with no slot in use and no bit of PxSACT. From then on, while only slot 0 is used, by
+/// a plain command, a fault shows only while that command hasn't ended. This stays so, whatever the device does, when
+/// slot 0 is put to use, and over each access that clears no ST, writes neither PxSACT nor PxSCTL and leaves no reset
+/// pending. So after PxCI is read with bit 0 clear, TFES is clear: a command that a fault has halted hasn't ended. Then
+/// the port runs well if no other bit shows trouble.
 pub fn law_unqueued_ci_read_clear_means_tfes_clear()
     ensures starts { (uses : SlotStates) (port : Port) (v : ℕ) (old new : Device) → old.hr ≡ false → bit v 0 ≡ true
         → ((slot : ℕ) → uses port.0 slot ≡ Free) → (old.port port.0).sact 0 ≡ false → IsCleanToStart (old.port port.0)
