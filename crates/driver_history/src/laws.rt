@@ -37,7 +37,7 @@ pub fn law_histories_reach_their_machines()
     law_run_prerequisites();
 }
 
-/// Where the adapter's disks tell their sectors, each read of a history that was answered Ok has, at the end of the
+/// If the adapter's disks have specified contents, each read of a history that was answered Ok has, at the end of the
 /// call that answered it, what was left.
 pub fn law_ok_reads_hold_expected_if_sectors_told()
     ensures { (wanted : List Wanted) (first : JointState Device) (past : List (JointEvent Device DeviceStep))
@@ -47,7 +47,7 @@ pub fn law_ok_reads_hold_expected_if_sectors_told()
     law_run_prerequisites();
 }
 
-/// Where the adapter's disks tell their sectors, each disk that comes back in a history has the writes that were
+/// If the adapter's disks have specified contents, each disk that comes back in a history has the writes that were
 /// flushed, or later ones.
 pub fn law_replugs_keep_flushed_if_sectors_told()
     ensures { (wanted : List Wanted) (first : JointState Device) (past : List (JointEvent Device DeviceStep))
@@ -84,8 +84,8 @@ pub fn law_driver_invariant_holds()
 {}
 
 /// At each instant of a history, a request that is issued on a ready port has a usable slot of that port, on which ST
-/// is one: the header and the table there say its command; and its bit of PxCI is set, or the device has taken the
-/// command, or the request has ended and the bits are clear. (Only where ST is zero may a command have been given up.)
+/// is one. The header and the table there mean its command. Its bit of PxCI is set, or the device has taken the
+/// command, or the request has ended and the bits are clear. (Only if ST is zero may a command have been given up.)
 pub fn law_issued_requests_have_their_slots()
     ensures { (wanted : List Wanted) (first : JointState Device) (past : List (JointEvent Device DeviceStep))
         (e : Pending)
@@ -135,9 +135,8 @@ pub fn law_answers_justified()
     law_rows_shrink_and_owners_stay();
 }
 
-/// A client's frame that isn't lent is one that the device uses no byte of, whatever it does next. (That holds between
-/// calls. Within one, a frame leaves a loan where its request has ended, or its port has stopped: see what each answer
-/// rests on.)
+/// The device uses no byte of a client's frame that isn't lent, whatever it does next. (This holds between calls.
+/// Within one, a frame leaves a loan if its request has ended, or its port has stopped: see what each answer rests on.)
 pub fn law_device_never_owns_unlent_client_frames()
     ensures { (wanted : List Wanted) (first : JointState Device) (past : List (JointEvent Device DeviceStep))
         (frame : Frame) → IsDriverHistory wanted first past
@@ -148,8 +147,8 @@ pub fn law_device_never_owns_unlent_client_frames()
     law_device_never_owns_frames_out_of_use();
 }
 
-/// Unplugged is told of no request whose port had told of no change and showed a device when the call began, of which
-/// no disk went or came, and which ends the call dead, or ready with the same serial and size.
+/// No request is answered Unplugged if its port had reported no change and showed a device when the call began, no disk
+/// of it went or came, and it ends the call dead, or ready with the same serial and size.
 pub fn law_unplugged_needs_loss()
     ensures { (wanted : List Wanted) (first : JointState Device) (past : List (JointEvent Device DeviceStep))
         (h : JointEvent Device DeviceStep)
@@ -186,9 +185,9 @@ pub fn law_timeouts_leave_only_new_issues()
 {}
 
 /// Composition on healthy ports: each call of a history that is healthy for a port goes well for it, whatever was
-/// before. The port is left alone, with ST one, and each answer is Ok, or Revoked where a grant is revoked; a
-/// service answers exactly the issued requests whose bits are clear in the masks that it read; and a call issues
-/// exactly what is due.
+/// before. The port is left alone, with ST one, and each answer is Ok, or Revoked if a grant is revoked. A service
+/// answers exactly the issued requests whose bits are clear in the masks that it read, and a call issues exactly what
+/// is due.
 pub fn law_healthy_calls_tell_no_fault_and_issue_due()
     ensures { OfPortsInCalls (λ old h new port. IsHealthyFor old h port → GoesWellFor old h port) }
 {
@@ -205,11 +204,11 @@ pub fn law_due_are_issued()
         h.event.ports port) }
 {}
 
-/// What stands behind a port's evidence in its own turn of a call stands behind it in the whole call, where the turn's
-/// and the call's evidence name the port in the same lists, and but for the turn the call's accesses are of other
-/// ports; of a ready port, and of one that is named as lost, no link may be due when the call begins. So it is with a
-/// fault that stood on the tape before the port was stopped, and with the last page of the log that its disk sent,
-/// where it sends none after the turn.
+/// What stands behind a port's evidence in its own turn of a call stands behind it in the whole call, if the turn's and
+/// the call's evidence name the port in the same lists, and apart from the turn the call's accesses are of other ports.
+/// For a ready port, and for one that is named as lost, no link may be due when the call begins. The same holds for a
+/// fault that was on the tape before the port was stopped, and for the last page of the log that its disk sent, if it
+/// sends none after the turn.
 pub fn law_turn_evidence_holds_for_call()
     ensures evidence { (port : Port) (old : JointState Device) (begun : AbstractState) (ended ports : Ports)
         (new : Device)

@@ -13,25 +13,25 @@ ghost use Rattle.port_control.specs.Engines.{Stops};
 
 use super::prerequisites::law_prerequisites;
 
-/// A service heeds the failure that a ready port showed when it began, a fault or a fatal error, whatever else it
-/// showed: what had ended is answered Ok, the port was stopped, what is issued then was issued anew, and one request is
-/// told a fault at most. With a fatal error nobody is told one; with TFES alone, and in the call no fatal error, and no
-/// disk that goes or comes, a plain request always is.
+/// A service handles the failure that a ready port showed when it began, a fault or a fatal error, whatever else it
+/// showed. What had ended is answered Ok, the port was stopped, what is issued at the end was issued anew, and at most
+/// one request is answered with a fault. With a fatal error none is. With TFES alone, and in the call no fatal error,
+/// and no disk that goes or comes, a plain request always is.
 pub fn law_services_heed_shown_failures()
     ensures { OfPortsInCalls (λ old h new port. h.event.call ≡ Service → old.abstract.ports.state port ≡ Ready
         → ShowsFailure (old.device.port port.0) → HandlesShownFailure port old h) }
 {}
 
-/// A service heeds that a ready port showed a change of its link when it began, or no device, with no disk that comes
-/// meanwhile, whatever else it showed: what had ended is answered Ok, all other requests of the port are told that the
-/// disk is gone, or that the port is dead, and the port was stopped.
+/// A service handles a ready port that showed a change of its link when it began, or no device, with no disk that comes
+/// meanwhile, whatever else it showed. What had ended is answered Ok, all other requests of the port are answered that
+/// the disk is gone, or that the port is dead, and the port was stopped.
 pub fn law_services_heed_shown_losses()
     ensures { OfPortsInCalls (λ old h new port. h.event.call ≡ Service → old.abstract.ports.state port ≡ Ready
         → ShowedLinkChangeOrNoDeviceAndNoneCame port old.device h.device → HandlesShownLoss port old h) }
 {}
 
-/// Accesses that leave the adapter on, and clear no bit that tells of a port's trouble, lose none of it; nor does the
-/// device by itself: a fault, a fatal error, or a change of the link that was shown is shown still, and so is one that
+/// Accesses that leave the adapter on, and clear no bit that shows a port's trouble, lose none of it. Nor does the
+/// device by itself: a fault, a fatal error, or a change of the link that was shown is still shown, and so is one that
 /// came, and a disk that went or came.
 pub fn law_errors_stay_unless_cleared_or_ghc_written()
     ensures accesses { (port : Port) (old : JointState Device) (new : Device) (accesses : List Access)
@@ -44,7 +44,7 @@ pub fn law_errors_stay_unless_cleared_or_ghc_written()
     law_prerequisites();
 }
 
-/// Where a ready port shows TFES alone when a call begins, with no other trouble in it, so it is in the port's own
+/// If a ready port shows TFES alone when a call begins, with no other trouble in it, the same holds in the port's own
 /// turn, if no link is due when the call begins.
 pub fn law_a_fault_alone_in_a_call_is_alone_in_a_turn()
     ensures { (port : Port) (old : JointState Device) (begun : AbstractState) (new : Device) → IsOn old.device
@@ -55,11 +55,11 @@ pub fn law_a_fault_alone_in_a_call_is_alone_in_a_turn()
     law_prerequisites();
 }
 
-/// What a port's turn owes of trouble the whole call does, where the turn's and the call's evidence name the port in
-/// the same lists, ST was set in the turn if it stopped the port and left it ready, and it stopped the port if that
-/// showed a failure, or a change of its link, when it began, and was ready then, or is at its end. So it is with boots,
-/// where no link of a ready port is due when the call begins; and with a port that runs well anew, where ST of one that
-/// is left ready was set by the turn's end, and no link of it was due when the call began, or the turn reset it.
+/// What a port's turn owes of trouble the whole call does, if the turn's and the call's evidence name the port in the
+/// same lists, ST was set in the turn if it stopped the port and left it ready, and it stopped the port if that showed
+/// a failure, or a change of its link, when it began, and was ready then, or is at its end. The same holds for boots,
+/// if no link of a ready port is due when the call begins; and for a port that runs well anew, if ST of one that is
+/// left ready was set by the turn's end, and no link of it was due when the call began, or the turn reset it.
 pub fn law_turn_error_and_boot_duties_hold_for_call()
     ensures loses_no_error { (port : Port) (old : JointState Device) (begun : AbstractState) (ended ports : Ports)
         (new : Device)
@@ -94,9 +94,9 @@ pub fn law_turn_error_and_boot_duties_hold_for_call()
     law_prerequisites();
 }
 
-/// Where a port's turn in a call probes its disk, the call does, if no disk was in a port with one that isn't served
-/// when the call began, or a device showed; and if no link is due at the turn's end of one that showed X, unless it is
-/// absent or dead then. That is so at the call's end, too.
+/// If a port's turn in a call probes its disk, the call does, if no disk was in a port with one that isn't served when
+/// the call began, or a device showed, and if no link is due at the turn's end of one that showed X, unless it is
+/// absent or dead then. The same holds at the call's end, too.
 pub fn law_turn_disk_probe_holds_for_call()
     ensures probes { (port : Port) (old : JointState Device) (begun : AbstractState) (ended ports : Ports)
         (new : Device)
@@ -119,8 +119,8 @@ pub fn law_turn_disk_probe_holds_for_call()
     law_prerequisites();
 }
 
-/// Where no disk of a port went or came, and no fault and no fatal error came since its ST was last set, nothing went
-/// wrong on it after any moment that ST was set before.
+/// If no disk of a port went or came, and no fault and no fatal error came since its ST was last set, nothing went
+/// wrong on it after any moment at which ST was set before.
 pub fn law_no_plug_or_error_since_st_is_undisturbed()
     ensures { (port : ℕ) (old mid new : Device) → TapeGrows old mid → TapeGrows mid new
         → (new.port port).notes.st_set_at
@@ -131,15 +131,15 @@ pub fn law_no_plug_or_error_since_st_is_undisturbed()
     law_prerequisites();
 }
 
-/// A fatal error that came in a part of a call since ST of its port was last set has come since then in the whole,
-/// where ST wasn't set again after the part.
+/// A fatal error that came in a part of a call since ST of its port was last set has come since then in the whole, if
+/// ST wasn't set again after the part.
 pub fn law_a_fatal_error_of_a_part_is_of_the_whole()
     ensures { (port : ℕ) (old start end new : Device) → TapeGrows old start → TapeGrows end new
         → (new.port port).notes.st_set_at ≡ (end.port port).notes.st_set_at
         → GainsSinceStart (IsFatalEntryOf port) port start end → GainsSinceStart (IsFatalEntryOf port) port old new }
 {}
 
-/// Where accesses that leave the adapter on stopped a port, and its ST is one after them, it was set since they began.
+/// If accesses that leave the adapter on stopped a port, and its ST is one after them, it was set since they began.
 pub fn law_st_after_a_stop_was_set_since()
     ensures { (port : Port) (accesses : List Access) (old new : Device) → IsOn old → All (DoesNotWrite Ghc) accesses
         → DoesAll accesses old new → Stops port accesses → (new.port port.0).st ≡ true
@@ -148,8 +148,8 @@ pub fn law_st_after_a_stop_was_set_since()
     law_prerequisites();
 }
 
-/// Where accesses that leave the adapter on reset a port's link, PxSCTL was written since they began. So where the tape
-/// has grown since PxSCTL was written, no service passes over a device that an absent port shows (`ProbesDisk`).
+/// If accesses that leave the adapter on reset a port's link, PxSCTL was written since they began. So if the tape has
+/// grown since PxSCTL was written, no service overlooks a device that an absent port shows (`ProbesDisk`).
 pub fn law_link_reset_sets_sctl_written_at()
     ensures { (port : Port) (accesses : List Access) (old new : Device) → IsOn old → All (DoesNotWrite Ghc) accesses
         → DoesAll accesses old new → LastSctlWritesResetLink port accesses

@@ -67,7 +67,7 @@ abbrev pub IsLaterOf : Option HistoryRequest → HistoryRequest → HistoryReque
 IsLaterOf None new found = found ≡ new
 IsLaterOf (Some old) new found = (new.id.0 ≤ found.id.0) × (old.id.0 ≤ found.id.0) × ((found ≡ new) ⊎ (found ≡ old))
 
--- the last in order of acceptance of those that wrote the sector, or none did
+-- The last, in order of acceptance, of those that wrote the sector, or none did.
 pub record IsLastWriter (port : Port) (k n before : ℕ) (history : List Step)
     (found : Option HistoryRequest) : Type 0 where
   pub has_written : IfSome found (λ w. ChangedSector port k n before history (accepted_of w))

@@ -117,7 +117,7 @@ fn writes(read: &HistoryRequest, sector: u64, happened: &DiskEvent) -> Option<Hi
     }
 }
 
-/// The later of the two in order of acceptance; the second where they are one.
+/// The later of the two in order of acceptance, or the second if they are one.
 fn later(old: Option<HistoryRequest>, new: HistoryRequest) -> HistoryRequest
     ensures { IsLaterOf old new result }
 {

@@ -19,7 +19,7 @@ pub fn law_first_refusal_is_unique()
         → IsFirstRefusal s r one → IsFirstRefusal s r other → one ≡ other }
 {}
 
-/// Two ranges overlap, by the test, exactly where a sector is in both.
+/// Two ranges overlap, by the test, exactly if a sector is in both.
 pub fn law_overlap_test_is_exact()
     ensures { (a b : Range) → IsTrue (are_overlapping a b) ↔ Overlaps a b }
 {}

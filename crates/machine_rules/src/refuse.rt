@@ -47,7 +47,7 @@ pub struct ReferenceSituation {
     pub ports: ArrayVec<ShownPort, 4>,
     /// The client of each unanswered request.
     pub unanswered_clients: ArrayVec<ClientId, 128>,
-    /// The last id that was handed out; 0 where none was.
+    /// The last id that was given to a request, or 0 if none was.
     pub last_id: u64,
 }
 
@@ -77,7 +77,7 @@ fn rule_of(cause: Refusal) -> Option<Rule>
     }
 }
 
-/// What stands in the list for a frame; nothing where the list ends before it.
+/// What the list has for a frame, or nothing if the list ends before it.
 fn at_frame<T: Copy>(list: &[Option<T>], frame: Frame) -> Option<T>
     ensures { result ≡ frame_or_none list.now frame }
 {
@@ -271,7 +271,7 @@ impl ReferenceSituation {
         }
     }
 
-    /// The first cause that applies to the request, or none where it is acceptable.
+    /// Returns the first cause that applies to the request, or none if it is acceptable.
     pub fn first_refusal(&self, request: &Request) -> Option<Refusal>
         ensures some { IfSome result (IsFirstRefusal (reference_admission_context self.now) request.now) }
         ensures none { IfNone result (IsAcceptable (reference_admission_context self.now) request.now) }
@@ -318,8 +318,8 @@ impl ReferenceSituation {
         }
     }
 
-    /// The first cause that applies to the client's access to `count` bytes of the frame from byte `offset` on, or none
-    /// where it is open to the client.
+    /// Returns the first cause that applies to the client's access to `count` bytes of the frame from byte `offset` on,
+    /// or none if the client may make it.
     pub fn first_mem_fault(
         &self,
         client: ClientId,

@@ -1,4 +1,4 @@
--- What stands behind what is told of a request in a run (this project's own).
+-- What stands behind the answers to a request in a run (this project's own).
 use Rattle.std.specs.Prelude.{◌≡◌, ◌⊎◌, ℕ, ◌<◌, ◌≤◌, ◌==◌, Bool, true, false, List, [], ◌∷◌, ◌++◌, count_by, Contains, Ok}
 use Rattle.ata_types.specs.declared.request.RequestId.{RequestId}
 use Rattle.ata_types.specs.declared.request.Op.TheVariants.{Read}
@@ -9,7 +9,7 @@ use Rattle.block_machine.specs.Expected.{HasTouchedSinceIssue, HasEndedSinceIssu
 use Rattle.block_machine.specs.Confinement.{WasAccepted}
 use Rattle.block_machine.specs.Events.{CallRecord, AbstractState, Submit, Submitted, IsIssuedIn, issues_id, abstract_after_all, steps_of}
 
--- the call is a submit that asked for the request, and was told its id
+-- The call is a submit that asked for the request, and got its id.
 abbrev pub SubmitsAndIsGivenId : {D : Type 0} → Accepted → CallRecord D → Type 0
 SubmitsAndIsGivenId r event = (event.call ≡ Submit r.asked) × (event.result ≡ Submitted (Ok r.id))
 
@@ -43,8 +43,7 @@ pub record CallAnswersOk {D : Type 0} (first : AbstractState) (past : List (Call
       → HoldsExpected first.machine (early ++ steps_of past) (abstract_after_all first
       (event ∷ past)).machine.memory e.request
 
--- An unanswered request was there before these steps; and where it is issued, it was issued then, or these steps issue
--- it.
+-- An unanswered request was there before these steps. If it is issued now, it was issued then, or these steps issue it.
 pub record WasUnansweredBefore (old : Machine) (steps : List Step) (e : Pending) : Type 0 where
   pub before : Pending
   pub is_in_book : Contains old.book before

@@ -82,7 +82,7 @@ pub record FindsFlushedOrLater : Type 0 where
       × SameBytes (disk (sector_of write 0)) (write.blocks_at_acceptance 0)
 
 -- In a run of calls two requests are unanswered at once: one is issued, and the other waits for it. One call then
--- answers the one and issues the other. The device is told to end that, and a service then finds it ended and answers
+-- answers the one and issues the other. The device is asked to end that, and a service then finds it ended and answers
 -- it too.
 pub record WaitsItsTurn : Type 0 where
   pub initial_state : AbstractState
@@ -163,9 +163,9 @@ pub record ResetReleasesFrameOfDeadPort : Type 0 where
       ≡ Ready
 
 -- In a run of calls four requests are issued, one on one port and three on another. One of the three ends, and the
--- first port's disk is taken out. One service then answers the first port's request Unplugged, and, since the other
--- port failed too, answers what had ended there Ok, tells the fault of one request, and issues the last anew. That
--- fails with its port each time, and is aborted after its fourth issue.
+-- first port's disk is taken out. One service then answers the first port's request Unplugged. Because the other port
+-- failed too, it answers what had ended there Ok, answers one request with its fault, and issues the last anew. That
+-- one fails with its port each time, and is aborted after its fourth issue.
 pub record ServiceHandlesTwoFailedPorts : Type 0 where
   pub initial_state : AbstractState
   pub earlier_calls : List (CallRecord (Unit {0}))
@@ -211,7 +211,7 @@ pub record ServiceHandlesTwoFailedPorts : Type 0 where
   pub frame_is_given_back : (abstract_after_all initial_state (last ∷ fourth ∷ third ∷ service
       ∷ earlier_calls)).machine.lent frame ≡ None
 
--- In a run of calls a request is two ticks old, and the device is told to end it. The third tick finds its port hung,
+-- In a run of calls a request is two ticks old, and the device is asked to end it. The third tick finds its port hung,
 -- and answers the request Ok.
 pub record TickAnswersEnded : Type 0 where
   pub initial_state : AbstractState

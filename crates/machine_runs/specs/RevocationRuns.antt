@@ -11,10 +11,10 @@ use Rattle.block_machine.specs.Expected.{AllStepsFaithful}
 use Rattle.block_machine.specs.Events.{AbstractState, CallRecord, RevokeOf, Service, Replied, WasRevoked, IsRun, reply_of, steps_of, abstract_after_all}
 
 -- In a run of calls two requests of one grant are unanswered at once: one is issued, and the other waits for it. Then
--- the client's grant is revoked: the one that waits is answered Revoked, and the row is gone. The issued one stays,
--- and the service that finds it ended answers it Ok, though its row isn't there. Or else its port fails first: the
--- service that finds that stops the port, and has it ready again with the disk that it had. So the request would go
--- again, but for its grant: it is told Revoked, and its frames are given back.
+-- the client's grant is revoked: the one that waits is answered Revoked, and the row is gone. The issued one stays, and
+-- the service that finds it ended answers it Ok, though its row isn't there. In another run its port fails first: the
+-- service that finds that stops the port, and has it ready again with the disk that it had. So the request would be
+-- issued again, if its grant were there. It is answered Revoked, and its frames are given back.
 pub record RevokesWhileIssued : Type 0 where
   pub initial_state : AbstractState
   pub run : List (CallRecord (Unit {0}))
@@ -42,7 +42,7 @@ pub record RevokesWhileIssued : Type 0 where
   pub done : Pending
   pub request_is : done.request ≡ issued.request
   pub answers : Contains service.steps (Answer done Ok)
-  -- or else the port fails first
+  -- or the port fails first
   pub failing_service : CallRecord (Unit {0})
   pub failing_runs : IsRun initial_state (failing_service ∷ revoking_call ∷ early)
   pub failing_steps_are_faithful : AllStepsFaithful initial_state.machine

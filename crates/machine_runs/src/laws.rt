@@ -1,6 +1,6 @@
-//! Laws over whole histories and runs, and that such runs exist. The clause of each function is the law; the functions
-//! do nothing, and nothing calls them. `D` are the steps that a device can be told to do: a law on runs holds for any
-//! device.
+//! Laws over whole histories and runs, and laws that such runs exist. The clause of each function is the law. The
+//! functions do nothing, and nothing calls them. `D` is the type of the steps that a device can be asked to make: a law
+//! on runs holds for any device.
 
 ghost use Rattle.std.specs.Prelude.{◌≡◌, ◌≢◌, ◌⊎◌, ◌+◌, ◌<◌, ◌≤◌, ◌==◌, ℕ, false, true, List, ◌∷◌, ◌++◌, cond, count_by, Contains};
 ghost use Rattle.ata_types.specs.{declared.Port.{Port}, declared.PortState.TheVariants.{Ready, Dead}, declared.request.Frame.{Frame}, declared.request.RequestId.{RequestId}, declared.request.Op.TheVariants.{Flush}, declared.request.Outcome.{Outcome}, declared.request.Outcome.TheVariants.{Ok, Aborted}, declared.request.Reply.{Reply}, declared.grant.GrantRow.{GrantRow}};
@@ -8,7 +8,7 @@ ghost use Rattle.block_machine.specs.{DueRequests.{conflict_on_port_by_flush_or_
 ghost use Rattle.block_machine.specs.Events.{AbstractState, AllEnabled, CallRecord, NoneDueWhereReady, Happens, EveryReadHoldsExpected, IsLawfulAnswer, IsRun, LastServiceOrResetIsStuckReset, accepts_id, answers_id, issues_id, gives_id, replies_of, all_replies, WasGivenId, abstract_after_all, steps_of};
 ghost use Rattle.machine_runs.specs.{AnswerOrigins.{SubmitsAndIsGivenId, WasUnansweredBefore, CallAnswersOk, WasSubmittedAndGivenId, requeues_id}, RevocationRuns.{RevokesWhileIssued}, ExampleRuns.{FindsFlushedOrLater, WaitsItsTurn, ResetReleasesFrameOfDeadPort, ServiceHandlesTwoFailedPorts, TickAnswersEnded, TickFindsUnplugged, ResetsReissueThenAbort, PortStuckInBootAnswersPortDead, ReadsWrongWithoutKeptRule}};
 
-/// Where no grant lets its client write or trim, what is left on a sector for a read is what the disk that it found
+/// If no grant lets its client write or trim, what is left on a sector for a read is what the disk that the read found
 /// there held when it was put in.
 pub fn law_expected_is_plugged_if_no_write_trim_grants()
     ensures { (start : Machine) (history : List Step) (read : Accepted) (sector : ℕ) (block : Block)
@@ -42,7 +42,7 @@ pub fn law_a_run_where_reset_frees_kept_frame_exists()
     ensures { ResetReleasesFrameOfDeadPort }
 {}
 
-/// Where a run answers a request Ok, each of its sectors was touched, and since then the request wasn't issued again.
+/// If a run answers a request Ok, each of its sectors was touched, and since then the request wasn't issued again.
 pub fn law_ok_was_touched<D>()
     ensures { (first : AbstractState) (run : List (CallRecord D)) (late early : List Step) (e : Pending)
         → IsRun first run → steps_of run ≡ late ++ Answer e Ok ∷ early
@@ -81,7 +81,7 @@ pub fn law_replied_at_most_once<D>()
         → count_by (λ reply. reply.id.0 == id.0) (all_replies run) ≤ 1 }
 {}
 
-/// Each reply of a call tells a client of an id that an earlier submit of that client gave.
+/// Each reply of a call goes to a client, with an id that an earlier submit of that client gave.
 pub fn law_replied_id_was_given_to_its_client<D>()
     ensures { (first : AbstractState) (past : List (CallRecord D)) (event : CallRecord D) (reply : Reply)
         → IsRun first (event ∷ past) → Contains (replies_of event.result) reply
@@ -102,8 +102,8 @@ pub fn law_replied_was_asked<D>()
         × (e.request.asked.client ≡ reply.client) × WasSubmittedAndGivenId e.request past }
 {}
 
-/// An unanswered request was there before the last call of a run, which issues it where it is issued, and wasn't
-/// before; or that call is the submit which asked for it.
+/// An unanswered request was there before the last call of a run. That call issues it if it is issued now, and wasn't
+/// before. Or that call is the submit which asked for it.
 pub fn law_unanswered_was_there_or_just_asked<D>()
     ensures { (first : AbstractState) (past : List (CallRecord D)) (event : CallRecord D) (e : Pending)
         → IsRun first (event ∷ past) → Contains (abstract_after_all first (event ∷ past)).machine.book e
@@ -111,15 +111,15 @@ pub fn law_unanswered_was_there_or_just_asked<D>()
         ⊎ SubmitsAndIsGivenId e.request event }
 {}
 
-/// What a call of a run answers Ok was served before: it was accepted and issued, its sectors were touched, and it was
-/// ended. And where each read of the run holds what is left, a read that is answered so has it at the call's end.
+/// What a call of a run answers Ok was served before: it was accepted and issued, its sectors were touched, and it has
+/// ended. If each read of the run holds what is left, a read that is answered so has it at the call's end.
 pub fn law_ok_was_served<D>()
     ensures { (first : AbstractState) (past : List (CallRecord D)) (event : CallRecord D) (e : Pending)
         → IsRun first (event ∷ past) → EveryReadHoldsExpected first (event ∷ past)
         → Contains event.steps (Answer e Ok) → CallAnswersOk first past event e }
 {}
 
-/// At each moment of a run the only unanswered request is issued, where its port is ready.
+/// At each moment of a run the only unanswered request is issued, if its port is ready.
 pub fn law_sole_book_request_is_issued_if_ready<D>()
     ensures { (first : AbstractState) (run : List (CallRecord D)) (e : Pending) → IsRun first run
         → Contains (abstract_after_all first run).machine.book e
@@ -154,15 +154,15 @@ pub fn law_issued_four_times_at_most<D>()
         → count_by (issues_id e.request.id) (steps_of run) ≡ 4 }
 {}
 
-/// Where a run answers a request Ok, the device ended it, and since then it wasn't issued again.
+/// If a run answers a request Ok, the device ended it, and since then it wasn't issued again.
 pub fn law_ok_was_ended<D>()
     ensures { (first : AbstractState) (run : List (CallRecord D)) (late early : List Step) (e : Pending)
         → IsRun first run → steps_of run ≡ late ++ Answer e Ok ∷ early
         → HasEndedSinceIssue e.request early }
 {}
 
-/// After every history an unanswered request was issued as often as it says: where it is issued, once more than it was
-/// made to wait again, and else as often.
+/// After every history an unanswered request was issued as often as it says: if it is issued, once more than it was
+/// made to wait again, and otherwise as often.
 pub fn law_book_issue_counts_match_history()
     ensures { (start : Machine) (history : List Step) (e : Pending) → IsInitial start → AllEnabled start history
         → Contains (after start history).book e
@@ -190,8 +190,8 @@ pub fn law_issued_ages_are_at_most_two<D>()
         → Contains (abstract_after_all first run).machine.book e → e.issued ≡ true → e.age ≤ 2 }
 {}
 
-/// At each moment of a run an unanswered request is on a port that is ready, or on one that is dead, where a reset was
-/// stuck and no service, and no reset that ended, came since.
+/// At each moment of a run an unanswered request is on a port that is ready, or on one that is dead after a reset that
+/// got stuck, if no service, and no reset that finished, came since.
 pub fn law_port_of_unanswered_is_ready_or_reset_stuck<D>()
     ensures { (first : AbstractState) (run : List (CallRecord D)) (e : Pending) → IsRun first run
         → Contains (abstract_after_all first run).machine.book e
@@ -267,13 +267,14 @@ pub fn law_what_waits_has_its_grant<D>()
 {}
 
 /// A run exists in which a grant is revoked while a request of it is issued and another waits: this one is answered
-/// Revoked, and that one Ok; and one in which that one, whose port fails, is told Revoked in place of going again.
+/// Revoked, and that one Ok. Another run exists in which that one, whose port fails, is answered Revoked in place of
+/// being issued again.
 pub fn law_a_revoking_run_exists()
     ensures { RevokesWhileIssued }
 {}
 
 /// A run exists in which two ports serve requests, the one fails and the other loses its disk, and a fault, an
-/// unplugged request, one that is issued anew and one that is aborted are told as they have to be.
+/// unplugged request, one that is issued anew and one that is aborted are answered as they have to be.
 pub fn law_a_run_with_two_failed_ports_exists()
     ensures { ServiceHandlesTwoFailedPorts }
 {}
@@ -283,8 +284,8 @@ pub fn law_a_run_where_tick_tells_ended_ok_exists()
     ensures { TickAnswersEnded }
 {}
 
-/// A run exists in which a tick finds a port hung whose disk was taken out, and tells its requests Unplugged, issued or
-/// not.
+/// A run exists in which a tick finds a port hung whose disk was taken out, and answers its requests Unplugged, issued
+/// or not.
 pub fn law_a_run_where_tick_finds_disk_gone_exists()
     ensures { TickFindsUnplugged }
 {}

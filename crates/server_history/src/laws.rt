@@ -43,8 +43,8 @@ pub fn law_new_server_starts_history()
     law_ready_ports_run_and_unusable_disks_show();
 }
 
-/// A device that does what it is told adds an event, and so does one that can't. Where the adapter isn't on, it isn't
-/// switched on.
+/// A device that makes the step that it is asked for adds an event, and so does one that can't. If the adapter isn't
+/// on, it isn't switched on.
 pub fn law_device_steps_extend_history()
     ensures did { (stuck : Bool) (s : ServerState) (new : Device) (step : DeviceStep) → InvariantBetweenCalls stuck s
         → DoesOrFailsStep step s.device new → Steps s.device new
@@ -127,8 +127,8 @@ pub fn law_a_due_request_finds_a_free_slot()
 }
 
 /// Due requests of a port get slots one after another, before anything is stored for them. Each finds a free slot, and
-/// may take the lowest, which makes one more of them; several are due only where all are queued; and of the server they
-/// leave all but book and slots.
+/// may take the lowest, which makes one more of them. Several are due only if all are queued. Only book and slots of
+/// the server change.
 pub fn law_due_requests_get_slots()
     ensures lowest_free_slot_fits { (s mid : ServerState) (port : Port) (ids : List RequestId) (tasks : List PlacedTask)
         (request : BookEntry) → InCallInvariant s → PutsInSlots port ids tasks s mid → Contains mid.book request
@@ -203,8 +203,8 @@ pub fn law_answer_and_issue_leave_none_due()
     law_history_prerequisites();
 }
 
-/// A server goes on while its port is looked at, and while what the port has issued is looked for. The commands of
-/// slots that were found done are over, where the used slots were asked for, and no other. Where nobody looks, it is as
+/// A server goes on while its port is looked at, and while the server looks for what the port has issued. The commands
+/// of slots that were found done have ended, if the used slots were asked for, and no other. If nobody looks, it is as
 /// though the port had been looked at without an access.
 pub fn law_looks_preserve_invariant()
     ensures looking { (s : ServerState) (new : Device) (port : Port) → InCallInvariant s
@@ -226,9 +226,9 @@ pub fn law_looks_preserve_invariant()
     law_history_prerequisites();
 }
 
-/// How a ready port is served: it is looked at. Where the look told of an error, it is handled; where the port uses
-/// no slot, that is all; else the slots that it uses are checked, those that are found done are answered, and what is
-/// due then is issued.
+/// How a ready port is served: it is looked at. If the look found an error, it is handled. If the port uses no slot,
+/// that is all. Otherwise the slots that it uses are checked, those that are found done are answered, and what is due
+/// then is issued.
 pub fn law_handling_look_result_is_a_service_turn()
     ensures no_slot_is_used { (s : ServerState) (seen : Device) (port : Port) → InvariantWithNoneDue s
         → state_of (probe_result_of s.probe_results port.0)
@@ -259,7 +259,7 @@ pub fn law_handling_look_result_is_a_service_turn()
     law_history_prerequisites();
 }
 
-/// How a port is restarted of which a request is hung: its error is handled, and that is its turn in a tick.
+/// How a port is restarted that has a hung request: its error is handled, and that is its turn in a tick.
 pub fn law_handling_timeout_is_a_restart_turn()
     ensures { (s new : ServerState) (port : Port) (replies : List Reply) → InvariantWithNoneDue s
         → state_of (probe_result_of s.probe_results port.0)
@@ -271,8 +271,8 @@ pub fn law_handling_timeout_is_a_restart_turn()
     law_history_prerequisites();
 }
 
-/// A ready port that a look tells a failure of may be recovered once its masks were read: a fault has halted it, and it
-/// shows a device. Of plain commands a port has one alone, in slot 0.
+/// A ready port on which a look found a failure may be recovered after its masks were read: a fault has halted it, and
+/// it shows a device. A port has only one plain command, in slot 0.
 pub fn law_recover_preconditions_hold_after_look()
     ensures may_recover { (s : ServerState) (seen found : Device) (port : Port) (mask done : ℕ) → InCallInvariant s
         → state_of (probe_result_of s.probe_results port.0) ≡ ReadyState → TakesEvent port TaskFileError s.device seen
@@ -351,8 +351,8 @@ pub fn law_services_extend_history()
     law_history_prerequisites();
 }
 
-/// How a port that isn't ready has its turn in a service: it is looked at, and booted where it may have a disk by now.
-/// Once it was looked at, it may be given up, and booted then, where it has stopped. All this is a part of a service,
+/// How a port that isn't ready has its turn in a service: it is looked at, and is booted if it may have a disk by now.
+/// After it was looked at, it may be given up, and then booted if it has stopped. All this is a part of a service,
 /// after which the server goes on. (In between it needn't: a look at an absent port that finds a device has read a
 /// value of PxSSTS that no absent port was left with.)
 pub fn law_probe_of_unready_port_is_a_service_turn()

@@ -171,7 +171,7 @@ fn law_ages()
     law_unanswered_follow_book_operations();
 }
 
-/// What looks at ports tell, and what they leave.
+/// What looks at ports show, and what they leave.
 fn law_looks()
     ensures { LookLaws }
 {

@@ -18,7 +18,7 @@ pub fn law_in_call_gives_server_invariant()
 }
 
 /// What is kept may be given back, whether or not the adapter is on: the frames of each kept loan are lent to its
-/// request, which isn't unanswered, and of which there is no other loan.
+/// request, which isn't unanswered, and which has no other loan.
 pub fn law_quarantined_loans_are_lent()
     ensures lent { (s : ServerState) (port : ℕ) → ServerInvariant s
         → All (IsLentOut s.table) (quarantined_at s.kept_loans port) }
@@ -49,9 +49,9 @@ pub fn law_stuck_servers_admit_none()
 }
 
 /// What these calls do extends the history of a server since a stuck reset. A reset may get stuck, whether or not the
-/// last one did. A tick changes nothing: no port is ready, so no request is issued that could get older. Where a
-/// client's grant is revoked, the requests that waited under it are answered. A service tells the requests of each dead
-/// port that it is dead, port by port.
+/// last one did. A tick changes nothing: no port is ready, so no issued request could get older. If a client's grant is
+/// revoked, the requests that waited under it are answered. A service answers the requests of each dead port that it is
+/// dead, port by port.
 pub fn law_calls_that_end_stuck_extend_history()
     ensures resets { (s new : ServerState) → ServerInvariant s → ResetGetsStuck s new
         → ExtendsToStuck s new Reset (WasReset None) }

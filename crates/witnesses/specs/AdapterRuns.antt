@@ -44,7 +44,7 @@ abbrev pub after_access_or_step : AccessOrStep → Device → Device
 after_access_or_step (MadeAccess access) d = after_access access d
 after_access_or_step (DeviceStepCame step) d = device_after step d
 
--- what events, the first of them first, lead to, and that each of them may come where it does
+-- The device to which events, the first of them first, lead; and that each of them may come when it does.
 abbrev pub device_after_run : List AccessOrStep → Device → Device
 device_after_run [] d = d
 device_after_run (event ∷ events) d = device_after_run events (after_access_or_step event d)

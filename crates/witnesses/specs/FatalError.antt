@@ -40,9 +40,9 @@ fatal_accesses = port_0_look_accesses_showing_ifs ++ stop_and_comreset_accesses
 abbrev pub fatal_evidence : Evidence
 fatal_evidence = port_0_lost_and_stopped_evidence (port_at 0 ∷ [])
 
--- A read of port 0 is accepted and issued. The device is told to meet a fatal error of the port's link, and the port
--- shows it. The service finds it, gives the port up, and boots it anew, which finds no ATA disk: the port is unfit, and
--- the read is answered Unplugged. The service's accesses keep to the adapter's rules. Each port's part in the three
+-- A read of port 0 is accepted and issued. The device is asked to meet a fatal error of the port's link, and the port
+-- shows it. The service finds it, gives the port up, and boots it anew, which finds no ATA disk. So the port is unfit,
+-- and the read is answered Unplugged. The service's accesses keep to the adapter's rules. Each port's part in the three
 -- calls is done, whether it stays healthy or not.
 pub record FatalErrorIsAHistory : Type 0 where
   pub initial_state : JointState Device

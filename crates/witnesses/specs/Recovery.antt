@@ -1,5 +1,5 @@
--- A history with a service that tells a plain read's fault, and leaves its port ready and running (this project's own;
--- AHCI 1.3.1, 6.2.2).
+-- A history with a service that answers a plain read with its fault, and leaves its port ready and running (this
+-- project's own; AHCI 1.3.1, 6.2.2).
 use Rattle.refinement.specs.PortFacts.{RunsWell}
 use Rattle.std.specs.Prelude.{◌≡◌, List, [], ◌∷◌, Ok}
 use Rattle.ata_types.specs.declared.Port.{Port}

@@ -21,11 +21,12 @@ use Rattle.port_control.specs.Ports.{programmed_bases}
 
 -- ---- disks
 
--- From byte 167 on, the page of a disk with 256 sectors: word 83 is 6400h, and word 100 is 0100h. All else is zero.
+-- From byte 167 on, the page of a disk with 256 sectors: word 83 is 6400h, and word 100 is 0100h. All other bytes are
+-- zero.
 abbrev pub page_from_byte_167 : List ℕ
 page_from_byte_167 = 0x64 ∷ (replicate 33 0 ++ (1 ∷ replicate 310 0))
 
--- its page: word 75 is the queue depth less one, and the high byte of word 76 tells whether commands are queued
+-- Its page: word 75 is the queue depth less one, and the high byte of word 76 says whether commands are queued.
 abbrev pub identify_page : ℕ → ℕ → List ℕ
 identify_page depth_less_one word_76_high_byte = replicate 150 0
     ++ (depth_less_one ∷ 0 ∷ 0 ∷ word_76_high_byte ∷ (replicate 13 0 ++ page_from_byte_167))
@@ -56,7 +57,7 @@ page_entry page port = entry.Move (page_move page port)
 
 -- ---- ports
 
--- The port runs with the disk of the first read, in its own places, and tells of its causes; a device was seen, and no
+-- The port runs with the disk of the first read, in its own places, and enables its causes. A device was seen, and no
 -- command is in a slot.
 abbrev pub running_port : ℕ → DevicePort
 running_port port = record reading_port {
@@ -74,7 +75,7 @@ port_or_empty ports port = slice_index_or ports port empty_port
 abbrev pub queueing_cap : ℕ
 queueing_cap = 0x40001f03
 
--- the adapter of the first read, but for that, which tells of its causes, with this tape, this memory, and these ports
+-- The adapter of the first read, with interrupts enabled, with this tape, this memory, and these ports.
 abbrev pub running_device : List Entry → (ℕ → ℕ) → List DevicePort → Device
 running_device tape memory ports =
     record first_read_device { cap = queueing_cap; ie = true; tape = tape; memory = memory; port = port_or_empty ports }

@@ -1,5 +1,5 @@
--- A history in which a reset of the adapter doesn't end, and a service then tells the dead ports (this project's own;
--- AHCI 1.3.1, 10.4.3).
+-- A history in which a reset of the adapter doesn't finish, and a service then answers the requests of the dead ports
+-- (this project's own; AHCI 1.3.1, 10.4.3).
 use Rattle.std.specs.Prelude.{◌≡◌, List, [], ◌∷◌, Contains, None, Ok}
 use Rattle.ata_types.specs.declared.Port.{Port}
 use Rattle.ata_types.specs.declared.PortState.TheVariants.{Dead}

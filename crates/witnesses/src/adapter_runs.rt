@@ -7,9 +7,9 @@ use adapter::laws::{
     law_kept_bytes_stay_over_device_steps, law_slot_decodes_to_at_most_one_command,
 };
 
-/// Each kind of step of the device can come, in a state that an idle adapter comes to by accesses, each of which the
-/// rules allow in the state in which it is made: and where its commands stand on bytes that no step changes, but for
-/// the one on bytes that mean no command.
+/// Each kind of step of the device can come, in a state to which an idle adapter comes by accesses, each of which the
+/// rules allow in the state in which it is made. Its commands stand on bytes that no step changes, except for the step
+/// on bytes that mean no command.
 pub fn law_each_step_can_come()
     ensures safely { (kind : TransitionKind) → kind ≢ FetchFault → CanComeWithGuardedCommands kind }
     ensures senseless { StepCanCome FetchFault }
@@ -18,7 +18,7 @@ pub fn law_each_step_can_come()
     law_slot_decodes_to_at_most_one_command();
 }
 
-/// Where the commands stand on bytes that no step changes, none is taken for no command.
+/// If the commands stand on bytes that no step changes, none is taken for no command.
 pub fn law_guarded_commands_cannot_fail_fetch()
     ensures { (d : Device) (port slot kept_bits : ℕ) (queued : Bool) → CommandBytesAreGuarded d
         → Can (SenselessFetch port slot queued kept_bits) d → ⊥ }
@@ -43,8 +43,9 @@ pub fn law_reset_may_be_pending_with_used_ports()
     ensures { ResetIsPendingWithTwoUsedPorts }
 {}
 
-/// A disk that was taken out may come back with each sector as it was when it last ended a flush, or else when it was
-/// first in, or as it was when it went: its cache may be lost, or a part of it (FLUSH CACHE EXT, ACS-3).
+/// A disk that was taken out may come back with each sector as it was when it last ended a flush or, if it ended none,
+/// when it was first in, or as it was when it went. So its cache, or a part of it, may be lost (FLUSH CACHE EXT,
+/// ACS-3).
 pub fn law_replug_may_lose_cache()
     ensures { (d : Device) (port : ℕ) (last lasting told : ℕ → List ℕ) → (d.port port).present ≡ false
         → (d.port port).disk.sectors ≡ Some last → (d.port port).lasting.sectors ≡ Some lasting
