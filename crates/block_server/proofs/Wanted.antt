@@ -15,7 +15,7 @@ use Rattle.host_boot.specs.declared.ProbeResult.TheVariants.{Unserved, Ready, Un
 use Rattle.ata_types.specs.declared.call.AdapterStuck.{AdapterStuck}
 use Rattle.request_queue.specs.BookEntries.{BookEntry}
 use Rattle.server_history.specs.Resets.{IssuesOnEachReadyPort, ResolvesEachPort}
-use Rattle.commands.specs.Batches.{PlacedTask}
+use Rattle.ncq.specs.Batches.{PlacedTask}
 use Rattle.server_history.specs.IssuingAndAnswering.{IssuesTogetherIfAny, PutsInSlots}
 use Rattle.server_history.specs.ServerState.{ServerState}
 use Rattle.server_history.specs.Turns.{ServicesPort, EachPortTakesTurn, TakesTickTurn, ProbesUnready, a_tick_older}

@@ -5,7 +5,7 @@ use Rattle.ata_types.specs.declared.limits.TheConstants.{PORTS}
 use Rattle.std.specs.Prelude.{ℕ, ◌+◌, ◌*◌, List, [], ◌∷◌}
 use Rattle.adapter.specs.declared.access.DeviceStep.{DeviceStep}
 use Rattle.host_boot.specs.Costs.{RESET_ACCESSES, TAKE_OVER_ACCESSES}
-use Rattle.commands.specs.Costs.{ISSUE_ACCESSES}
+use Rattle.ncq.specs.Costs.{ISSUE_ACCESSES}
 use Rattle.port_control.specs.declared.events.PortError.TheVariants.{TimedOut}
 use Rattle.port_driver.specs.Costs.{ISSUE_DUE_ACCESSES, TURN_ACCESSES, port_error_accesses}
 

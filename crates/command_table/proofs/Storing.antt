@@ -1,16 +1,15 @@
 -- Stores into the header and the table of an unused slot.
-use Rattle.std.proofs.Common.{ℕ, ◌≡◌, ◌⊎◌, ◌+◌, ◌*◌, ◌%◌, ◌<◌, ◌≤◌, Bool, List, [], ◌∷◌, length, take, refl, sym, ◌∙◌, ap, inl, inr, arith, slice_index_or}
+use Rattle.std.proofs.Common.{ℕ, ◌≡◌, ◌⊎◌, ◌+◌, ◌*◌, ◌<◌, ◌≤◌, Bool, List, [], ◌∷◌, length, take, refl, sym, ◌∙◌, ap, subst, inl, inr, arith, slice_index_or}
 use Rattle.byteorder.specs.Endian.{little_from}
-use Rattle.std.proofs.lemmas.List.Elements.{All-weaker}
-use Rattle.std.specs.List.{All}
+use Rattle.std.proofs.lemmas.List.Elements.{All-cons, All-nil, All-weaker}
 use Rattle.ata_types.specs.declared.Port.{Port}
-use Rattle.ata_types.specs.declared.memory.TheConstants.{DRIVER_BYTES, DRIVER_FRAMES_PER_PORT, PRD_BYTES, SCRATCH_FRAME, TABLE_BYTES, TABLE_HEAD_BYTES}
+use Rattle.ata_types.specs.declared.memory.TheConstants.{DRIVER_BYTES, PRD_BYTES, TABLE_BYTES, TABLE_HEAD_BYTES}
 use Rattle.ata_types.specs.declared.limits.TheConstants.{MOST_REQUEST_FRAMES}
 use Rattle.hba_regs.specs.declared.reg.Reg.{Reg}
 use Rattle.adapter.specs.Access.{Access, Stores}
 use Rattle.adapter.specs.Access.Access.{Reading, Writing, Loading, Storing}
 use Rattle.adapter.specs.Commands.{IsValidMeaning, Meaning, command_of, transfer_sector_count, reads_memory}
-use Rattle.adapter.specs.Decoding.{IsWholePieces, pieces}
+use Rattle.adapter.specs.Decoding.{IsWholePieces}
 use Rattle.adapter.specs.Device.{Device}
 use Rattle.adapter.specs.Memory.{patched, bytes_at}
 use Rattle.adapter.specs.Rules.{IsOn, IsInMemoryNotOwnedByDevice, IsStable}
@@ -27,7 +26,6 @@ use Rattle.command_table.specs.BufferBytes.{bytes_from}
 use Rattle.command_table.specs.Laws.{Laws}
 use Rattle.command_table.specs.Laws.AccessPurpose.{Tables, TablesAndBlock}
 use Rattle.command_table.specs.TableStores.{IsTableFor, FillsHeaderWithPrdbcZero, IsInTable, IsHeaderTableOrBlockStore, IsHeaderOrTableStore, IsSlotStateFree}
-use Rattle.command_table.specs.SectorPlaces.{places_of}
 use Rattle.command_table.proofs.Saying.{table_says}
 
 -- the driver may store them
@@ -176,13 +174,15 @@ with_block laws port old mid new table block =
     let wider = laws.fragments.is_of_wider_kind (Tables port 0) (TablesAndBlock port) (λ uses. uses) (λ access here. inl here) (λ uses free. free) old mid table in
     (laws.fragments.fragments_join (TablesAndBlock port) (TablesAndBlock port) (λ uses. uses) (λ uses. uses) (λ access here. here) (λ uses free. free) old mid new wider.is_simulated block).is_simulated
 
--- the table of a command to which one block goes, from the port's scratch frame
-pub table_for_block : (m : Meaning) (command : Command) (prds : List Prd) (port frame : ℕ) → frame ≡ DRIVER_FRAMES_PER_PORT * port + SCRATCH_FRAME → IsValidMeaning m → command ≡ command_of m.operation 0 m.first m.count →
-    transfer_sector_count m.operation m.count ≡ 1 → All IsWholePieces prds → pieces prds ≡ places_of (record { 0 = frame } ∷ []) 1 → IsTableFor 0 command prds m (scratch_frame_address port ∷ [])
-table_for_block m command prds port frame same meaning fields one whole places = record {
-  meaning = meaning;
-  fields = fields;
-  prds_are_whole_pieces = whole;
-  places_are = (let at : 4096 * frame + 512 * (0 % 8) ≡ scratch_frame_address port = omega (arith, same) in ap (λ (a : ℕ). a ∷ []) (sym at)) ∙ sym places;
-  place_count_is = sym one;
-}
+-- the table of a command that moves one block, to or from the port's scratch frame
+pub table_for_block : (prd : Prd) (port slot : ℕ) (command : Command) (m : Meaning) → prd ≡ record { address = scratch_frame_address port; bytes = 512 } → IsValidMeaning m → command ≡ command_of m.operation slot m.first m.count →
+    transfer_sector_count m.operation m.count ≡ 1 → IsTableFor slot command (prd ∷ []) m (scratch_frame_address port ∷ [])
+table_for_block prd port slot command m is meaning fields one =
+    let whole : Prd = record { address = scratch_frame_address port; bytes = 512 } in
+    subst (λ (e : Prd). IsTableFor slot command (e ∷ []) m (scratch_frame_address port ∷ [])) (sym is) (record {
+      meaning = meaning;
+      fields = fields;
+      prds_are_whole_pieces = All-cons IsWholePieces whole [] refl (All-nil IsWholePieces);
+      places_are = refl;
+      place_count_is = sym one;
+    })

@@ -1,10 +1,12 @@
 -- Runs of neighbouring frames, and the PRDs that cover them.
-use Rattle.std.specs.Prelude.{◌≡◌, ◌≢◌, ℕ, ◌+◌, ◌-◌, ◌*◌, ◌/◌, ◌%◌, ◌<◌, ◌≤◌, min, List, [], ◌∷◌, length, drop}
+use Rattle.std.specs.Prelude.{◌≡◌, ◌≢◌, ℕ, ◌+◌, ◌-◌, ◌*◌, ◌/◌, ◌%◌, ◌<◌, ◌≤◌, min, List, [], ◌∷◌, length, drop, All}
 use Rattle.ata_types.specs.declared.memory.TheConstants.{FRAME_BYTES}
 use Rattle.ata_types.specs.declared.limits.TheConstants.{MOST_REQUEST_FRAMES}
 use Rattle.ata_types.specs.declared.request.Frame.{Frame}
+use Rattle.adapter.specs.Decoding.{pieces, IsWholePieces}
+use Rattle.adapter.specs.Encoding.{IsAllowedPrd}
 use Rattle.adapter.specs.declared.command.Prd.{Prd}
-use Rattle.command_table.specs.SectorPlaces.{frame_number}
+use Rattle.command_table.specs.SectorPlaces.{frame_number, places_of}
 
 -- So many bytes, of words of two, fill the frames: the last of them perhaps in part, but at least one byte of it. There
 -- are no more frames than a request may name.
@@ -39,3 +41,12 @@ abbrev pub PrdsCoverFrames : List Frame → ℕ → List Prd → Type 0
 PrdsCoverFrames frames bytes [] = (frames ≡ []) × (bytes ≡ 0)
 PrdsCoverFrames frames bytes (e ∷ es) = CoversRun frames bytes e
     × PrdsCoverFrames (drop (frame_count_in e) frames) (bytes - e.bytes) es
+
+-- The PRDs cover the frames, are no more than these, and are allowed. If the bytes are whole sectors, they are whole
+-- pieces, which stand at the places of the sectors.
+pub record ArePrdsOfFrames (frames : List Frame) (bytes : ℕ) (prds : List Prd) : Type 0 where
+  pub cover_frames : PrdsCoverFrames frames bytes prds
+  pub count_is_allowed : length prds ≤ length frames
+  pub allowed : All IsAllowedPrd prds
+  pub are_whole_pieces : bytes % 512 ≡ 0 → All IsWholePieces prds
+  pub places : bytes % 512 ≡ 0 → pieces prds ≡ places_of frames (bytes / 512)

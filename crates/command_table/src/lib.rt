@@ -7,9 +7,9 @@
 
 ghost use Rattle.std.specs.Prelude.{◌≡◌, ℕ, List, [], ◌∷◌, ◌+◌, ◌*◌, ◌/◌, ◌%◌, ◌^◌, ◌<◌, ◌≤◌, length, drop, All};
 ghost use Rattle.byteorder.specs.Endian.{little_from};
-ghost use Rattle.adapter.specs.{Decoding.{pieces, IsWholePieces}, Encoding.{AreZero, EncodesHeader, EncodesPrd, IsAllowedPrd}, Commands.{IsValidMeaning, Meaning, command_of, transfer_sector_count, reads_memory}, Memory.{bytes_at}, Rules.{IsInMemoryNotOwnedByDevice, IsOn, IsStable}, declared.command.Operation.{Operation}, declared.command.Prd.{Prd}, AccessBounds.{MakesAtMost}};
+ghost use Rattle.adapter.specs.{Encoding.{AreZero, EncodesHeader, EncodesPrd, IsAllowedPrd}, Commands.{IsValidMeaning, Meaning, command_of, transfer_sector_count, reads_memory}, Memory.{bytes_at}, Rules.{IsInMemoryNotOwnedByDevice, IsOn, IsStable}, declared.command.Command.{Command}, declared.command.Operation.{Operation}, declared.command.Prd.{Prd}, AccessBounds.{MakesAtMost}};
 ghost use Rattle.refinement.specs.{Fragments.{IsSimulated}, MemoryLayout.{command_list_address, scratch_frame_address}, Slots.{SlotDecodesTo}};
-ghost use Rattle.command_table.specs.{TableStores.{FitsTable, IsHeaderTableOrBlockStore, IsTable, IsTableFor, IsHeaderOrTableStore, IsSlotStateFree, MayWriteTable, StoresTable}, SectorPlaces.{places_of}, FrameRuns.{PrdsCoverFrames, FillFrames, IsLongestRunFromFirst}, BufferBytes.{StoresBytes}, Costs.{TABLE_WITH_BLOCK_ACCESSES, TABLE_ACCESSES}};
+ghost use Rattle.command_table.specs.{TableStores.{FitsTable, IsHeaderTableOrBlockStore, IsTable, IsTableFor, IsHeaderOrTableStore, IsSlotStateFree, MayWriteTable, StoresTable}, FrameRuns.{ArePrdsOfFrames, FillFrames, IsLongestRunFromFirst}, BufferBytes.{StoresBytes}, Costs.{TABLE_WITH_BLOCK_ACCESSES, TABLE_ACCESSES}};
 
 pub mod laws;
 mod prerequisites;
@@ -22,6 +22,7 @@ use ata_types::{
     Slot, TABLE_ALIGNMENT, TABLE_BYTES, TABLE_HEAD_BYTES, TABLES_OFFSET, WRITE_DMA_EXT,
     WRITE_FPDMA_QUEUED,
 };
+use dma_frames::Loan;
 use fis::encode_h2d;
 use prerequisites::law_prerequisites;
 use refinement::fragments::law_other_ports_are_untouched;
@@ -73,29 +74,30 @@ fn prd_bytes(prd: &Prd) -> [u8; 16]
     ]
 }
 
-/// The PRDs that cover the first bytes of the frames, in order: one for each longest run of frames whose numbers rise
-/// by one, so of 512 KiB at most (AHCI 1.3.1, 4.2.3.3, allows 4 MiB). The last one covers the rest of the bytes.
-pub fn prds(frames: &[Frame], bytes: u32) -> ArrayVec<Prd, MOST_REQUEST_FRAMES>
-    requires fill { FillFrames frames.now bytes }
-    ensures cover_frames { PrdsCoverFrames frames.now bytes result.items }
-    ensures count_is_allowed { length result.items ≤ length frames.now }
-    ensures allowed { All IsAllowedPrd result.items }
-    ensures are_whole_pieces { bytes % 512 ≡ 0 → All IsWholePieces result.items }
-    ensures places { bytes % 512 ≡ 0 → pieces result.items ≡ places_of frames.now (bytes / 512) }
+/// The PRDs that cover the first bytes of a loan's frames, in order: one for each longest run of frames whose numbers
+/// rise by one, so of 512 KiB at most (AHCI 1.3.1, 4.2.3.3, allows 4 MiB). The last one covers the rest of the bytes.
+pub fn prds(loan: &Loan, bytes: u32) -> ArrayVec<Prd, MOST_REQUEST_FRAMES>
+    requires { FillFrames loan.now.frames bytes }
+    ensures { ArePrdsOfFrames loan.now.frames bytes result.items }
 {
-    prds_in(frames, bytes)
+    prds_in(loan, bytes)
 }
 
 /// The same PRDs, in a list that has room for fewer: a list is cleared whole when it is made, and most requests have
 /// few frames.
-pub fn prds_in<const ROOM: usize>(frames: &[Frame], bytes: u32) -> ArrayVec<Prd, ROOM>
+pub fn prds_in<const ROOM: usize>(loan: &Loan, bytes: u32) -> ArrayVec<Prd, ROOM>
+    requires fill { FillFrames loan.now.frames bytes }
+    requires room { length loan.now.frames ≤ ROOM }
+    ensures { ArePrdsOfFrames loan.now.frames bytes result.items }
+{
+    prds_of_frames(loan.frames(), bytes)
+}
+
+/// The PRDs that cover the first bytes of these frames.
+fn prds_of_frames<const ROOM: usize>(frames: &[Frame], bytes: u32) -> ArrayVec<Prd, ROOM>
     requires fill { FillFrames frames.now bytes }
     requires room { length frames.now ≤ ROOM }
-    ensures cover_frames { PrdsCoverFrames frames.now bytes result.items }
-    ensures count_is_allowed { length result.items ≤ length frames.now }
-    ensures allowed { All IsAllowedPrd result.items }
-    ensures are_whole_pieces { bytes % 512 ≡ 0 → All IsWholePieces result.items }
-    ensures places { bytes % 512 ≡ 0 → pieces result.items ≡ places_of frames.now (bytes / 512) }
+    ensures { ArePrdsOfFrames frames.now bytes result.items }
 {
     let mut entries = ArrayVec::new();
     let mut covered = 0;
@@ -111,6 +113,22 @@ pub fn prds_in<const ROOM: usize>(frames: &[Frame], bytes: u32) -> ArrayVec<Prd,
         covered += count;
     }
     entries
+}
+
+/// The PRD of the block of 512 bytes at the head of a port's scratch frame: that of a command that moves one block for
+/// the driver itself.
+pub fn scratch_prd(port: Port) -> Prd
+    ensures is { result ≡ record { address = scratch_frame_address port.0; bytes = 512 } }
+    ensures allowed { IsAllowedPrd result }
+    ensures one_block { (slot : ℕ) (command : Command) (m : Meaning) → IsValidMeaning m
+        → command ≡ command_of m.operation slot m.first m.count → transfer_sector_count m.operation m.count ≡ 1
+        → IsTableFor slot command (result ∷ []) m (scratch_frame_address port.0 ∷ []) }
+{
+    let frame = DRIVER_FRAMES_PER_PORT * u16::from(port.0) + SCRATCH_FRAME;
+    Prd {
+        address: FRAME_BYTES * u32::from(frame),
+        bytes: BLOCK_BYTES,
+    }
 }
 
 /// How many frames from this place on have numbers that rise by one: as many as can be.
@@ -235,8 +253,7 @@ pub fn write_table_with_block<A: Adapter>(
 {
     law_other_ports_are_untouched();
     law_prerequisites();
-    let scratch = Frame(DRIVER_FRAMES_PER_PORT * u16::from(port.0) + SCRATCH_FRAME);
-    let prds = prds(&[scratch], BLOCK_BYTES);
-    write_table(adapter, port, Slot(0), command, prds.as_slice());
-    adapter.store(FRAME_BYTES * u32::from(scratch.0), block);
+    let scratch = scratch_prd(port);
+    write_table(adapter, port, Slot(0), command, &[scratch]);
+    adapter.store(scratch.address, block);
 }

@@ -1,10 +1,9 @@
 -- A driver's own command is issued, waited for, and its page loaded.
-use Rattle.std.proofs.Common.{ℕ, ◌≡◌, ◌≢◌, ◌==◌, ◌+◌, ◌*◌, ◌%◌, ◌<◌, ◌≤◌, ◌++◌, Bool, true, false, List, [], ◌∷◌, length, None, inl, inr, refl, sym, ◌∙◌, ap, subst, arith, lit<, le_trans, append_assoc, append-nil, if◌then◌else◌, nat_eq}
+use Rattle.std.proofs.Common.{ℕ, ◌≡◌, ◌≢◌, ◌==◌, ◌+◌, ◌<◌, ◌≤◌, ◌++◌, Bool, true, false, List, [], ◌∷◌, length, None, inl, inr, refl, sym, ◌∙◌, ap, subst, arith, lit<, le_trans, append_assoc, append-nil, if◌then◌else◌, nat_eq}
 use Rattle.std.proofs.lemmas.Bool.{true≢false}
 use Rattle.std.proofs.lemmas.List.{length-append}
-use Rattle.std.specs.List.{All}
 use Rattle.ata_types.specs.declared.Port.{Port}
-use Rattle.ata_types.specs.declared.memory.TheConstants.{DRIVER_BYTES, DRIVER_FRAMES_PER_PORT, SCRATCH_FRAME}
+use Rattle.ata_types.specs.declared.memory.TheConstants.{DRIVER_BYTES}
 use Rattle.ata_types.specs.declared.limits.TheConstants.{MOST_READINGS}
 use Rattle.hba_regs.specs.Bits.{bit}
 use Rattle.hba_regs.specs.declared.reg.Reg.{Reg}
@@ -12,12 +11,11 @@ use Rattle.hba_regs.specs.declared.reg.Reg.TheVariants.{Ghc, Px}
 use Rattle.hba_regs.specs.declared.reg.PortReg.TheVariants.{Ci, Sact}
 use Rattle.adapter.specs.Access.{Access, Does, Reads, Writes, Loads, capped_count_after_reading}
 use Rattle.adapter.specs.Access.Access.{Reading, Writing, Loading, Storing}
-use Rattle.adapter.specs.Commands.{Meaning, command_of, moves_disk_sectors, transfer_sector_count}
+use Rattle.adapter.specs.Commands.{IsValidMeaning, Meaning, command_of, moves_disk_sectors, transfer_sector_count}
 use Rattle.adapter.specs.Device.{Bases, Notes, DevicePort, Device}
 use Rattle.adapter.specs.Device.Halt.{NotHalted}
 use Rattle.adapter.specs.KeptBySteps.{KeepsOverSteps, KeepsControlsFlagsRise, PortBitsOnlyFallFreeSlotsStay}
 use Rattle.adapter.specs.Rules.{IsOn, HasPort, IsInMemoryNotOwnedByDevice, IsStable, MayWrite}
-use Rattle.adapter.specs.Decoding.{pieces, IsWholePieces}
 use Rattle.adapter.specs.declared.command.Command.{Command}
 use Rattle.adapter.specs.declared.command.Operation.{Operation}
 use Rattle.adapter.specs.declared.command.Prd.{Prd}
@@ -29,7 +27,6 @@ use Rattle.refinement.specs.PortFacts.{IsSlotClear}
 use Rattle.refinement.specs.MemoryLayout.{command_list_address, scratch_frame_address}
 use Rattle.adapter.specs.OneCommand.{SlotHasNoCommand}
 use Rattle.refinement.specs.Slots.{Free, Own, SlotStates, set_slot_state as used, SlotDecodesTo, client_operation_of, PageCameSinceAndStandsInScratch}
-use Rattle.command_table.specs.SectorPlaces.{places_of}
 use Rattle.command_table.specs.TableStores.{IsTableFor, IsHeaderOrTableStore, IsSlotStateFree}
 use Rattle.disk_page.specs.PageRequests.{page_operation, AreSlot0IssuedReadings, PortMayAskForPage, IsPxciOrSlot0PageMemoryAccess, BringsLastPage, ShowsSlot0Issued, WaitsForSlot0InVain}
 use Rattle.disk_page.specs.PageWaits.{IsPageAwaitedOrReceived}
@@ -109,25 +106,16 @@ may_after port old new l may =
       st_set_in_tape = let same = l.set_at in let later = l.later in let known = may.st_set_in_tape in omega (arith, same, later, known);
     }
 
--- one frame, of which the page takes the first 512 bytes
-pub table_for : (page : Page) (command : Command) (prds : List Prd) (port n : ℕ) → n ≡ port → command ≡ command_of (page_operation page) 0 0 0 → All IsWholePieces prds →
-    pieces prds ≡ places_of (record { 0 = DRIVER_FRAMES_PER_PORT * n + SCRATCH_FRAME } ∷ []) 1 → IsTableFor 0 command prds (meaning_of page) (scratch_frame_address port ∷ [])
-table_for page command prds port n same is whole places = record {
-  meaning = record { sectors_fit_if_it_moves_some = λ moves_sectors. absurd (true≢false (sym moves_sectors ∙ (unranged page))); sectors_are_zero_if_it_moves_none = λ _. (refl, refl) };
-  fields = is;
-  prds_are_whole_pieces = whole;
-  places_are = (let at : 4096 * (DRIVER_FRAMES_PER_PORT * n + SCRATCH_FRAME) + 512 * (0 % 8) ≡ scratch_frame_address port = omega (arith, same) in ap (λ (a : ℕ). a ∷ []) (sym at)) ∙ sym places;
-  place_count_is = sym (one_piece page);
-}
+-- the meaning of the page's command is one that a command may have
+page_means : (page : Page) → IsValidMeaning (meaning_of page)
+page_means page = record { sectors_fit_if_it_moves_some = λ moves_sectors. absurd (true≢false (sym moves_sectors ∙ (unranged page))); sectors_are_zero_if_it_moves_none = λ _. (refl, refl) }
 
--- so they say the command
-pub page_is_told : (page : Page) (command : Command) (prds written : List Prd) (port n : ℕ) (memory : ℕ → ℕ) → n ≡ port → command ≡ command_of (page_operation page) 0 0 0 → All IsWholePieces prds →
-    pieces prds ≡ places_of (record { 0 = DRIVER_FRAMES_PER_PORT * n + SCRATCH_FRAME } ∷ []) 1 → written ≡ prds →
-    ((m : Meaning) (places : List ℕ) → IsTableFor 0 command written m places → SlotDecodesTo memory (command_list_address port) port 0 m places) →
+-- header and table say the page's command
+pub page_is_told : (page : Page) (command : Command) (prd : Prd) (port : ℕ) (memory : ℕ → ℕ) → command ≡ command_of (page_operation page) 0 0 0 →
+    ((slot : ℕ) (command : Command) (m : Meaning) → IsValidMeaning m → command ≡ command_of m.operation slot m.first m.count → transfer_sector_count m.operation m.count ≡ 1 → IsTableFor slot command (prd ∷ []) m (scratch_frame_address port ∷ [])) →
+    ((m : Meaning) (places : List ℕ) → IsTableFor 0 command (prd ∷ []) m places → SlotDecodesTo memory (command_list_address port) port 0 m places) →
     SlotDecodesTo memory (command_list_address port) port 0 (meaning_of page) (scratch_frame_address port ∷ [])
-page_is_told page command prds written port n memory same is whole places value says =
-    let P : List Prd → Type 0 = λ es. IsTableFor 0 command es (meaning_of page) (scratch_frame_address port ∷ []) in
-    says (meaning_of page) (scratch_frame_address port ∷ []) (subst P (sym value) (table_for page command prds port n same is whole places))
+page_is_told page command prd port memory is one says = says (meaning_of page) (scratch_frame_address port ∷ []) (one 0 command (meaning_of page) (page_means page) is (one_piece page))
 
 -- one more reading that shows the command
 vain_more : (port : Port) (n v : ℕ) (early late : List Access) → AreSlot0IssuedReadings port n early → late ≡ Reading (Px port Ci) v ∷ [] → bit v 0 ≡ true → AreSlot0IssuedReadings port (n + 1) (early ++ late)

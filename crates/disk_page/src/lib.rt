@@ -14,18 +14,13 @@ pub mod laws;
 mod prerequisites;
 
 use adapter::{Adapter, Command};
-use ata_types::{
-    DRIVER_BYTES, DRIVER_FRAMES_PER_PORT, FRAME_BYTES, Frame, IDENTIFY_DEVICE, MOST_READINGS, Port,
-    READ_LOG_EXT, SCRATCH_FRAME, Slot,
-};
-use command_table::{prds, write_table};
+use ata_types::{DRIVER_BYTES, IDENTIFY_DEVICE, MOST_READINGS, Port, READ_LOG_EXT, Slot};
+use command_table::{scratch_prd, write_table};
 use hba_regs::{PortReg, Reg, is_set};
 use prerequisites::law_prerequisites;
 
 /// The log of errors of queued commands (ACS-3, 9.14; Serial ATA).
 const QUEUED_ERROR_LOG: u64 = 0x10;
-
-const PAGE_BYTES: u32 = 512;
 
 /// A page that a disk can be asked for.
 #[derive(Clone, Copy, Debug, PartialEq, Eq)]
@@ -61,9 +56,7 @@ fn ask<A: Adapter>(adapter: &mut A, port: Port, page: Page)
     ensures cost { MakesAtMost ASK_FOR_PAGE_ACCESSES (A.access_count adapter.old) (A.access_count adapter.new) }
 {
     law_prerequisites();
-    let scratch = Frame(DRIVER_FRAMES_PER_PORT * u16::from(port.0) + SCRATCH_FRAME);
-    let prds = prds(&[scratch], PAGE_BYTES);
-    write_table(adapter, port, Slot(0), &command(page), prds.as_slice());
+    write_table(adapter, port, Slot(0), &command(page), &[scratch_prd(port)]);
     adapter.write(Reg::Px(port, PortReg::Ci), 1);
 }
 
@@ -113,8 +106,6 @@ pub fn read_page<A: Adapter>(adapter: &mut A, port: Port, page: Page) -> Option<
         return None;
     }
     let mut bytes = [0; 512];
-    let scratch = FRAME_BYTES
-        * u32::from(DRIVER_FRAMES_PER_PORT * u16::from(port.0) + SCRATCH_FRAME);
-    adapter.load(scratch, &mut bytes);
+    adapter.load(scratch_prd(port).address, &mut bytes);
     Some(bytes)
 }

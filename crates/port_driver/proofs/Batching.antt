@@ -15,10 +15,10 @@ use Rattle.adapter.specs.AccessBounds.{MakesAtMost}
 use Rattle.block_machine.specs.DueRequests.{AreDueInTurnAndLeaveNoneDue, IsDue, due_of, is_plain, with_issued}
 use Rattle.block_machine.specs.declared.due.QueueMode.{QueueMode}
 use Rattle.block_machine.specs.declared.due.Unanswered.{Unanswered}
-use Rattle.commands.specs.Costs.{ISSUE_ACCESSES}
-use Rattle.commands.specs.Tasks.{IsFitTransfer, IsReadOrWrite}
+use Rattle.ncq.specs.Costs.{ISSUE_ACCESSES}
+use Rattle.ncq.specs.Tasks.{IsFitTransfer, IsReadOrWrite}
 use Rattle.host_boot.specs.declared.ProbeResult.{ProbeResult}
-use Rattle.commands.specs.Batches.{PlacedTask}
+use Rattle.ncq.specs.Batches.{PlacedTask}
 use Rattle.request_queue.specs.BookEntries.{BookEntry, BookIsWellFormed, IsWellFormedEntry, as_unanswered, unanswered_of, due_ids, issued_request, update_if_id}
 use Rattle.request_queue.specs.declared.PendingRequest.{PendingRequest}
 use Rattle.server_history.specs.IssuingAndAnswering.{IssuesTogetherIfAny, IssuesTogether, ChangesOnlySlotsAndBook, PutsInSlot, PutsInSlots, task_of, use_for}
@@ -95,12 +95,11 @@ module _ (x : Preparing) (s : ServerState) (l : HasPortToIssue s x.start x.first
     found_is = one x.book (record { request = r; frames = frames }) e goes_on.book_is_well_formed held x.turn.1 (same ∙ sym x.turn.2)
 
     -- its task, as it is made
-    pub task_made : (slot : ℕ) (made : List Frame) → made ≡ frames
-        → ◌≡◌ {A = PlacedTask} (record { slot = slot; task = record { op = r.op; range = r.range; queued = true }; frames = made }) (record { slot = slot; task = task_of x.mode e; frames = e.frames })
-    task_made slot made made_is = λ i. record {
+    pub task_made : (slot : ℕ) → ◌≡◌ {A = PlacedTask} (record { slot = slot; task = record { op = r.op; range = r.range; queued = true }; frames = frames }) (record { slot = slot; task = task_of x.mode e; frames = e.frames })
+    task_made slot = λ i. record {
       slot = slot;
       task = record { op = (found_is i).request.op; range = (found_is i).request.range; queued = sym (ap not queued) i };
-      frames = (made_is ∙ ap (λ (b : BookEntry). b.frames) found_is) i;
+      frames = (found_is i).frames;
     }
 
   pub fits : ChangesOnlySlotsAndBook s mid → is_plain x.mode e.request.op ≡ false → (slot : ℕ) → (is_plain x.mode e.request.op ≡ true → slot ≡ 0) → IsFitTransfer (task_of x.mode e) e.frames

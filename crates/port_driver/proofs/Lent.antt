@@ -16,7 +16,7 @@ use Rattle.identify.specs.declared.error_log.FailedSlot.{FailedSlot}
 use Rattle.error_recovery.specs.Recovery.{PlainUsesSlot0, PlainIsSlot0, PortMayRecover, RecoversOrStops, BacksFailure}
 use Rattle.error_recovery.specs.declared.Recovered.{Recovered}
 use Rattle.host_boot.specs.TakeOver.{probe_result_of}
-use Rattle.commands.specs.Masks.{ReadsDone}
+use Rattle.ncq.specs.Masks.{ReadsDone}
 use Rattle.port_control.specs.PortEvents.{IsPxisSstsOrOwnIsAccess, TakesEvent}
 use Rattle.port_control.specs.declared.events.PortEvent.TheVariants.{TaskFileError}
 use Rattle.request_queue.specs.BookEntries.{BookEntry}

@@ -29,9 +29,9 @@ use Rattle.request_queue.specs.declared.PendingRequest.{PendingRequest}
 use Rattle.server_history.specs.IssuingAndAnswering.{IssuesDueOfPort, IssuesTogetherIfAny, IssuesTogether, PutsInSlot, task_of, use_for}
 use Rattle.server_history.specs.ServerState.{ServerState, InCallInvariant, is_served, mode_in, no_slots, slots_at, state_of, with_slot}
 use Rattle.slots.specs.SlotUses.{PortSlots, IsLowestFree, IsTaken, with_use}
-use Rattle.commands.specs.Batches.{IsBatchIssued, batch_of_one}
-use Rattle.commands.specs.Issuing.{MayIssueTask}
-use Rattle.commands.specs.Tasks.{IsFitTransfer, IsReadOrWrite}
+use Rattle.ncq.specs.Batches.{IsBatchIssued, batch_of_one}
+use Rattle.ncq.specs.Issuing.{MayIssueTask}
+use Rattle.ncq.specs.Tasks.{IsFitTransfer, IsReadOrWrite}
 
 -- ---- what a request of the book is
 

@@ -4,7 +4,7 @@ use Rattle.std.specs.Prelude.{ℕ, ◌+◌, ◌*◌}
 use Rattle.error_recovery.specs.Costs.{RECOVER_ACCESSES}
 use Rattle.host_boot.specs.Costs.{REBOOT_ACCESSES, REBOOT_IF_PRESENT_ACCESSES}
 use Rattle.command_table.specs.Costs.{TABLE_ACCESSES}
-use Rattle.commands.specs.Costs.{BATCH_WRITE_ACCESSES, DONE_ACCESSES}
+use Rattle.ncq.specs.Costs.{BATCH_WRITE_ACCESSES, DONE_ACCESSES}
 use Rattle.port_control.specs.Costs.{STOP_ACCESSES}
 use Rattle.port_control.specs.EventCosts.{TAKE_EVENT_ACCESSES}
 use Rattle.port_control.specs.declared.events.PortError.{PortError}

@@ -6,7 +6,7 @@ use Rattle.adapter.specs.AccessBounds.{MakesAtMost}
 use Rattle.adapter.specs.Device.{Device}
 use Rattle.block_machine.specs.DueRequests.{due_of}
 use Rattle.command_table.specs.Costs.{TABLE_ACCESSES}
-use Rattle.commands.specs.Costs.{BATCH_WRITE_ACCESSES}
+use Rattle.ncq.specs.Costs.{BATCH_WRITE_ACCESSES}
 use Rattle.request_queue.specs.BookEntries.{BookEntry, unanswered_of}
 use Rattle.server_history.specs.IssuingAndAnswering.{IssuesDueOfPort}
 use Rattle.server_history.specs.ServerState.{ServerState, state_of}

@@ -12,8 +12,8 @@ use Rattle.block_machine.specs.declared.due.QueueMode.{QueueMode}
 use Rattle.dma_frames.specs.FrameTables.{OwnersAndLoans}
 use Rattle.host_boot.specs.TakeOver.{probe_result_of}
 use Rattle.host_boot.specs.declared.ProbeResult.{ProbeResult}
-use Rattle.commands.specs.Tasks.{IsFitTransfer, IsReadOrWrite}
-use Rattle.commands.specs.declared.ncq.Task.{Task}
+use Rattle.ncq.specs.Tasks.{IsFitTransfer, IsReadOrWrite}
+use Rattle.ncq.specs.declared.tasks.Task.{Task}
 use Rattle.request_queue.specs.BookEntries.{BookEntry, IsEarlier}
 use Rattle.server_history.specs.IssuingAndAnswering.{AnswersEach, AnswersOne, done_reply}
 use Rattle.server_history.specs.ServerState.{ServerState, InCallInvariant, mode_in, slots_at, state_of, used_for}

@@ -2,7 +2,7 @@
 ghost use Rattle.std.specs.{Prelude.{◌≡◌, ◌<◌, ◌≤◌, ◌/◌, ◌%◌, [], ◌∷◌, ◌++◌, All, Some, length}, List.{Contains}};
 ghost use Rattle.block_machine.specs.DueRequests.{IsDue};
 ghost use Rattle.port_driver.specs.{Issuing.{IssuesWhatIsDue, MayIssueDue}, LentSlots.{HasPortToIssue, FitsSlot, with_port_slots}};
-ghost use Rattle.commands.specs.{Issuing.{IsIssued, MayIssueTask}, Costs.{ISSUE_ACCESSES}};
+ghost use Rattle.ncq.specs.{Issuing.{IsIssued, MayIssueTask}, Costs.{ISSUE_ACCESSES}};
 ghost use Rattle.block_machine.specs.Rules.{HasNoFault};
 ghost use Rattle.dma_frames.specs.FrameTables.{OwnersAndLoans, SetsLoanOnly, lent_to, owner_of};
 ghost use Rattle.request_queue.specs.BookEntries.{BookEntry, IsNewlyAccepted, as_unanswered, entry_count_of_client, unanswered_of, due_ids};
@@ -11,15 +11,14 @@ ghost use Rattle.adapter.specs.AccessBounds.{MakesAtMost};
 
 use crate::served_port::{ServedPort, Shared};
 use adapter::Adapter;
-use ata_types::{
-    Frame, MOST_REQUEST_FRAMES, MOST_UNANSWERED_OF_A_CLIENT, Op, Port, RequestId, Slot,
-};
+use ata_types::{Frame, MOST_REQUEST_FRAMES, MOST_UNANSWERED_OF_A_CLIENT, Op, Port, RequestId};
 use block_machine::is_plain;
 use block_machine::laws::law_issuing_due_in_turn_leaves_none_due;
-use commands::laws::{law_batch_mask_gains_task_slot_bit, law_stored_task_extends_batch};
-use commands::{Task, issue, issue_all, issue_flush, issue_trim, store_transfer};
+use flush_trim::{issue_flush, issue_trim};
 use hba_regs::with_bit;
 use host_boot::ProbeResult;
+use ncq::laws::{law_batch_mask_gains_task_slot_bit, law_stored_task_extends_batch};
+use ncq::{Issue, Task, issue, issue_all, store_transfer};
 use request_queue::laws::{
     law_an_id_is_one_request, law_book_stays_well_formed, law_unanswered_follow_book_operations,
 };
@@ -29,19 +28,31 @@ use server_history::laws::{
     law_resolved_errors_keep_in_call_invariant,
 };
 
+/// The task of a request, by a queued command or a plain one.
+fn task_for(request: &PendingRequest, queued: bool) -> Task
+    ensures { result ≡ record { op = request.now.op; range = request.now.range; queued = queued } }
+{
+    Task {
+        op: request.op,
+        range: request.range,
+        queued,
+    }
+}
+
 /// Issues a task in a slot that it may go in: the slot's command then says the task.
-fn issue_task<A: Adapter>(adapter: &mut A, port: Port, slot: Slot, task: &Task, frames: &[Frame])
-    requires may { MayIssueTask port slot.0 (A.device adapter.old) }
-    requires small { slot.0 < 32 }
-    requires usable { slot.0 ≤ (A.device adapter.old).cap / 256 % 32 }
-    requires fits { FitsSlot task.now frames.now slot.0 }
-    ensures issued { IsIssued port slot.0 task.now frames.now (A.device adapter.old) (A.device adapter.new) }
+fn issue_task<A: Adapter>(adapter: &mut A, port: Port, what: &Issue)
+    requires may { MayIssueTask port what.now.slot.0 (A.device adapter.old) }
+    requires small { what.now.slot.0 < 32 }
+    requires usable { what.now.slot.0 ≤ (A.device adapter.old).cap / 256 % 32 }
+    requires fits { FitsSlot what.now.task what.now.loan.now.frames what.now.slot.0 }
+    ensures issued { IsIssued port what.now.slot.0 what.now.task what.now.loan.now.frames (A.device adapter.old)
+        (A.device adapter.new) }
     ensures cost { MakesAtMost ISSUE_ACCESSES (A.access_count adapter.old) (A.access_count adapter.new) }
 {
-    match task.op {
-        Op::Read => issue(adapter, port, slot, task, frames),
-        Op::Write => issue(adapter, port, slot, task, frames),
-        Op::Trim => issue_trim(adapter, port, &task.range),
+    match what.task.op {
+        Op::Read => issue(adapter, port, what),
+        Op::Write => issue(adapter, port, what),
+        Op::Trim => issue_trim(adapter, port, what.task.range),
         Op::Flush => issue_flush(adapter, port),
     }
 }
@@ -62,15 +73,12 @@ impl ServedPort {
         law_a_due_request_finds_a_free_slot();
         law_an_id_is_one_request();
         let (entry, loan) = book.entry(id);
-        let task = Task {
-            op: entry.op,
-            range: entry.range,
-            queued: !is_plain(self.mode, entry.op),
-        };
-        let Some(slot) = self.slots.take(id, task.queued) else {
+        let queued = !is_plain(self.mode, entry.op);
+        let Some(slot) = self.slots.take(id, queued) else {
             unreachable!()
         };
-        issue_task(adapter, port, slot, &task, loan.frames());
+        let task = task_for(entry, queued);
+        issue_task(adapter, port, &Issue { slot, task, loan });
         book.issue(id);
     }
 
@@ -166,15 +174,11 @@ impl ServedPort {
         for place in 0..due.len() {
             let id = due[place];
             let (entry, loan) = book.entry(id);
-            let task = Task {
-                op: entry.op,
-                range: entry.range,
-                queued: true,
-            };
             let Some(slot) = self.slots.take(id, true) else {
                 unreachable!()
             };
-            store_transfer(adapter, port, slot, &task, loan.frames());
+            let task = task_for(entry, true);
+            store_transfer(adapter, port, &Issue { slot, task, loan });
             book.issue(id);
             mask = with_bit(mask, u32::from(slot.0));
         }

@@ -14,8 +14,8 @@ use crate::recovery::{error_of, resume_or_reboot, revalidation_of, sort_replies_
 use crate::served_port::{ServedPort, Shared};
 use adapter::Adapter;
 use ata_types::{MOST_UNANSWERED_OF_ALL_CLIENTS, Port, PortState, Replies};
-use commands::done;
 use host_boot::ProbeResult;
+use ncq::done;
 use port_control::events::{PortError, take_event};
 use server_history::laws::{
     law_answer_and_issue_leave_none_due, law_handling_look_result_is_a_service_turn,

@@ -1,7 +1,7 @@
 -- The kinds of accesses of a port's turn, for the laws on fragments.
 use Rattle.ata_types.specs.declared.Port.{Port}
 use Rattle.adapter.specs.Access.{Access}
-use Rattle.commands.specs.Masks.{ReadsCiOrSact}
+use Rattle.ncq.specs.Masks.{ReadsCiOrSact}
 use Rattle.port_control.specs.PortEvents.{IsPxisSstsOrOwnIsAccess}
 use Rattle.port_control.specs.ServiceAccesses.{WritesOnlyHbaIsPxIsCiOrSact}
 use Rattle.refinement.specs.Fragments.{AnySlotStates}

@@ -20,7 +20,7 @@ use Rattle.host_boot.specs.declared.ProbeResult.{ProbeResult}
 use Rattle.host_boot.specs.declared.ProbeResult.TheVariants.{Ready, Unready}
 use Rattle.identify.specs.declared.DiskInfo.{DiskInfo}
 use Rattle.identify.specs.declared.wanted.Wanted.{Wanted}
-use Rattle.commands.specs.Masks.{ReadsDone}
+use Rattle.ncq.specs.Masks.{ReadsDone}
 use Rattle.port_control.specs.declared.Running as running_token
 use Rattle.port_control.specs.PortEvents.{TakesEvent}
 use Rattle.port_control.specs.declared.events.PortEvent.TheVariants as look

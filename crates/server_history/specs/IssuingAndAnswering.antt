@@ -17,9 +17,9 @@ use Rattle.block_machine.specs.State.{Pending}
 use Rattle.block_machine.specs.Steps.{Step, Answer, Issue, AllTouched}
 use Rattle.dma_frames.specs.FrameTables.{OwnersAndLoans, SetsLoanOnly}
 use Rattle.hba_regs.specs.Bits.{bit}
-use Rattle.commands.specs.Masks.{ReadsDone}
-use Rattle.commands.specs.Batches.{BatchSlotsAreUnused, IsBatchIssued, IsCommandIssueAccess, IsSlotOf, PlacedTask}
-use Rattle.commands.specs.declared.ncq.Task.{Task}
+use Rattle.ncq.specs.Masks.{ReadsDone}
+use Rattle.ncq.specs.Batches.{BatchSlotsAreUnused, IsBatchIssued, IsCommandIssueAccess, IsSlotOf, PlacedTask}
+use Rattle.ncq.specs.declared.tasks.Task.{Task}
 use Rattle.request_queue.specs.BookEntries.{BookEntry, BookIsWellFormed, IsWellFormedEntry, IsEarlier, as_unanswered, unanswered_of, update_if_id, due_ids, issued_request, without_entry}
 use Rattle.request_queue.specs.BookRelation.{EntryRelation}
 use Rattle.server_history.specs.ServerState.{ServerState, SlotsInvariant, mode_in, slots_at, used_for, with_slot}

@@ -51,9 +51,9 @@ use Rattle.error_recovery.specs.Evidence.{BringsLastLogPage, HasFailed}
 use Rattle.port_boot.specs.States.{StaysRunningIfUndisturbed, IsBootAccess}
 use Rattle.port_control.specs.Engines.{EngineFalls, EngineSticks}
 use Rattle.error_recovery.specs.Recovery.{IsRecoveryAccess}
-use Rattle.commands.specs.Masks.{ReadsDone, ReadsCiOrSact}
-use Rattle.commands.specs.Batches.{IsCommandIssueAccess, IssuesBatch, MayServeBatch, PlacedTask, issues_newest_first, with_serving_batch}
-use Rattle.commands.specs.Tasks.{IsTaskOf}
+use Rattle.ncq.specs.Masks.{ReadsDone, ReadsCiOrSact}
+use Rattle.ncq.specs.Batches.{IsCommandIssueAccess, IssuesBatch, MayServeBatch, PlacedTask, issues_newest_first, with_serving_batch}
+use Rattle.ncq.specs.Tasks.{IsTaskOf}
 use Rattle.port_control.specs.EventLaws.{Laws}
 use Rattle.request_queue.specs.BookEntries.{BookEntry, IsWellFormedEntry, IsEarlier, IsNewlyAccepted, BookIsWellFormed, IsWaiting, IsIssuedBelowLimit, with_requests_under_grant_revoked, unanswered_of, update_if_id, issued_request, request_with_issued_cleared, entry_count_of_client, without_entry}
 use Rattle.request_queue.specs.declared.PendingRequest.{PendingRequest}

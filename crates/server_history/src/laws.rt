@@ -10,7 +10,7 @@ ghost use Rattle.dma_frames.specs.FrameTables.{OwnersAndLoans, SetsLoanOnly, own
 ghost use Rattle.host_boot.specs.{TakeOver.{probe_result_of, TakesOver}, declared.ProbeResult.TheVariants.{Ready, Unready}, declared.Host.{Host}};
 ghost use Rattle.identify.specs.declared.DiskInfo.{DiskInfo};
 ghost use Rattle.hba_regs.specs.Bits.{bit};
-ghost use Rattle.commands.specs.{Batches.{PlacedTask}, Masks.{ReadsDone, FindsEachClearSlot}};
+ghost use Rattle.ncq.specs.{Batches.{PlacedTask}, Masks.{ReadsDone, FindsEachClearSlot}};
 ghost use Rattle.request_queue.specs.BookEntries.{BookEntry, as_unanswered, unanswered_of, due_ids};
 ghost use Rattle.server_history.specs.{Histories.{ExtendsToNoneDue, ExtendsAndHasInvariantByStuck, ExtendsHistory, StartsHistory, InvariantBetweenCalls, load_result, store_result}, KeptLoans.{GivingBackLoansComposes}, Revoking.{RevokesGrant}, IssuingAndAnswering.{AcceptsAndIssues, AnswersDoneAndIssues, AnswersOne, IsEmptyMask, IsMaskOf, IssuesDueOfPort, IssuesTogetherIfAny, ChangesOnlySlotsAndBook, FindsSlotFor, PutsInSlot, PutsInSlots, with_accepted}};
 ghost use Rattle.server_history.specs.{StuckServer.{ServerInvariant}, Probing.{ProbesPort}, Turns.{IsPortTurn, InRestart, ServicesEachPort, ServicesPort, Ticks, ProbesUnready, a_tick_older}, ServerState.{ServerState, probed_mode, InCallInvariant, IsNewServer, InvariantWithNoneDue, quarantined_at, mode_in, ports_of, admission_context, slots_at, state_of, used_for}};

@@ -1,4 +1,4 @@
-use Rattle.std.proofs.Common.{arith, refl, le_trans}
+use Rattle.std.proofs.Common.{le_trans}
 use Rattle.refinement.specs.Slots.{Own, set_slot_state}
 use Rattle.disk_page.specs.PageRequests.{page_operation}
 use Rattle.disk_page.proofs.Asking.{page_is_told, stored_then, may_after, ask_permitted, asked_to, asked_det, asked_on, asked_there, asked_later, asked_waits, stores_leave, stores_asking, stores_agree, stores_silent, stores_there, stores_room}
@@ -8,7 +8,7 @@ pub write-requires : goal.write-requires
 write-requires g c =
     let r = c.requires.may in
     let w = c.write_table.ensures in
-    let told = page_is_told c.args.page c.command.result c.prds-prds.result.items c.as_slice.result.now c.args.port.0 c.from.result _ c.from.ensures c.command.ensures (c.prds-prds.ensures.are_whole_pieces refl) (c.prds-prds.ensures.places refl) c.as_slice.ensures.value w.slot_decodes in
+    let told = page_is_told c.args.page c.command.result c.scratch_prd.result c.args.port.0 _ c.command.ensures c.scratch_prd.ensures.one_block w.slot_decodes in
     ask_permitted c.law_prerequisites.ensures c.args.port c.args.page _ (g.A.Adapter.device c.write_table.new.adapter) w.adapter_is_on (stores_there c.law_prerequisites.ensures c.args.port _ _ r.adapter_is_on w.followed r.has_port) (stores_room c.law_prerequisites.ensures c.args.port _ _ r.adapter_is_on w.followed r.driver_memory_fits)
     (may_after c.args.port.0 _ _ (stores_leave c.law_prerequisites.ensures c.args.port _ _ r.adapter_is_on w.followed) r.may_ask) told r.machine_is_related.0 r.machine_is_related.1 (stores_agree c.law_prerequisites.ensures c.args.port _ _ r.adapter_is_on w.followed r.machine_is_related.0 r.machine_is_related.1 r.machine_is_related.2)
 
@@ -16,7 +16,7 @@ pub returns-clause-adapter_is_on : goal.returns-clause-adapter_is_on
 returns-clause-adapter_is_on g c =
     let r = c.requires.may in
     let w = c.write_table.ensures in
-    let told = page_is_told c.args.page c.command.result c.prds-prds.result.items c.as_slice.result.now c.args.port.0 c.from.result _ c.from.ensures c.command.ensures (c.prds-prds.ensures.are_whole_pieces refl) (c.prds-prds.ensures.places refl) c.as_slice.ensures.value w.slot_decodes in
+    let told = page_is_told c.args.page c.command.result c.scratch_prd.result c.args.port.0 _ c.command.ensures c.scratch_prd.ensures.one_block w.slot_decodes in
     asked_on c.law_prerequisites.ensures c.args.port c.args.page _ _ w.adapter_is_on (stores_there c.law_prerequisites.ensures c.args.port _ _ r.adapter_is_on w.followed r.has_port) (stores_room c.law_prerequisites.ensures c.args.port _ _ r.adapter_is_on w.followed r.driver_memory_fits)
     (may_after c.args.port.0 _ _ (stores_leave c.law_prerequisites.ensures c.args.port _ _ r.adapter_is_on w.followed) r.may_ask) told c.write.ensures.does
 
@@ -24,7 +24,7 @@ pub returns-clause-asks : goal.returns-clause-asks
 returns-clause-asks g c =
     let r = c.requires.may in
     let w = c.write_table.ensures in
-    let told = page_is_told c.args.page c.command.result c.prds-prds.result.items c.as_slice.result.now c.args.port.0 c.from.result _ c.from.ensures c.command.ensures (c.prds-prds.ensures.are_whole_pieces refl) (c.prds-prds.ensures.places refl) c.as_slice.ensures.value w.slot_decodes in
+    let told = page_is_told c.args.page c.command.result c.scratch_prd.result c.args.port.0 _ c.command.ensures c.scratch_prd.ensures.one_block w.slot_decodes in
     record {
       followed = stored_then c.law_prerequisites.ensures c.args.port (λ uses. set_slot_state uses c.args.port.0 0 (Own (page_operation c.args.page))) _ _ _ (stores_asking c.law_prerequisites.ensures c.args.port _ _ r.adapter_is_on w.followed)
           (asked_to c.law_prerequisites.ensures c.args.port c.args.page _ _ w.adapter_is_on (stores_there c.law_prerequisites.ensures c.args.port _ _ r.adapter_is_on w.followed r.has_port) (stores_room c.law_prerequisites.ensures c.args.port _ _ r.adapter_is_on w.followed r.driver_memory_fits)
@@ -40,8 +40,3 @@ returns-clause-asks g c =
       no_comreset = asked_det c.law_prerequisites.ensures c.args.port c.args.page _ _ w.adapter_is_on (stores_there c.law_prerequisites.ensures c.args.port _ _ r.adapter_is_on w.followed r.has_port) (stores_room c.law_prerequisites.ensures c.args.port _ _ r.adapter_is_on w.followed r.driver_memory_fits)
           (may_after c.args.port.0 _ _ (stores_leave c.law_prerequisites.ensures c.args.port _ _ r.adapter_is_on w.followed) r.may_ask) told c.write.ensures.does;
     }
-
-pub prds-prds-requires : goal.prds-prds-requires
-prds-prds-requires g c = record {
-  fill = record { frame_count_is_allowed = omega arith; even = omega arith; bytes_fit = omega arith; last_frame_is_used = omega arith };
-}

@@ -1,5 +1,6 @@
-use Rattle.std.proofs.Common.{ℕ, ◌≡◌, ◌*◌, sym, ◌∙◌, subst, arith}
+use Rattle.std.proofs.Common.{ℕ, ◌≡◌, sym, ◌∙◌, ap, subst}
 use Rattle.adapter.specs.Access.{Loads}
+use Rattle.adapter.specs.declared.command.Prd.{Prd}
 use Rattle.adapter.specs.Rules.{IsInMemoryNotOwnedByDevice, IsStable}
 use Rattle.refinement.specs.MemoryLayout.{scratch_frame_address}
 use Rattle.refinement.specs.Slots.{Own, set_slot_state}
@@ -11,7 +12,7 @@ use Rattle.disk_page.proofs.read_page.Goals as goal
 pub load-requires : goal.load-requires
 load-requires g c =
     let r = c.requires.may in
-    let at : 4096 * c.from-scratch.result ≡ scratch_frame_address c.args.port.0 = let x = c.from-scratch.ensures in let y = c.from.ensures in omega (arith, x, y) in
+    let at : c.scratch_prd.result.address ≡ scratch_frame_address c.args.port.0 = ap (λ (e : Prd). e.address) c.scratch_prd.ensures.is in
     let asked = c.ask.ensures.asks.page_is_awaited r.machine_is_related.0 r.machine_is_related.1 r.machine_is_related.2 in
     let waiting = c.wait.ensures.waiting _ _ _ _ asked in
     let clear = c.wait.ensures.over c.if-not-wait.false _ _ _ _ asked in
@@ -21,7 +22,7 @@ load-requires g c =
 pub returns-clause-on : goal.returns-clause-on
 returns-clause-on g c =
     let r = c.requires.may in
-    let at : 4096 * c.from-scratch.result ≡ scratch_frame_address c.args.port.0 = let x = c.from-scratch.ensures in let y = c.from.ensures in omega (arith, x, y) in
+    let at : c.scratch_prd.result.address ≡ scratch_frame_address c.args.port.0 = ap (λ (e : Prd). e.address) c.scratch_prd.ensures.is in
     let asked = c.ask.ensures.asks.page_is_awaited r.machine_is_related.0 r.machine_is_related.1 r.machine_is_related.2 in
     let waiting = c.wait.ensures.waiting _ _ _ _ asked in
     let clear = c.wait.ensures.over c.if-not-wait.false _ _ _ _ asked in
@@ -45,7 +46,7 @@ returns-then-not-wait-clause-gets g c =
 pub returns-clause-gets : goal.returns-clause-gets
 returns-clause-gets g c =
     let r = c.requires.may in
-    let at : 4096 * c.from-scratch.result ≡ scratch_frame_address c.args.port.0 = let x = c.from-scratch.ensures in let y = c.from.ensures in omega (arith, x, y) in
+    let at : c.scratch_prd.result.address ≡ scratch_frame_address c.args.port.0 = ap (λ (e : Prd). e.address) c.scratch_prd.ensures.is in
     let asked = c.ask.ensures.asks.page_is_awaited r.machine_is_related.0 r.machine_is_related.1 r.machine_is_related.2 in
     let waiting = c.wait.ensures.waiting _ _ _ _ asked in
     let clear = c.wait.ensures.over c.if-not-wait.false _ _ _ _ asked in

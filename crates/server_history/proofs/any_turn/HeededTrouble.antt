@@ -24,8 +24,8 @@ use Rattle.block_machine.specs.Ports.{Evidence, Ports}
 use Rattle.driver_history.specs.Evidence.{TapeGainsEntry, ShowsLinkChange, ShowsFailure}
 use Rattle.driver_history.specs.Histories.{LosesNoPortError}
 use Rattle.error_recovery.specs.Evidence.{GainsSinceStart, ShowsFatal}
-use Rattle.commands.specs.Masks.{ReadsCiOrSact}
-use Rattle.commands.specs.Batches.{IsCommandIssueAccess}
+use Rattle.ncq.specs.Masks.{ReadsCiOrSact}
+use Rattle.ncq.specs.Batches.{IsCommandIssueAccess}
 use Rattle.port_control.specs.PortEvents.{IsPxisSstsOrOwnIsAccess}
 use Rattle.port_control.specs.ServiceAccesses.{WritesOnlyHbaIsCiSactOrOtherPxIs}
 use Rattle.port_control.specs.declared.events.PortEvent.TheVariants.{NoEvent}

@@ -8,7 +8,7 @@ use Rattle.refinement.specs.Fragments.{IsDrivenBy}
 use Rattle.refinement.specs.Slots.{IsEmptySlot, RelatesSlot, SlotState}
 use Rattle.block_machine.specs.State.{Machine}
 use Rattle.host_boot.specs.TakeOver.{probe_result_of}
-use Rattle.commands.specs.Masks.{ReadsDone}
+use Rattle.ncq.specs.Masks.{ReadsDone}
 use Rattle.port_control.specs.PortEvents.{IsPxisSstsOrOwnIsAccess}
 use Rattle.server_history.specs.Prerequisites.{PrerequisiteLaws}
 use Rattle.server_history.specs.ServerState.{ServerState, MachineRelation, state_of, used_for}

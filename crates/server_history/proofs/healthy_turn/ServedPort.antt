@@ -30,7 +30,7 @@ use Rattle.host_boot.specs.TakeOver.{probe_result_of}
 use Rattle.host_boot.specs.declared.ProbeResult.TheVariants.{Ready}
 use Rattle.driver_history.specs.Histories.{IssuesDue}
 use Rattle.identify.specs.declared.DiskInfo.{DiskInfo}
-use Rattle.commands.specs.Masks.{ReadsDone, FindsEachClearSlot}
+use Rattle.ncq.specs.Masks.{ReadsDone, FindsEachClearSlot}
 use Rattle.port_control.specs.PortEvents.{IsPxisSstsOrOwnIsAccess, TakesEvent}
 use Rattle.port_control.specs.ServiceAccesses.{WritesOnlyHbaIsPxIsCiOrSact}
 use Rattle.port_control.specs.declared.events.PortEvent.TheVariants.{NoEvent}
@@ -38,7 +38,7 @@ use Rattle.request_queue.specs.BookEntries.{BookEntry, unanswered_of, due_ids}
 use Rattle.slots.specs.SlotUses.{PortSlots}
 use Rattle.slots.specs.declared.SlotUse.{SlotUse}
 use Rattle.server_history.specs.Prerequisites.{PrerequisiteLaws}
-use Rattle.commands.specs.Batches.{IsCommandIssueAccess}
+use Rattle.ncq.specs.Batches.{IsCommandIssueAccess}
 use Rattle.server_history.specs.IssuingAndAnswering.{AnswersDoneAndIssues, AnswersEach, AnswersOne, IsEmptyMask, PollsInTurnWithoutEvent, IsMaskOf, AllByDeviceOrIssue, IsAnsweredIn, ok_answers_newest_first, done_reply, is_used}
 use Rattle.server_history.specs.Turns.{ServicesPort}
 use Rattle.server_history.specs.ServerState.{ServerState, InCallInvariant, MachineRelation, InvariantWithNoneDue, mode_in, slots_at, state_of, used_for, with_slot}

@@ -23,7 +23,7 @@ use Rattle.block_machine.specs.declared.due.QueueMode.{QueueMode}
 use Rattle.block_machine.specs.declared.due.Unanswered.{Unanswered}
 use Rattle.server_history.proofs.state.ListMembers.{contains_cases, contains_here, contains_there, into_map, map_in}
 use Rattle.driver_history.specs.Histories.{IssuesDue, with_issue_undone}
-use Rattle.commands.specs.Batches.{IsCommandIssueAccess, PlacedTask, issues_newest_first}
+use Rattle.ncq.specs.Batches.{IsCommandIssueAccess, PlacedTask, issues_newest_first}
 use Rattle.request_queue.specs.BookEntries.{BookEntry, BookIsWellFormed, IsWaiting, as_unanswered, unanswered_of, due_ids}
 use Rattle.server_history.specs.Prerequisites.{PrerequisiteLaws}
 use Rattle.server_history.specs.IssuingAndAnswering.{AllByDeviceOrIssue, IssuesDueOfPort, IssuesTogetherIfAny, PutsInSlot, PutsInSlots}

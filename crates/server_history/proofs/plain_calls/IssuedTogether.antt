@@ -24,9 +24,9 @@ use Rattle.block_machine.specs.State.{Machine, Pending, unanswered}
 use Rattle.block_machine.specs.Steps.{Step, Issue, IsEnabled, after_step}
 use Rattle.block_machine.specs.declared.due.QueueMode.{QueueMode}
 use Rattle.block_machine.specs.declared.due.Unanswered.{Unanswered}
-use Rattle.commands.specs.Batches.{IsCommandIssueAccess, IssuesBatchAtEnd, MayServeBatch, PlacedTask, issues_newest_first, with_serving_batch}
-use Rattle.commands.specs.Tasks.{IsTaskOf, task_places, meaning_of, task_operation, with_serving}
-use Rattle.commands.specs.declared.ncq.Task.{Task}
+use Rattle.ncq.specs.Batches.{IsCommandIssueAccess, IssuesBatchAtEnd, MayServeBatch, PlacedTask, issues_newest_first, with_serving_batch}
+use Rattle.ncq.specs.Tasks.{IsTaskOf, task_places, meaning_of, task_operation, with_serving}
+use Rattle.ncq.specs.declared.tasks.Task.{Task}
 use Rattle.host_boot.specs.TakeOver.{probe_result_of}
 use Rattle.host_boot.specs.declared.ProbeResult.{ProbeResult}
 use Rattle.host_boot.specs.declared.ProbeResult.TheVariants.{Unready}

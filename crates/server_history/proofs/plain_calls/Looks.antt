@@ -31,7 +31,7 @@ use Rattle.refinement.specs.Acts.{driver_state_of_slots}
 use Rattle.std.specs.List.{All}
 use Rattle.port_control.specs.PortEvents.{IsPxisSstsOrOwnIsAccess}
 use Rattle.port_control.specs.ServiceAccesses.{WritesOnlyHbaIsPxIsCiOrSact}
-use Rattle.commands.specs.Masks.{ReadsDone, ReadsCiOrSact}
+use Rattle.ncq.specs.Masks.{ReadsDone, ReadsCiOrSact}
 use Rattle.hba_regs.specs.Bits.{bit}
 use Rattle.server_history.specs.Prerequisites.{PrerequisiteLaws}
 use Rattle.server_history.proofs.state.TransferAccesses.{finding_serves}

@@ -8,7 +8,7 @@ use Rattle.ata_types.specs.declared.PortState.TheVariants.{Ready as ReadyState}
 use Rattle.ata_types.specs.declared.request.RequestId.{RequestId}
 use Rattle.block_machine.specs.DueRequests.{IsDue, is_plain}
 use Rattle.command_table.specs.TableStores.{IsSlotStateFree}
-use Rattle.commands.specs.Batches.{PlacedTask}
+use Rattle.ncq.specs.Batches.{PlacedTask}
 use Rattle.host_boot.specs.TakeOver.{probe_result_of}
 use Rattle.refinement.specs.Fragments.{SomeMachineAgreesWith}
 use Rattle.refinement.specs.Slots.{Free}

@@ -12,8 +12,8 @@ use Rattle.ata_types.specs.declared.request.RequestId.{RequestId}
 use Rattle.block_machine.specs.DueRequests.{IsDue, conflict_on_port_by_flush_or_overlap, is_plain, issued_count, mark_issued, waits_for, with_issued}
 use Rattle.block_machine.specs.declared.due.QueueMode.{QueueMode}
 use Rattle.block_machine.specs.declared.due.Unanswered.{Unanswered}
-use Rattle.commands.specs.Batches.{PlacedTask}
-use Rattle.commands.specs.declared.ncq.Task.{Task}
+use Rattle.ncq.specs.Batches.{PlacedTask}
+use Rattle.ncq.specs.declared.tasks.Task.{Task}
 use Rattle.host_boot.specs.TakeOver.{probe_result_of}
 use Rattle.host_boot.specs.declared.ProbeResult.{ProbeResult}
 use Rattle.refinement.specs.Relation.{HaveSlotsUnlessParked}

@@ -14,7 +14,7 @@ use Rattle.error_recovery.specs.Recovery.{PlainUsesSlot0, PlainIsSlot0, PortMayR
 use Rattle.driver_history.specs.PortInvariants.{EngineRuns}
 use Rattle.host_boot.specs.TakeOver.{StillBacksProbeResult, probe_result_of, wanted_of}
 use Rattle.host_boot.specs.declared.ProbeResult.{ProbeResult}
-use Rattle.commands.specs.Masks.{ReadsDone}
+use Rattle.ncq.specs.Masks.{ReadsDone}
 use Rattle.port_control.specs.PortEvents.{IsPxisSstsOrOwnIsAccess, TakesEvent}
 use Rattle.port_control.specs.declared.events.PortEvent.TheVariants.{TaskFileError}
 use Rattle.slots.specs.declared.SlotUse.{SlotUse}

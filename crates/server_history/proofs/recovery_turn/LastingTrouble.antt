@@ -34,7 +34,7 @@ use Rattle.request_queue.specs.BookEntries.{unanswered_of, due_ids}
 use Rattle.identify.specs.declared.wanted.Wanted.{Wanted}
 use Rattle.server_history.specs.Prerequisites.{PrerequisiteLaws}
 use Rattle.server_history.specs.ErrorHandling.{IsFoundAfterError, IsErrorHandled, HasResolved, HandlesPortError}
-use Rattle.commands.specs.Batches.{IsCommandIssueAccess}
+use Rattle.ncq.specs.Batches.{IsCommandIssueAccess}
 use Rattle.server_history.specs.ServerState.{ServerState, InCallInvariant, mode_in, ports_of, state_of}
 use Rattle.server_history.specs.Turns.{joint_state_of}
 use Rattle.server_history.proofs.recovery_turn.MendedPort.{interrupted, next_dead, ready_info, state_new}

@@ -41,7 +41,7 @@ use Rattle.port_control.specs.declared.events.PortEvent.TheVariants as look
 use Rattle.request_queue.specs.BookEntries.{BookEntry, as_unanswered, unanswered_of, due_ids}
 use Rattle.server_history.specs.Prerequisites.{PrerequisiteLaws}
 use Rattle.server_history.specs.ErrorHandling.{LookTellsErrorUnlessTimedOut, IsErrorHandled, HasResolved, HandlesPortError}
-use Rattle.commands.specs.Batches.{IsCommandIssueAccess}
+use Rattle.ncq.specs.Batches.{IsCommandIssueAccess}
 use Rattle.server_history.specs.IssuingAndAnswering.{IssuesTogetherIfAny}
 use Rattle.server_history.specs.ServerState.{ServerState, InCallInvariant, mode_in, state_of, used_for}
 use Rattle.port_control.specs.declared.events.PortError.{PortError}

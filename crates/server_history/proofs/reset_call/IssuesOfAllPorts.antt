@@ -32,7 +32,7 @@ use Rattle.server_history.proofs.plain_calls.IssueRounds.{AreIssued, ArePutInSlo
 use Rattle.server_history.proofs.state.PortSlots.{ready_found}
 use Rattle.server_history.specs.Prerequisites.{PrerequisiteLaws}
 use Rattle.server_history.specs.Resets.{IssuesOnEachReadyPort}
-use Rattle.commands.specs.Batches.{PlacedTask}
+use Rattle.ncq.specs.Batches.{PlacedTask}
 use Rattle.server_history.specs.IssuingAndAnswering.{AllByDeviceOrIssue, IssuesDueOfPort, IssuesTogetherIfAny, PutsInSlots}
 use Rattle.server_history.specs.ServerState.{InCallInvariant, MachineRelation, InvariantWithNoneDue, ServerState, mode_in, ports_of, state_of}
 

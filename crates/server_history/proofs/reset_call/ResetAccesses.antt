@@ -33,7 +33,7 @@ use Rattle.port_control.specs.Ports.{IsCommandRegister}
 use Rattle.request_queue.specs.BookEntries.{unanswered_of, due_ids}
 use Rattle.server_history.specs.Prerequisites.{PrerequisiteLaws}
 use Rattle.server_history.specs.Resets.{IsReinitialized, IssuesOnEachReadyPort, ResetsServer, ResolvesEachPort}
-use Rattle.commands.specs.Batches.{IsCommandIssueAccess}
+use Rattle.ncq.specs.Batches.{IsCommandIssueAccess}
 use Rattle.server_history.specs.ServerState.{ServerState, is_served, mode_in, ports_of}
 use Rattle.server_history.specs.StuckServer.{ServerInvariant}
 use Rattle.server_history.proofs.reset_call.BootedPorts.{DidBoot, IsOfFound, TookTurn, WentBy, command_boots, went_by}

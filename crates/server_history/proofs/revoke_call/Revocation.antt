@@ -33,7 +33,7 @@ use Rattle.request_queue.specs.BookEntries.{unanswered_of, due_ids}
 use Rattle.server_history.specs.Prerequisites.{PrerequisiteLaws}
 use Rattle.server_history.specs.Histories.{ExtendsToNoneDue, ExtendsHistory}
 use Rattle.server_history.specs.Revoking.{RevokesGrant}
-use Rattle.commands.specs.Batches.{IsCommandIssueAccess}
+use Rattle.ncq.specs.Batches.{IsCommandIssueAccess}
 use Rattle.server_history.specs.IssuingAndAnswering.{IssuesDueOfPort, IssuesTogetherIfAny}
 use Rattle.server_history.specs.ServerState.{InCallInvariant, MachineRelation, InvariantWithNoneDue, ServerState, mode_in, ports_of, state_of}
 use Rattle.server_history.proofs.any_turn.JoinedParts.{ready_or_not}

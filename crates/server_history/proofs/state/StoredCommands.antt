@@ -16,8 +16,8 @@ use Rattle.refinement.specs.PreservedParts.{DoesNotWrite}
 use Rattle.refinement.specs.MemoryLayout.{IsTableOrHeaderByteButPrdbc}
 use Rattle.refinement.specs.ReadySlots.{KeepsStoredCommand}
 use Rattle.command_table.specs.TableStores.{IsBlockStore, IsHeaderTableOrBlockStore, IsHeaderOrTableStore}
-use Rattle.commands.specs.Batches.{IsCommandIssueAccess, IsStoreForBatch, PlacedTask, StoresThenWritesAll}
-use Rattle.commands.specs.Tasks.{IsStoreFor, issuing_writes}
+use Rattle.ncq.specs.Batches.{IsCommandIssueAccess, IsStoreForBatch, PlacedTask, StoresThenWritesAll}
+use Rattle.ncq.specs.Tasks.{IsStoreFor, issuing_writes}
 use Rattle.port_control.specs.ServiceAccesses.{WritesOnlyHbaIsPxIsCiOrSact}
 use Rattle.server_history.specs.Prerequisites.{PrerequisiteLaws}
 use Rattle.server_history.proofs.state.TransferAccesses.{issuing_serves}

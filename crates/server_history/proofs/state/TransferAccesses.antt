@@ -6,8 +6,8 @@ use Rattle.hba_regs.specs.declared.reg.Reg.TheVariants.{Px}
 use Rattle.adapter.specs.Access.{Access, DoesAll, Reads}
 use Rattle.adapter.specs.Access.Access.{Reading, Writing, Loading, Storing}
 use Rattle.adapter.specs.Device.{Device}
-use Rattle.commands.specs.Batches.{IsCommandIssueAccess}
-use Rattle.commands.specs.Masks.{ReadsDone, ReadsCiOrSact}
+use Rattle.ncq.specs.Batches.{IsCommandIssueAccess}
+use Rattle.ncq.specs.Masks.{ReadsDone, ReadsCiOrSact}
 use Rattle.port_control.specs.ServiceAccesses.{WritesOnlyHbaIsPxIsCiOrSact}
 
 -- ---- issuing

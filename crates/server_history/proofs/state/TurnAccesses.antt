@@ -21,7 +21,7 @@ use Rattle.refinement.specs.Fragments.{IsSoleBit, IsDrivenBy, AccessesNoOtherPor
 use Rattle.refinement.specs.PortFacts.{RunsWell, Undisturbed}
 use Rattle.command_table.specs.TableStores.{IsHeaderTableOrBlockStore, IsHeaderOrTableStore}
 use Rattle.driver_history.specs.Histories.{StoresOrWritesSactOrCi}
-use Rattle.commands.specs.Batches.{IsCommandIssueAccess}
+use Rattle.ncq.specs.Batches.{IsCommandIssueAccess}
 use Rattle.driver_history.specs.AccessTrace.{StaysInDriverFrames, DoesNotWriteCmd, WritesNeitherCmdNorSctl, ReadsMasksBeforeCmdWrite}
 use Rattle.server_history.specs.Prerequisites.{PrerequisiteLaws}
 use Rattle.server_history.specs.IssuingAndAnswering.{PollsSlots, IsEmptyMask, PollsInTurnWithoutEvent, IsMaskOf, is_used}

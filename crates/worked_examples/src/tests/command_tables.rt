@@ -1,9 +1,14 @@
 // Bytes worked out by hand from AHCI 1.3.1, 4.2.2, ACS-3 and Serial ATA. What a server stores, whole tables among it,
 // its own tests show.
+ghost use Rattle.command_table.specs.FrameRuns.{FillFrames};
+
 use adapter::{Command, Prd};
-use ata_types::Frame;
+use arrayvec::ArrayVec;
+use ata_types::{ClientId, Frame, MOST_REQUEST_FRAMES, RequestId};
 use command_table::{header, prds};
+use dma_frames::FrameTable;
 use fis::encode_h2d;
+use std::test::Fail;
 
 /// The FIS of a command with these fields: code, features, count, LBA and device.
 fn fis((code, features, count, lba, device): (u8, u16, u16, u32, u8)) -> [u8; 20] {
@@ -110,15 +115,33 @@ fn entry(address: u32, bytes: u32) -> Prd {
     Prd { address, bytes }
 }
 
+/// The entries of so many bytes of these frames, once they are lent.
+fn entries_of(frames: &[Frame], bytes: u32) -> Result<ArrayVec<Prd, MOST_REQUEST_FRAMES>, Fail>
+    requires { FillFrames frames.now bytes }
+{
+    let owner = ClientId(1);
+    let mut table = FrameTable::new(&[(owner, Frame(76), 40)]);
+    match table.check(owner, frames) {
+        Ok(()) => {
+            let loan = table.lend(owner, frames, RequestId(1));
+            let entries = prds(&loan, bytes);
+            table.give_back(loan);
+            Ok(entries)
+        }
+        Err(_) => Err(Fail::from("refused")),
+    }
+}
+
 // Frames share an entry where each follows the one before it. Frame 76 begins at 4C000h.
 #[test]
-fn neighbouring_frames_share_an_entry(rt: HostRuntime) {
-    let three = prds(&[Frame(76), Frame(77), Frame(78)], 17 * 512);
+fn neighbouring_frames_share_an_entry(rt: HostRuntime) -> Result<(), Fail> {
+    let three = entries_of(&[Frame(76), Frame(77), Frame(78)], 17 * 512)?;
     assert_eq!(rt; three.as_slice(), [entry(0x4_c000, 0x2200)].as_slice());
-    let parted = prds(&[Frame(76), Frame(77), Frame(79)], 24 * 512);
+    let parted = entries_of(&[Frame(76), Frame(77), Frame(79)], 24 * 512)?;
     let wanted = [entry(0x4_c000, 0x2000), entry(0x4_f000, 0x1000)];
     assert_eq!(rt; parted.as_slice(), wanted.as_slice());
-    let falling = prds(&[Frame(77), Frame(76)], 16 * 512);
+    let falling = entries_of(&[Frame(77), Frame(76)], 16 * 512)?;
     let wanted = [entry(0x4_d000, 0x1000), entry(0x4_c000, 0x1000)];
     assert_eq!(rt; falling.as_slice(), wanted.as_slice());
+    Ok(())
 }

@@ -1,7 +1,7 @@
 // Blocks of trims, worked out by hand from ACS-3: an entry has six bytes of a first sector and two of how many, lowest
 // byte first.
 use ata_types::{Range, Sector};
-use commands::trim_block;
+use flush_trim::trim_block;
 
 /// Name, first sector, how many sectors, and the block's entries up to its zeros.
 static BLOCKS: &[(&str, u64, u32, &[[u8; 8]])] = &[
@@ -45,7 +45,7 @@ fn block_of(first: u64, count: u32) -> Option<[u8; 512]> {
     if count > 4_194_240 || (count > 0 && u128::from(first) + u128::from(count) > 1 << 48) {
         return None;
     }
-    Some(trim_block(&Range {
+    Some(trim_block(Range {
         first: Sector(first),
         count,
     }))

@@ -8,8 +8,9 @@ use Rattle.adapter.specs.Device.{Device}
 use Rattle.block_machine.specs.DueRequests.{AreDueInTurnAndLeaveNoneDue, due_of, is_plain}
 use Rattle.block_machine.specs.declared.due.QueueMode.{QueueMode}
 use Rattle.block_machine.specs.declared.due.Unanswered.{Unanswered}
-use Rattle.commands.specs.Batches.{BatchSlotsAreUnused, IsBatchIssued, IsBatchStored, PlacedTask, StoresTransfer}
-use Rattle.commands.specs.Issuing.{MayIssueTransfer}
+use Rattle.ncq.specs.Batches.{BatchSlotsAreUnused, IsBatchIssued, IsBatchStored, PlacedTask, StoresTransfer}
+use Rattle.ncq.specs.Issuing.{MayIssueTransfer}
+use Rattle.ncq.specs.declared.tasks.Task.{Task}
 use Rattle.refinement.specs.Slots.{Free}
 use Rattle.request_queue.specs.BookEntries.{BookEntry, BookIsWellFormed, unanswered_of, due_ids, issued_request, update_if_id}
 use Rattle.server_history.specs.IssuingAndAnswering.{IssuesTogetherIfAny, IssuesTogether, ChangesOnlySlotsAndBook, FindsSlotFor, PutsInSlots, task_of, use_for}
@@ -22,7 +23,7 @@ use Rattle.port_driver.proofs.Batching.{Preparing}
 use Rattle.port_driver.proofs.Sending as sending
 use Rattle.port_driver.proofs.served_port.ServedPort.issue_batch.Given.{Over}
 use Rattle.port_driver.proofs.served_port.ServedPort.issue_batch.Goals as goal
-use Rattle.port_driver.proofs.served_port.ServedPort.issue_batch.Goals.{After-deref, After-frames, After-take}
+use Rattle.port_driver.proofs.served_port.ServedPort.issue_batch.Goals.{After-deref, After-store_transfer-arg-in-loop-place-1}
 
 abbrev no_id : RequestId
 no_id = record { 0 = 0 }
@@ -128,7 +129,7 @@ unreachable-requires g c =
 
 -- ---- it is stored
 
-module _ (g : Over) (c : After-frames g) where
+module _ (g : Over) (c : After-store_transfer-arg-in-loop-place-1 g) where
   abbrev d : After-deref g
   d = (goal.at.store_transfer-requires g c).After-deref
 
@@ -159,8 +160,9 @@ module _ (g : Over) (c : After-frames g) where
   abbrev pub t : PlacedTask
   t = record { slot = slot; task = task_of x.mode x.turn.0; frames = x.turn.0.frames }
 
-  pub made_is : ◌≡◌ {A = PlacedTask} (record { slot = slot; task = record { op = c.entry.result.0.now.op; range = c.entry.result.0.now.range; queued = true }; frames = c.frames.result.now }) t
-  made_is = batching.task_made x s0 l0 (goes_on g d s0 l0) c.law_an_id_is_one_request.ensures.one_request_an_id c.entry.result.0.now c.entry.result.1.now.frames c.entry.ensures.is_in_book c.entry.ensures.id.0 queued slot c.frames.result.now c.frames.ensures.frames
+  pub made_is : ◌≡◌ {A = PlacedTask} (record { slot = slot; task = c.task_for-task.result; frames = c.entry.result.1.now.frames }) t
+  made_is = ap (λ (r : Task). record { slot = slot; task = r; frames = c.entry.result.1.now.frames }) c.task_for-task.ensures
+      ∙ batching.task_made x s0 l0 (goes_on g d s0 l0) c.law_an_id_is_one_request.ensures.one_request_an_id c.entry.result.0.now c.entry.result.1.now.frames c.entry.ensures.is_in_book c.entry.ensures.id.0 queued slot
 
   pub grows : MayIssueTransfer x.port t.slot t.task t.frames now × ((new : Device) → StoresTransfer x.port t now new → IsBatchStored x.port (x.tasks ++ t ∷ []) x.start new)
   grows = c.law_stored_task_extends_batch.ensures.one_more_task x.port x.tasks t x.start now c.loop-place.invariant.batch.1
@@ -179,11 +181,11 @@ issue-requires g c =
     (w.0, w.1, w.2 ∙ x.turn.2, w.3)
 
 pub with_bit-mask-requires : goal.with_bit-mask-requires
-with_bit-mask-requires g c = let small = slot_small g (goal.at.with_bit-mask-requires g c).After-frames in let same = c.from.ensures in omega (arith, small, same)
+with_bit-mask-requires g c = let small = slot_small g (goal.at.with_bit-mask-requires g c).After-store_transfer-arg-in-loop-place-1 in let same = c.from.ensures in omega (arith, small, same)
 
 pub loop-place-preserved : goal.loop-place-preserved
 loop-place-preserved g c =
-    let f = (goal.at.loop-place-preserved g c).After-frames in
+    let f = (goal.at.loop-place-preserved g c).After-store_transfer-arg-in-loop-place-1 in
     let e = (goal.at.loop-place-preserved g c).After-deref in
     let x = preparing g e in
     let items = c.args.due.now.items in

@@ -1,7 +1,7 @@
 use Rattle.std.proofs.Common.{◌≡◌, ◌*◌, ◌^◌, ◌<◌, List, drop, length, take}
 use Rattle.adapter.specs.AccessBounds.{MakesAtMost}
 use Rattle.block_machine.specs.DueRequests.{AreDueInTurnAndLeaveNoneDue}
-use Rattle.commands.specs.Batches.{HasExactlySlotBitsOf, IsBatchStored, PlacedTask}
+use Rattle.ncq.specs.Batches.{HasExactlySlotBitsOf, IsBatchStored, PlacedTask}
 use Rattle.command_table.specs.Costs.{TABLE_ACCESSES}
 use Rattle.port_driver.specs.LentSlots.{HasPortToIssue, with_port_slots}
 use Rattle.request_queue.specs.BookEntries.{unanswered_of}

@@ -1,14 +1,15 @@
-use Rattle.std.proofs.Common.{◌<◌, ◌≤◌, ◌/◌, ◌%◌, List, Some, not, refl, ap, ◌∙◌, subst}
+use Rattle.std.proofs.Common.{◌<◌, ◌≤◌, ◌/◌, ◌%◌, List, Some, not, refl, sym, ap, ◌∙◌, subst}
+use Rattle.port_driver.specs.LentSlots.{FitsSlot}
 use Rattle.ata_types.specs.declared.request.Frame.{Frame}
-use Rattle.commands.specs.Issuing.{IsIssued}
+use Rattle.ncq.specs.Issuing.{IsIssued}
 use Rattle.block_machine.specs.DueRequests.{is_plain}
 use Rattle.request_queue.specs.declared.PendingRequest.{PendingRequest}
-use Rattle.commands.specs.declared.ncq.Task.{Task}
+use Rattle.ncq.specs.declared.tasks.Task.{Task}
 use Rattle.slots.specs.SlotUses.{with_use}
 use Rattle.port_driver.proofs.Sending as sending
 use Rattle.port_driver.proofs.served_port.ServedPort.issue_one.Given.{Over}
 use Rattle.port_driver.proofs.served_port.ServedPort.issue_one.Goals as goal
-use Rattle.port_driver.proofs.served_port.ServedPort.issue_one.Goals.{After-frames}
+use Rattle.port_driver.proofs.served_port.ServedPort.issue_one.Goals.{After-issue_task-arg-2-1}
 
 pub unreachable-requires : goal.unreachable-requires
 unreachable-requires g c =
@@ -24,10 +25,11 @@ issue_task-requires-clause-fits g c =
     let slots = c.args.self.now.slots in
     let lowest = c.law_a_due_request_finds_a_free_slot.ensures.lowest_free_slot_fits in
     let entry_is = sending.entry_is l.0 device book slots c.args.port c.args.self.now.mode c.args.self.now.probe_result c.requires.may.ready l.1 c.args.id c.requires.due one c.entry.result.0.now c.entry.result.1.now.frames c.entry.ensures.is_in_book c.entry.ensures.id.0 in
-    sending.may_go l.0.table c.requires.due.0 (sending.its l.0 device book slots c.args.port c.args.self.now.mode c.args.self.now.probe_result c.requires.may.ready l.1 c.args.id c.requires.due) c.args.self.now.mode c.in-Some.slot.0
+    subst (λ (t : Task). FitsSlot t c.entry.result.1.now.frames c.in-Some.slot.0) (sym c.task_for-task.ensures)
+    (sending.may_go l.0.table c.requires.due.0 (sending.its l.0 device book slots c.args.port c.args.self.now.mode c.args.self.now.probe_result c.requires.may.ready l.1 c.args.id c.requires.due) c.args.self.now.mode c.in-Some.slot.0
     (sending.may_issue l.0 device book slots c.args.port c.args.self.now.mode c.args.self.now.probe_result c.requires.may.ready l.1 c.args.id c.requires.due lowest c.in-Some.slot.0 c.in-Some.ensures.lowest).2
-    (not c.is_plain.result) (ap not c.is_plain.ensures ∙ ap (λ (x : PendingRequest). not (is_plain c.args.self.now.mode x.op)) entry_is) c.entry.result.0.now entry_is
-    c.frames.result.now (c.frames.ensures.frames ∙ sending.frames_are l.0 device book slots c.args.port c.args.self.now.mode c.args.self.now.probe_result c.requires.may.ready l.1 c.args.id c.requires.due one c.entry.result.0.now c.entry.result.1.now.frames c.entry.ensures.is_in_book c.entry.ensures.id.0)
+    (not c.is_plain-queued.result) (ap not c.is_plain-queued.ensures ∙ ap (λ (x : PendingRequest). not (is_plain c.args.self.now.mode x.op)) entry_is) c.entry.result.0.now entry_is
+    c.entry.result.1.now.frames (sending.frames_are l.0 device book slots c.args.port c.args.self.now.mode c.args.self.now.probe_result c.requires.may.ready l.1 c.args.id c.requires.due one c.entry.result.0.now c.entry.result.1.now.frames c.entry.ensures.is_in_book c.entry.ensures.id.0))
 
 pub returns : goal.returns
 returns g c = record {
@@ -37,16 +39,15 @@ returns g c = record {
       let slot = c.in-Some.slot.0 in
       let one = c.law_an_id_is_one_request.ensures.one_request_an_id in
       let e = c.requires.due.0 in
-      let task : Task = record { op = c.entry.result.0.now.op; range = c.entry.result.0.now.range; queued = not c.is_plain.result } in
       let small = (sending.may_issue s (device c.args.adapter.now) c.args.book.now c.args.self.now.slots port c.args.self.now.mode c.args.self.now.probe_result c.requires.may.ready l c.args.id c.requires.due c.law_a_due_request_finds_a_free_slot.ensures.lowest_free_slot_fits slot c.in-Some.ensures.lowest).0 in
       let entry_is = sending.entry_is s (device c.args.adapter.now) c.args.book.now c.args.self.now.slots port c.args.self.now.mode c.args.self.now.probe_result c.requires.may.ready l c.args.id c.requires.due one c.entry.result.0.now c.entry.result.1.now.frames c.entry.ensures.is_in_book c.entry.ensures.id.0 in
-      let task_is = sending.task_is s (device c.args.adapter.now) c.args.book.now c.args.self.now.slots port c.args.self.now.mode c.args.self.now.probe_result c.requires.may.ready l c.args.id c.requires.due c.is_plain.result c.entry.result.0.now c.is_plain.ensures entry_is in
-      let lent_is = c.frames.ensures.frames ∙ sending.frames_are s (device c.args.adapter.now) c.args.book.now c.args.self.now.slots port c.args.self.now.mode c.args.self.now.probe_result c.requires.may.ready l c.args.id c.requires.due one c.entry.result.0.now c.entry.result.1.now.frames c.entry.ensures.is_in_book c.entry.ensures.id.0 in
-      let F : List Frame → Type 0 = λ frames. IsIssued port slot task frames (device c.args.adapter.now) (device c.issue_task.new.adapter) in
+      let task_is = sending.task_is s (device c.args.adapter.now) c.args.book.now c.args.self.now.slots port c.args.self.now.mode c.args.self.now.probe_result c.requires.may.ready l c.args.id c.requires.due c.is_plain-queued.result c.entry.result.0.now c.is_plain-queued.ensures entry_is in
+      let lent_is = sending.frames_are s (device c.args.adapter.now) c.args.book.now c.args.self.now.slots port c.args.self.now.mode c.args.self.now.probe_result c.requires.may.ready l c.args.id c.requires.due one c.entry.result.0.now c.entry.result.1.now.frames c.entry.ensures.is_in_book c.entry.ensures.id.0 in
+      let F : List Frame → Type 0 = λ frames. IsIssued port slot c.task_for-task.result frames (device c.args.adapter.now) (device c.issue_task.new.adapter) in
       let T : Task → Type 0 = λ t. IsIssued port slot t e.frames (device c.args.adapter.now) (device c.issue_task.new.adapter) in
       sending.sent s (device c.args.adapter.now) c.args.book.now c.args.self.now.slots port c.args.self.now.mode c.args.self.now.probe_result c.requires.may.ready l c.args.id c.requires.due
       slot small c.in-Some.ensures.lowest (device c.issue_task.new.adapter)
-      (subst T task_is (subst F lent_is c.issue_task.ensures.issued)) c.issue.new.self c.issue.ensures
+      (subst T (c.task_for-task.ensures ∙ task_is) (subst F lent_is c.issue_task.ensures.issued)) c.issue.new.self c.issue.ensures
       c.take.new.self (c.in-Some.ensures.taken ∙ ap (λ (t : Task). with_use c.args.self.now.slots slot (Some (record { id = c.args.id; queued = t.queued }))) task_is);
   rest = refl;
   cost = c.issue_task.ensures.cost;
@@ -58,7 +59,7 @@ issue_task-requires-clause-may g c =
     sending.may_issue_task l.0 (g.A.Adapter.device c.args.adapter.now) c.args.book.now c.args.self.now.slots c.args.port c.args.self.now.mode c.args.self.now.probe_result c.requires.may.ready l.1 c.args.id c.requires.due c.law_a_due_request_finds_a_free_slot.ensures.lowest_free_slot_fits c.in-Some.slot.0 c.in-Some.ensures.lowest
 
 -- where it may be issued
-goes_in : (g : Over) (c : After-frames g) → (c.in-Some.slot.0 < 32) × (c.in-Some.slot.0 ≤ (g.A.Adapter.device c.args.adapter.now).cap / 256 % 32)
+goes_in : (g : Over) (c : After-issue_task-arg-2-1 g) → (c.in-Some.slot.0 < 32) × (c.in-Some.slot.0 ≤ (g.A.Adapter.device c.args.adapter.now).cap / 256 % 32)
 goes_in g c =
     let l = c.requires.may.some_server_has_port in
     let may = sending.may_issue l.0 (g.A.Adapter.device c.args.adapter.now) c.args.book.now c.args.self.now.slots c.args.port c.args.self.now.mode c.args.self.now.probe_result c.requires.may.ready l.1 c.args.id c.requires.due c.law_a_due_request_finds_a_free_slot.ensures.lowest_free_slot_fits c.in-Some.slot.0 c.in-Some.ensures.lowest in

@@ -1,8 +1,0 @@
-use Rattle.commands.proofs.Performed.{issuing_of, finding_of}
-use Rattle.commands.proofs.laws.law_batch_and_mask_access_spares_other_ports.Goals as goal
-
-pub returns-clause-issuing : goal.returns-clause-issuing
-returns-clause-issuing c = issuing_of
-
-pub returns-clause-finding : goal.returns-clause-finding
-returns-clause-finding c = finding_of

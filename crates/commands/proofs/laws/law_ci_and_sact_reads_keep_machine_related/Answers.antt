@@ -1,5 +1,0 @@
-use Rattle.commands.proofs.Performed.{finding_followed}
-use Rattle.commands.proofs.laws.law_ci_and_sact_reads_keep_machine_related.Goals as goal
-
-pub returns : goal.returns
-returns c = finding_followed

@@ -1,8 +1,0 @@
-pub mod Issuing
-pub mod Batches
-pub mod Masks
-pub mod Tasks
-pub mod Witness
-pub mod Costs
-pub mod TrimBlocks
-pub mod PlainTasks

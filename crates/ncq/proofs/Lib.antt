@@ -1,0 +1,10 @@
+pub mod Batch
+pub mod Stores
+pub mod ProbeResult
+pub mod Issued
+pub mod Growing
+pub mod Performed
+pub mod Telling
+pub mod Witness
+pub mod StoredReads
+pub mod Armed
