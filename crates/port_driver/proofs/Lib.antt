@@ -1,3 +1,5 @@
+pub mod Earliest
+pub mod Table
 pub mod Serving
 pub mod Anew
 pub mod Finishing

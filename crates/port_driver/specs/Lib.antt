@@ -1,3 +1,4 @@
+pub mod SlotTables
 pub mod PortAndShared
 pub mod LentSlots
 pub mod Issuing

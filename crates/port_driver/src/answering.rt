@@ -6,16 +6,16 @@ ghost use Rattle.hba_regs.specs.Bits.{bit};
 ghost use Rattle.server_history.specs.ServerState.{ServerState};
 ghost use Rattle.slots.specs.{SlotUses.{use_at, with_use}, declared.SlotUse.{SlotUse}};
 
+use crate::slot_table::SlotTable;
 use ata_types::{MOST_UNANSWERED_OF_ALL_CLIENTS, Outcome, Replies, Reply, Slot};
 use dma_frames::FrameTable;
 use request_queue::Book;
 use request_queue::laws::{law_an_id_is_one_request, law_operations_change_one_request};
 use server_history::laws::{law_a_used_slot_has_its_request, law_requests_preserve_invariant};
-use slots::Slots;
 
 /// Answers the request of a used slot, whose command is over: its slot is free then, it leaves the book, and its frames
 /// are given back.
-fn answer_one(book: &mut Book, table: &mut FrameTable, slots: &mut Slots, slot: Slot) -> Reply
+fn answer_one(book: &mut Book, table: &mut FrameTable, slots: &mut SlotTable, slot: Slot) -> Reply
     requires lends { (s : ServerState) × (port : Port) × (done : ℕ)
         × HasPortToAnswer s table.old book.old slots.old port done × (bit done slot.0 ≡ true) }
     requires small { slot.0 < 32 }
@@ -44,7 +44,7 @@ fn answer_one(book: &mut Book, table: &mut FrameTable, slots: &mut Slots, slot: 
 pub(crate) fn answer_done(
     book: &mut Book,
     table: &mut FrameTable,
-    slots: &mut Slots,
+    slots: &mut SlotTable,
     done: u32,
     replies: &mut Replies,
 )

@@ -14,7 +14,8 @@
 //!
 //! `issuing` issues what is due, `answering` answers what is done, and `turn` has the turns. `recovery` handles an
 //! error, `probing` probes a port that isn't ready, and `dispositions` resolves requests, as `after_reset` does where
-//! the adapter was reset. `modes` tells how a port takes commands, and `quarantine` keeps loans of a dead one.
+//! the adapter was reset. `modes` tells how a port takes commands, `slot_table` has the request of each command
+//! slot, and `quarantine` keeps loans of a dead port.
 #![tactic(auto)]
 
 mod after_reset;
@@ -26,8 +27,10 @@ mod probing;
 mod quarantine;
 mod recovery;
 mod served_port;
+mod slot_table;
 mod turn;
 
 pub use modes::probed_mode;
 pub use quarantine::Quarantine;
 pub use served_port::{ServedPort, Shared};
+pub use slot_table::SlotTable;

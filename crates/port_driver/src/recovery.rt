@@ -17,6 +17,7 @@ ghost use Rattle.port_control.specs.declared.Stopped as stopped_token;
 use super::answering::answer_done;
 use super::modes::{PLAIN_MODE, probed_mode};
 use super::served_port::{ServedPort, Shared};
+use super::slot_table::SlotTable;
 use adapter::Adapter;
 use ata_types::{MOST_READINGS, MOST_UNANSWERED_OF_ALL_CLIENTS, Port, PortState, Replies};
 use block_machine::QueueMode;
@@ -30,7 +31,6 @@ use request_queue::{FailedRequest, Revalidation};
 use server_history::laws::{
     law_looks_preserve_invariant, law_recover_preconditions_hold_after_look,
 };
-use slots::Slots;
 
 /// The trouble that a look tells, if it tells one. (That a request is hung no look tells.)
 pub(crate) fn error_of(look: PortEvent) -> Option<PortError>
@@ -123,7 +123,7 @@ pub(crate) fn sort_replies_from(replies: &mut Replies, first: usize)
 }
 
 /// Whether the command of any used slot is queued: all of them are, or none.
-pub(crate) fn is_any_queued(slots: &Slots) -> bool
+pub(crate) fn is_any_queued(slots: &SlotTable) -> bool
     requires all_queued_or_none { (slot : ℕ) (used : SlotUse) → use_at slots.now slot ≡ Some used
         → AreAllQueuedAs used.queued slots.now }
     requires places { length slots.now.slot_uses ≡ 32 }
@@ -139,7 +139,10 @@ pub(crate) fn is_any_queued(slots: &Slots) -> bool
 }
 
 /// The request of the slot whose command is named, with the bytes that were told of it.
-pub(crate) fn failed_request_in(slots: &Slots, named: &Option<FailedSlot>) -> Option<FailedRequest>
+pub(crate) fn failed_request_in(
+    slots: &SlotTable,
+    named: &Option<FailedSlot>,
+) -> Option<FailedRequest>
     requires { (its : FailedSlot) → named.now ≡ Some its → (used : SlotUse)
         × (use_at slots.now its.slot.0 ≡ Some used) }
     ensures { IsFailedRequest slots.now named.now result }

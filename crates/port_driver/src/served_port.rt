@@ -5,13 +5,13 @@ ghost use Rattle.server_history.specs.{ErrorHandling.{HasAllSlotsFreeAndCountOfM
 
 use crate::modes::PLAIN_MODE;
 use crate::quarantine::Quarantine;
+use crate::slot_table::SlotTable;
 use ata_types::PortState;
 use block_machine::QueueMode;
 use dma_frames::FrameTable;
 use host_boot::ProbeResult;
 use identify::{DiskInfo, Wanted};
 use request_queue::Book;
-use slots::Slots;
 
 /// A port of the adapter, ready or not. It can't be dropped, since it may keep loans.
 pub struct ServedPort {
@@ -24,7 +24,7 @@ pub struct ServedPort {
     /// How it takes commands.
     pub mode: QueueMode,
     /// Which request each of its command slots serves.
-    pub slots: Slots,
+    pub slots: SlotTable,
     /// Of a dead port, the loans of requests that were issued, and then answered: until a reset ends, since the device
     /// may still move their sectors.
     pub kept: Quarantine,
@@ -49,7 +49,7 @@ impl ServedPort {
             probe_result: ProbeResult::Unserved,
             remembered: None,
             mode: PLAIN_MODE,
-            slots: Slots::new(PLAIN_MODE.usable_slots),
+            slots: SlotTable::new(PLAIN_MODE.usable_slots),
             kept,
         }
     }
@@ -83,7 +83,7 @@ impl ServedPort {
         self.remembered = self.last_disk();
         self.probe_result = found;
         self.mode = mode;
-        self.slots = Slots::new(mode.usable_slots);
+        self.slots = SlotTable::new(mode.usable_slots);
     }
 
     /// Notes that a reset of its adapter got stuck: it is dead, if it is served, its disk is remembered, it takes

@@ -4,7 +4,7 @@ use Rattle.std.specs.Int.{bit_at, bit_not, trailing_zeros, w32}
 use Rattle.std.specs.Int.Count.{trailing_of_zero}
 use Rattle.std.proofs.lemmas.Bool.{cases_eq}
 use Rattle.std.proofs.lemmas.Nat.Bits.{bit_at-lt, bit_at-zero, bit_at_not, bit_at-trailing_zeros}
-use Rattle.slots.specs.SlotUses.{IsLowestClear}
+use Rattle.slots.specs.SlotMasks.{IsLowestClear}
 
 module _ (mask : ℕ) (fits : mask < 2 ^ 32) where
   abbrev others : ℕ

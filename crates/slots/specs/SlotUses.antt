@@ -24,10 +24,6 @@ with_use uses slot used = record uses { slot_uses = slice_set uses.slot_uses slo
 abbrev pub IsLowestFree : PortSlots → ℕ → Type 0
 IsLowestFree uses slot = (slot < uses.usable_count) × (use_at uses slot ≡ None) × ((k : ℕ) → k < slot → IsTaken uses k)
 
--- the bit isn't set, and each below it is
-abbrev pub IsLowestClear : ℕ → ℕ → Type 0
-IsLowestClear mask slot = (bit_at mask slot ≡ 0) × ((k : ℕ) → k < slot → bit_at mask k ≡ 1)
-
 -- Of the slots that are used, and have their bits set in the mask, this is the one whose request has the least id.
 pub record HasLeastIdOf (places : List (Option SlotUse)) (mask slot : ℕ) : Type 0 where
   pub slot_in_range : slot < 32

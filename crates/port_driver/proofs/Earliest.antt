@@ -1,30 +1,30 @@
 -- The place with the least id, of those that were seen so far.
-use Rattle.std.proofs.Common.{ℕ, Bool, true, false, not, bit_and, ◌⊎◌, inl, inr, ◌≡◌, ◌≢◌, ◌+◌, ◌-◌, ◌%◌, ◌/◌, ◌^◌, ◌<◌, ◌≤◌, List, Option, Some, None, get_or, refl, sym, ap, ◌∙◌, subst, ⊎_elim, arith}
+use Rattle.std.proofs.Common.{ℕ, Bool, true, false, not, ◌⊎◌, inl, inr, ◌≡◌, ◌≢◌, ◌+◌, ◌-◌, ◌%◌, ◌/◌, ◌^◌, ◌<◌, ◌≤◌, List, Option, Some, None, get_or, refl, sym, ap, ◌∙◌, subst, ⊎_elim, arith}
 use Rattle.std.specs.Int.{bit_at, trailing_zeros, w32}
-use Rattle.std.specs.Option.{IsSome, is_some}
+use Rattle.std.specs.Option.{is_some}
 use Rattle.std.specs.Prelude.{IfNone, IfSome}
 use Rattle.std.proofs.lemmas.Bool.{cases_eq, cases_lt, true≢false}
 use Rattle.std.proofs.Math.Nat.{div-le_self, div-lt_iff_lt-mul}
 use Rattle.std.proofs.lemmas.Nat.{pow_pos, shr-shr}
-use Rattle.std.proofs.lemmas.Nat.Bits.{bit_at-lt, bit_at-trailing_zeros, bit_at_above, bit_at_and}
-use Rattle.slots.specs.SlotUses.{HasLeastIdOf, IsTakenMask}
-use Rattle.slots.specs.declared.SlotUse.{SlotUse}
+use Rattle.std.proofs.lemmas.Nat.Bits.{bit_at-trailing_zeros, bit_at_above}
+use Rattle.port_driver.specs.SlotTables.{HasLeastIdIn}
+use Rattle.ata_types.specs.declared.request.RequestId.{RequestId}
 
 -- no place below this one is used and has its bit set
-abbrev pub NoneBelow : List (Option SlotUse) → ℕ → ℕ → Type 0
+abbrev pub NoneBelow : List (Option RequestId) → ℕ → ℕ → Type 0
 NoneBelow places mask below = (place : ℕ) → place < below → bit_at mask place ≡ 1 → get_or places place None ≡ None
 
 -- this place is used, for this id, and has its bit set, and no other one below has an earlier id
-pub record IsLeastBelow (places : List (Option SlotUse)) (mask below place id : ℕ) : Type 0 where
+pub record IsLeastBelow (places : List (Option RequestId)) (mask below place id : ℕ) : Type 0 where
   pub here : place < below
   pub marked : bit_at mask place ≡ 1
-  pub used : SlotUse
+  pub used : RequestId
   pub taken : get_or places place None ≡ Some used
-  pub id_is : used.id.0 ≡ id
-  pub least : (other : ℕ) (its : SlotUse) → other < below → bit_at mask other ≡ 1 → get_or places other None ≡ Some its → id ≤ its.id.0
+  pub id_is : used.0 ≡ id
+  pub least : (other : ℕ) (its : RequestId) → other < below → bit_at mask other ≡ 1 → get_or places other None ≡ Some its → id ≤ its.0
 
 -- what was found below a place
-abbrev pub ProbeResult : List (Option SlotUse) → ℕ → ℕ → Option ℕ → ℕ → Type 0
+abbrev pub ProbeResult : List (Option RequestId) → ℕ → ℕ → Option ℕ → ℕ → Type 0
 ProbeResult places mask below None least = NoneBelow places mask below
 ProbeResult places mask below (Some place) least = IsLeastBelow places mask below place least
 
@@ -34,11 +34,11 @@ IsNoEarlier None least id = ⊥
 IsNoEarlier (Some place) least id = least ≤ id
 
 -- the id that a place is used for
-abbrev id_in : Option SlotUse → ℕ
+abbrev id_in : Option RequestId → ℕ
 id_in None = 0
-id_in (Some used) = used.id.0
+id_in (Some used) = used.0
 
-pub same_id : (place : Option SlotUse) (a b : SlotUse) → place ≡ Some a → place ≡ Some b → a.id.0 ≡ b.id.0
+pub same_id : (place : Option RequestId) (a b : RequestId) → place ≡ Some a → place ≡ Some b → a.0 ≡ b.0
 same_id place a b is_a is_b = ap id_in (sym is_a ∙ is_b)
 
 -- it is earlier where nothing was found, or where it is less than what was found
@@ -52,7 +52,7 @@ pub no_earlier : (found : Option ℕ) (none : Bool) (id least : ℕ) → is_some
 no_earlier None none id least is some more = absurd (true≢false (sym (is ∙ ap not some)))
 no_earlier (Some place) none id least is some more = more
 
-module _ (places : List (Option SlotUse)) (mask at : ℕ) where
+module _ (places : List (Option RequestId)) (mask at : ℕ) where
   -- what is so of the place, and of those below it
   one_more : (P : ℕ → Type 0) → P at → (place : ℕ) → place < at + 1 → (place < at → P place) → P place
   one_more P here place lt below = ⊎_elim
@@ -62,10 +62,10 @@ module _ (places : List (Option SlotUse)) (mask at : ℕ) where
 
   -- A place that isn't used, or has no bit set, or has no earlier id, changes nothing.
   pub passed : (found : Option ℕ) (least : ℕ) → ProbeResult places mask at found least
-      → ((used : SlotUse) → bit_at mask at ≡ 1 → get_or places at None ≡ Some used → IsNoEarlier found least used.id.0) → ProbeResult places mask (at + 1) found least
+      → ((used : RequestId) → bit_at mask at ≡ 1 → get_or places at None ≡ Some used → IsNoEarlier found least used.0) → ProbeResult places mask (at + 1) found least
   passed None least none blocks = λ place lt. one_more (λ k. bit_at mask k ≡ 1 → get_or places k None ≡ None) (λ marked. by (get_or places at None) refl marked) place lt (none place)
     where
-      by : (u : Option SlotUse) → get_or places at None ≡ u → bit_at mask at ≡ 1 → get_or places at None ≡ None
+      by : (u : Option RequestId) → get_or places at None ≡ u → bit_at mask at ≡ 1 → get_or places at None ≡ None
       by None is marked = is
       by (Some used) is marked = absurd (blocks used marked is)
   passed (Some place) least so_far blocks = record {
@@ -74,26 +74,26 @@ module _ (places : List (Option SlotUse)) (mask at : ℕ) where
     used = so_far.used;
     taken = so_far.taken;
     id_is = so_far.id_is;
-    least = λ other its lt. one_more (λ k. bit_at mask k ≡ 1 → get_or places k None ≡ Some its → least ≤ its.id.0) (λ marked is. blocks its marked is) other lt (so_far.least other its);
+    least = λ other its lt. one_more (λ k. bit_at mask k ≡ 1 → get_or places k None ≡ Some its → least ≤ its.0) (λ marked is. blocks its marked is) other lt (so_far.least other its);
   }
 
   -- A place with an earlier id is the one with the least, from then on.
-  pub taken : (found : Option ℕ) (least : ℕ) → ProbeResult places mask at found least → (used : SlotUse) → bit_at mask at ≡ 1 → get_or places at None ≡ Some used
-      → ((place : ℕ) → found ≡ Some place → used.id.0 < least) → ProbeResult places mask (at + 1) (Some at) used.id.0
+  pub taken : (found : Option ℕ) (least : ℕ) → ProbeResult places mask at found least → (used : RequestId) → bit_at mask at ≡ 1 → get_or places at None ≡ Some used
+      → ((place : ℕ) → found ≡ Some place → used.0 < least) → ProbeResult places mask (at + 1) (Some at) used.0
   taken found least so_far used marked is earlier = record {
     here = omega arith;
     marked = marked;
     used = used;
     taken = is;
     id_is = refl;
-    least = λ other its lt. one_more (λ k. bit_at mask k ≡ 1 → get_or places k None ≡ Some its → used.id.0 ≤ its.id.0) (λ m its_is. own its its_is) other lt (others found so_far earlier other its);
+    least = λ other its lt. one_more (λ k. bit_at mask k ≡ 1 → get_or places k None ≡ Some its → used.0 ≤ its.0) (λ m its_is. own its its_is) other lt (others found so_far earlier other its);
   }
     where
-      own : (its : SlotUse) → get_or places at None ≡ Some its → used.id.0 ≤ its.id.0
+      own : (its : RequestId) → get_or places at None ≡ Some its → used.0 ≤ its.0
       own its its_is = let e = same_id _ used its is its_is in omega (arith, e)
 
-      others : (found : Option ℕ) → ProbeResult places mask at found least → ((place : ℕ) → found ≡ Some place → used.id.0 < least) → (other : ℕ) (its : SlotUse) → other < at → bit_at mask other ≡ 1
-          → get_or places other None ≡ Some its → used.id.0 ≤ its.id.0
+      others : (found : Option ℕ) → ProbeResult places mask at found least → ((place : ℕ) → found ≡ Some place → used.0 < least) → (other : ℕ) (its : RequestId) → other < at → bit_at mask other ≡ 1
+          → get_or places other None ≡ Some its → used.0 ≤ its.0
       others None none e other its lt m its_is = absurd (differ (sym (none other lt m) ∙ its_is))
         where
           differ : None ≡ Some its → ⊥
@@ -102,13 +102,13 @@ module _ (places : List (Option SlotUse)) (mask at : ℕ) where
 
   -- Where no later place has its bit set, what was found is all.
   module _ (small : at ≤ 32) (above : (k : ℕ) → at ≤ k → k < 32 → bit_at mask k ≡ 1 → ⊥) where
-    pub all_found : (found : Option ℕ) (least : ℕ) → ProbeResult places mask at found least → IfSome found (λ place. HasLeastIdOf places mask place)
+    pub all_found : (found : Option ℕ) (least : ℕ) → ProbeResult places mask at found least → IfSome found (λ place. HasLeastIdIn places mask place)
     all_found None least none = tt
     all_found (Some place) least so_far = record {
       slot_in_range = let h = so_far.here in omega (arith, h, small);
       mask_has_slot = so_far.marked;
-      slot_use = so_far.used;
-      use_is = so_far.taken;
+      id = so_far.used;
+      id_is = so_far.taken;
       least = λ other its lt m its_is. ⊎_elim
           (λ (low : other < at). let l = so_far.least other its low m its_is in let i = so_far.id_is in omega (arith, l, i))
           (λ (high : at ≤ other). absurd (above other high lt m))
@@ -168,7 +168,7 @@ next mask from fits some = record {
     lowest = bit_at-trailing_zeros w32 left (omega (arith, some)) (let f = fewer in omega (arith, f, fits))
 
 -- no place in between has its bit set, so that what was found is found up to there
-pub skipped : (places : List (Option SlotUse)) (mask from place : ℕ) → IsNext mask from place → (found : Option ℕ) (least : ℕ) → ProbeResult places mask from found least → ProbeResult places mask place found least
+pub skipped : (places : List (Option RequestId)) (mask from place : ℕ) → IsNext mask from place → (found : Option ℕ) (least : ℕ) → ProbeResult places mask from found least → ProbeResult places mask place found least
 skipped places mask from place is None least none = λ k lt marked. ⊎_elim
     (λ (low : k < from). none k low marked)
     (λ (high : from ≤ k). let zero = is.none k high lt in absurd (omega (arith, zero, marked)))
@@ -184,40 +184,3 @@ skipped places mask from place is (Some at) least so_far = record {
       (λ (high : from ≤ other). let zero = is.none other high lt in absurd (omega (arith, zero, marked)))
       (cases_lt other from);
 }
-
--- ---- of a mask, the places that are taken
-
--- Both bits are set where the bit of both is.
-both : (a b k : ℕ) → bit_at (bit_and a b) k ≡ 1 → (bit_at a k ≡ 1) × (bit_at b k ≡ 1)
-both a b k one =
-    let is = bit_at_and a b k in
-    let x = bit_at-lt a k in
-    let y = bit_at-lt b k in
-    (omega (arith, one, is, x, y), omega (arith, one, is, x, y))
-
-module _ (places : List (Option SlotUse)) (mask marks : ℕ) (are : IsTakenMask places marks) where
-  pub of_taken : (place : ℕ) → HasLeastIdOf places (bit_and mask marks) place → HasLeastIdOf places mask place
-  of_taken place is = record {
-    slot_in_range = is.slot_in_range;
-    mask_has_slot = (both mask marks place is.mask_has_slot).0;
-    slot_use = is.slot_use;
-    use_is = is.use_is;
-    least = λ other its lt marked its_is. is.least other its lt (one other marked (in_mask other its lt its_is)) its_is;
-  }
-    where
-      in_mask : (other : ℕ) (its : SlotUse) → other < 32 → get_or places other None ≡ Some its → bit_at marks other ≡ 1
-      in_mask other its lt its_is = (are other lt).1 (subst IsSome (sym its_is) refl)
-
-      one : (k : ℕ) → bit_at mask k ≡ 1 → bit_at marks k ≡ 1 → bit_at (bit_and mask marks) k ≡ 1
-      one k a b = let is = bit_at_and mask marks k in omega (arith, a, b, is)
-
-  pub none_of_taken : ((place : ℕ) → place < 32 → bit_at (bit_and mask marks) place ≡ 1 → get_or places place None ≡ None)
-      → (place : ℕ) → place < 32 → bit_at mask place ≡ 1 → get_or places place None ≡ None
-  none_of_taken none place lt marked = by (get_or places place None) refl
-    where
-      by : (used : Option SlotUse) → get_or places place None ≡ used → get_or places place None ≡ None
-      by None is = is
-      by (Some its) is =
-          let m = (are place lt).1 (subst IsSome (sym is) refl) in
-          let e = bit_at_and mask marks place in
-          none place lt (omega (arith, marked, m, e))
