@@ -19,7 +19,7 @@ use Rattle.block_machine.specs.Histories.{JointState}
 use Rattle.block_machine.specs.Ports.{Ports, SameSerialAndSize, RequestFault, Evidence, IsStoppedOrStuck}
 use Rattle.block_machine.specs.State.{Pending}
 use Rattle.port_control.specs.Engines.{Stops, EngineSticks}
-use Rattle.identify.specs.ErrorLog.{NamesQueuedCommand}
+use Rattle.error_recovery.specs.ErrorLog.{NamesQueuedCommand}
 use Rattle.error_recovery.specs.Evidence.{BringsLastLogPage, HasFailed, ShowsFatal}
 use Rattle.driver_history.specs.AccessTrace.{WritesNeitherCmdNorSctl}
 

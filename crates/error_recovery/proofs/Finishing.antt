@@ -19,8 +19,8 @@ use Rattle.refinement.specs.Driver.{AllFree}
 use Rattle.refinement.specs.Slots.{Free, IsMove, Own, SlotStates, set_slot_state, client_operation_of}
 use Rattle.disk_page.specs.PageRequests.{BringsLastPage, IsPxciOrSlot0PageMemoryAccess, LeavesPortWhileAsking, WaitsForSlot0InVain}
 use Rattle.command_table.specs.TableStores.{IsSlotStateFree}
-use Rattle.identify.specs.ErrorLog.{NamesNoQueuedCommand}
-use Rattle.identify.specs.declared.error_log.FailedSlot.{FailedSlot}
+use Rattle.error_recovery.specs.ErrorLog.{NamesNoQueuedCommand}
+use Rattle.ata_types.specs.declared.Slot.{Slot}
 use Rattle.port_control.specs.Engines.{FailsToStop, EngineSticks, Stops}
 use Rattle.port_control.specs.Ports.{FailsToStopPort, PortStops, ClearsStAlone, IsCommandRegister}
 use Rattle.port_control.specs.declared.Running as running_token
@@ -48,8 +48,8 @@ pub all_go_again : (outstanding : ℕ) → SplitsOutstanding outstanding None ou
 all_go_again outstanding = record { each_is_in_one = λ slot small set. inr set; again_is_outstanding_and_unnamed = λ slot small set. (set, λ named. named) }
 
 -- what a plain command that is named rests on
-pub rests_on_fault : (port : Port) (outstanding shown : ℕ) (accesses : List Access) (old new : Device) → IsTold port false shown accesses old new → (failed : Option FailedSlot) →
-    IfSome failed (λ f. (f.slot.0 ≡ 0) × (bit outstanding 0 ≡ true) × (f.status ≡ shown % 256) × (f.error ≡ shown / 256 % 256)) → BacksFailure false port outstanding accesses old new failed
+pub rests_on_fault : (port : Port) (outstanding shown : ℕ) (accesses : List Access) (old new : Device) → IsTold port false shown accesses old new → (failed : Option (Slot × ℕ × ℕ)) →
+    IfSome failed (λ f. (f.0.0 ≡ 0) × (bit outstanding 0 ≡ true) × (f.1 ≡ shown % 256) × (f.2 ≡ shown / 256 % 256)) → BacksFailure false port outstanding accesses old new failed
 rests_on_fault port outstanding shown accesses old new t None is = tt
 rests_on_fault port outstanding shown accesses old new t (Some f) is = record {
   slot_is = is.0;
@@ -62,7 +62,7 @@ rests_on_fault port outstanding shown accesses old new t (Some f) is = record {
 }
 
 -- an outstanding plain command is named
-pub is_named : (outstanding : ℕ) (failed : Option FailedSlot) → IfNone failed (bit outstanding 0 ≡ false) → bit outstanding 0 ≡ true → failed ≢ None
+pub is_named : (outstanding : ℕ) (failed : Option (Slot × ℕ × ℕ)) → IfNone failed (bit outstanding 0 ≡ false) → bit outstanding 0 ≡ true → failed ≢ None
 is_named outstanding None none set = absurd (true≢false (sym set ∙ none))
 is_named outstanding (Some f) none set = λ e. absurd cc
 
@@ -137,7 +137,7 @@ module _ (laws : Laws) where
 
     -- ---- its disk is busy
 
-    pub is_busy : (failed : Option FailedSlot) (again : ℕ) (token : stopped_token.Stopped) → token.port ≡ port → bit after 7 || bit after 3 ≡ true → SplitsOutstanding outstanding failed again →
+    pub is_busy : (failed : Option (Slot × ℕ × ℕ)) (again : ℕ) (token : stopped_token.Stopped) → token.port ≡ port → bit after 7 || bit after 3 ≡ true → SplitsOutstanding outstanding failed again →
         (BacksFailure queued port outstanding (total laws port outstanding queued before after old d r (λ uses. uses) d (quieted laws port outstanding queued before after old d r)) old d failed) →
         (queued ≡ false → bit outstanding 0 ≡ true → failed ≢ None) → (queued ≡ true → failed ≡ None) → Recovers port outstanding queued (record { failed = failed; again = again; next = Restart token }) old d
     is_busy failed again token names occupied parts rests named unnamed =
@@ -184,7 +184,7 @@ module _ (laws : Laws) where
       silent_start a = laws.no_moves_compose port.0 Identify old d start (r.stops_and_clears.no_identify_moves a) (starting_silent laws port d start s.starts r.stops_and_clears.machine_is_related)
 
       -- a plain command failed
-      pub goes_again : (failed : Option FailedSlot) (again : ℕ) (token : running_token.Running) → token.port ≡ port → queued ≡ false → SplitsOutstanding outstanding failed again →
+      pub goes_again : (failed : Option (Slot × ℕ × ℕ)) (again : ℕ) (token : running_token.Running) → token.port ≡ port → queued ≡ false → SplitsOutstanding outstanding failed again →
           BacksFailure queued port outstanding (total laws port outstanding queued before after old d r (λ uses. uses) start b_start) old start failed →
           (bit outstanding 0 ≡ true → failed ≢ None) → Recovers port outstanding queued (record { failed = failed; again = again; next = Running token }) old start
       goes_again failed again token names is parts rests named = record {
@@ -234,7 +234,7 @@ module _ (laws : Laws) where
             goes_over laws port a.is_driven.accesses start log goes_start.on (All-weaker (IsPxciOrSlot0PageMemoryAccess port) (IsRecoveryAccess port) (λ access is. inr is) a.is_driven.accesses a.is_driven.accesses_are_of_kind) a.is_driven.all_are_done
 
         -- and names one
-        pub names_one : (failed : FailedSlot) (again : ℕ) (token : running_token.Running) → token.port ≡ port → (log.port port.0).halt ≡ NotHalted → ReadsLog port outstanding (Some failed) start log →
+        pub names_one : (failed : Slot × ℕ × ℕ) (again : ℕ) (token : running_token.Running) → token.port ≡ port → (log.port port.0).halt ≡ NotHalted → ReadsLog port outstanding (Some failed) start log →
             SplitsOutstanding outstanding (Some failed) again → Recovers port outstanding queued (record { failed = Some failed; again = again; next = Running token }) old log
         names_one failed again token names running (page, (brings, a), tells, among) parts =
             let b = b_log a in
@@ -253,7 +253,7 @@ module _ (laws : Laws) where
                 tells = record {
                   splits_outstanding = parts;
                   failure_is_backed = subst Q (sym on) (record {
-                    slot_in_range = tag_is_small page failed.slot.0 failed.status failed.error tells;
+                    slot_in_range = tag_is_small page failed.0.0 failed.1 failed.2 tells;
                     is_outstanding = among;
                     fault = t.fault;
                     has_failed = t.has_failed;

@@ -5,7 +5,7 @@ use Rattle.adapter.specs.Device.{Device}
 use Rattle.adapter.specs.Rules.{IsOn}
 use Rattle.refinement.specs.Fragments.{ReadsPortOrWrites, IsSimulated}
 use Rattle.refinement.specs.Driver.{AllFree}
-use Rattle.identify.specs.ErrorLog.{NamesQueuedCommand}
+use Rattle.error_recovery.specs.ErrorLog.{NamesQueuedCommand}
 use Rattle.port_control.specs.Calls.{Starts}
 use Rattle.port_control.specs.Ports.{IsCommandRegister}
 use Rattle.error_recovery.specs.Laws.{Laws}

@@ -1,3 +1,4 @@
+pub mod ErrorLog
 pub mod Evidence
 pub mod Recovery
 pub mod RecoveryParts

@@ -23,8 +23,8 @@ use Rattle.refinement.specs.PreservedParts.{NoPlugEvents, DoesNotWrite}
 use Rattle.refinement.specs.HaltRecovery.{IsLinked, WorksOnUnqueuedCommandsOnly}
 use Rattle.refinement.specs.Slots.{Free, Own, SlotStates, client_operation_of, set_slot_state}
 use Rattle.disk_page.specs.PageRequests.{IsPxciOrSlot0PageMemoryAccess, WaitsForSlot0InVain}
-use Rattle.identify.specs.ErrorLog.{NamesQueuedCommand, NamesNoQueuedCommand}
-use Rattle.identify.specs.declared.error_log.FailedSlot.{FailedSlot}
+use Rattle.error_recovery.specs.ErrorLog.{NamesQueuedCommand, NamesNoQueuedCommand}
+use Rattle.ata_types.specs.declared.Slot.{Slot}
 use Rattle.port_control.specs.Engines.{EngineSticks, Stops}
 use Rattle.port_control.specs.Ports.{IsSerrOrIs, RunsInPlaceWithoutCommands, IsStopped, BacksFault, ShowsIdle, IsCommandRegister, programmed_bases}
 use Rattle.port_control.specs.declared.PortFault.TheVariants.{EngineStuck}
@@ -100,12 +100,12 @@ TellsEngineOutcome port _ accesses = Stops port accesses
 -- ---- what is told
 
 -- the slot is the one that is named
-abbrev pub IsNamedSlot : Option FailedSlot → ℕ → Type 0
+abbrev pub IsNamedSlot : Option (Slot × ℕ × ℕ) → ℕ → Type 0
 IsNamedSlot None slot = ⊥
-IsNamedSlot (Some failed) slot = slot ≡ failed.slot.0
+IsNamedSlot (Some failed) slot = slot ≡ failed.0.0
 
 -- The outstanding slots are the one that is named and those that go again, and no slot is both.
-pub record SplitsOutstanding (outstanding : ℕ) (failed : Option FailedSlot) (again : ℕ) : Type 0 where
+pub record SplitsOutstanding (outstanding : ℕ) (failed : Option (Slot × ℕ × ℕ)) (again : ℕ) : Type 0 where
   pub each_is_in_one : (slot : ℕ) → slot < 32 → bit outstanding slot ≡ true → IsNamedSlot failed slot
       ⊎ (bit again slot ≡ true)
   pub again_is_outstanding_and_unnamed : (slot : ℕ) → slot < 32 → bit again slot ≡ true → (bit outstanding slot ≡ true)
@@ -113,28 +113,28 @@ pub record SplitsOutstanding (outstanding : ℕ) (failed : Option FailedSlot) (a
 
 -- A plain command that is named rests on a fault of its slot, with this status and error.
 pub record RestsOnFault (port : Port) (outstanding : ℕ) (accesses : List Access) (old new : Device)
-    (failed : FailedSlot) : Type 0 where
-  pub slot_is : failed.slot.0 ≡ 0
+    (failed : Slot × ℕ × ℕ) : Type 0 where
+  pub slot_is : failed.0.0 ≡ 0
   pub is_outstanding : bit outstanding 0 ≡ true
   pub fault : tape_fault.Fault
   pub has_failed : HasFailed port accesses old new fault
   pub fault_slot_is : fault.slot.0 ≡ 0
-  pub status_is : fault.status ≡ failed.status
-  pub error_is : fault.error ≡ failed.error
+  pub status_is : fault.status ≡ failed.1
+  pub error_is : fault.error ≡ failed.2
 
 -- A queued one rests on a fault of the port, and on the last page of the log that the call brought, which names it.
 pub record RestsOnLog (port : Port) (outstanding : ℕ) (accesses : List Access) (old new : Device)
-    (failed : FailedSlot) : Type 0 where
-  pub slot_in_range : failed.slot.0 < 32
-  pub is_outstanding : bit outstanding failed.slot.0 ≡ true
+    (failed : Slot × ℕ × ℕ) : Type 0 where
+  pub slot_in_range : failed.0.0 < 32
+  pub is_outstanding : bit outstanding failed.0.0 ≡ true
   pub fault : tape_fault.Fault
   pub has_failed : HasFailed port accesses old new fault
   pub last_log_page : List ℕ
   pub brings : BringsLastLogPage port old new last_log_page
-  pub tells : NamesQueuedCommand last_log_page failed.slot.0 failed.status failed.error
+  pub tells : NamesQueuedCommand last_log_page failed.0.0 failed.1 failed.2
 
 -- What stands behind the command that is named: the task file for a plain one, the page of the log for a queued one.
-abbrev pub BacksFailure : Bool → Port → ℕ → List Access → Device → Device → Option FailedSlot → Type 0
+abbrev pub BacksFailure : Bool → Port → ℕ → List Access → Device → Device → Option (Slot × ℕ × ℕ) → Type 0
 BacksFailure queued port outstanding accesses old new None = Unit {0}
 BacksFailure false port outstanding accesses old new
     (Some failed) = RestsOnFault port outstanding accesses old new failed

@@ -20,8 +20,8 @@ use Rattle.refinement.specs.HaltRecovery.{IsLinked, RunsLinked, WorksOnUnqueuedC
 use Rattle.refinement.specs.StartedPort.{IsStarted, IsUpForStart}
 use Rattle.refinement.specs.Slots.{Own}
 use Rattle.disk_page.specs.PageRequests.{LeavesPortWhileAsking, ReadsPageOrWaitsInVain}
-use Rattle.identify.specs.ErrorLog.{NamesQueuedCommand, NamesNoQueuedCommand}
-use Rattle.identify.specs.declared.error_log.FailedSlot.{FailedSlot}
+use Rattle.error_recovery.specs.ErrorLog.{NamesQueuedCommand, NamesNoQueuedCommand}
+use Rattle.ata_types.specs.declared.Slot.{Slot}
 use Rattle.port_control.specs.Engines.{EngineSticks, Stops}
 use Rattle.port_control.specs.Ports.{SerrShowsOnlyNewPlugs, RunsInPlaceWithoutCommands, IsStoppedReceiving, SameSctlAndNotesButCmdAndStart, BacksFault, ShowsIdle, IsCommandRegister}
 use Rattle.port_control.specs.declared.PortFault.TheVariants.{EngineStuck}
@@ -135,17 +135,17 @@ pub record FinishesRecovery (cleared : StoppedAndCleared) (outstanding : ℕ) (q
 
 -- The page of the log names an outstanding slot. Or no page came; or it names no command, or one that isn't
 -- outstanding.
-abbrev pub ReadsLog : Port → ℕ → Option FailedSlot → Device → Device → Type 0
+abbrev pub ReadsLog : Port → ℕ → Option (Slot × ℕ × ℕ) → Device → Device → Type 0
 ReadsLog port outstanding (Some failed) old new = (page : List ℕ)
     × ReadsPageOrWaitsInVain port ReadLog (Some page) old new
-    × NamesQueuedCommand page failed.slot.0 failed.status failed.error × (bit outstanding failed.slot.0 ≡ true)
+    × NamesQueuedCommand page failed.0.0 failed.1 failed.2 × (bit outstanding failed.0.0 ≡ true)
 ReadsLog port outstanding None old new = ReadsPageOrWaitsInVain port ReadLog None old new
     ⊎ ((page : List ℕ) × ReadsPageOrWaitsInVain port ReadLog (Some page) old new
     × (NamesNoQueuedCommand page ⊎ NamesSlotNotOutstanding outstanding page))
 
 -- The log was asked for. The port runs still, without a halt where a slot is named, and no other command of the
 -- driver's own was sent.
-pub record AsksForLog (port : Port) (outstanding : ℕ) (named : Option FailedSlot) (old new : Device) : Type 0 where
+pub record AsksForLog (port : Port) (outstanding : ℕ) (named : Option (Slot × ℕ × ℕ)) (old new : Device) : Type 0 where
   pub reads : ReadsLog port outstanding named old new
   pub leaves : LeavesPortWhileAsking port.0 old new
   pub is_not_halted_if_named : IfSome named (λ _. (new.port port.0).halt ≡ NotHalted)

@@ -3,8 +3,9 @@
 //! (AHCI 1.3.1, 6.2.2; ACS-3, 7.24 and A.14.) `recover` is for a port of which TFES, PxSSTS, PxCI
 //! and PxSACT were read, in this order. `stop_for_reset` stops one for any other trouble, by its PxCMD
 //! alone. Both give up all slots of the port, and park the requests that were there: the caller
-//! decides on these. Where `recover` says `Restart`, the port is stopped, and has to be booted. It
-//! knows no client and no book.
+//! decides on these. Where `recover` says `Restart`, the port is stopped, and has to be booted.
+//! `parse_log` reads the page by which a disk names a queued command that failed. The crate knows
+//! no client and no book.
 #![tactic(auto)]
 
 ghost use Rattle.std.specs.Prelude.{ℕ, Bool, true, false, None, Some, ◌≡◌, ◌<◌, ◌≤◌, ◌%◌, ◌/◌, IfSome, IfNone};
@@ -15,15 +16,15 @@ ghost use Rattle.disk_page.specs.{PageRequests.{PortMayAskForPage}, Costs.{PAGE_
 ghost use Rattle.error_recovery.specs.{RecoveryParts.{AsksForLog, StopGetsStuck, StartsAgain, IsOnWithPortAndDriverMemory, MayStartAgain, StopsAndClears, MayFinishRecovery, FinishesRecovery}, Recovery.{StopsOrSticksForReset, IsNamedSlot, MayHandleError, PortMayRecover, SplitsOutstanding, Recovers}, Costs.{FINISH_QUEUED_ACCESSES, STOP_AND_CLEAR_ACCESSES, RECOVER_ACCESSES}};
 ghost use Rattle.port_control.specs.Costs.{START_ACCESSES, STOP_ACCESSES};
 
+mod error_log;
 pub mod laws;
 mod prerequisites;
 
 use adapter::Adapter;
 use ata_types::{Port, Slot};
 use disk_page::{Page, read_page};
+pub use error_log::parse_log;
 use hba_regs::{PortReg, Reg, TaskFile, is_set, without_bit};
-pub use identify::FailedSlot;
-use identify::parse_log;
 use port_control::{
     Running, Stopped, clear_error_state, is_bsy_or_drq, keep_receiving, start, stop,
 };
@@ -43,8 +44,8 @@ pub enum Next {
 /// What came of recovery.
 #[derive(Debug, Drop)]
 pub struct Recovered {
-    /// The command that failed, where it is known.
-    pub failed: Option<FailedSlot>,
+    /// The command that failed, if it is known: its slot, with the status and the error that it ended with.
+    pub failed: Option<(Slot, u8, u8)>,
     /// The other slots whose commands were outstanding, by bit: they failed by no fault of their own.
     pub again: u32,
     /// What the port is.
@@ -94,11 +95,14 @@ fn start_again<A: Adapter>(adapter: &mut A, stopped: Stopped) -> Running
 {
     law_prerequisites();
     let receiving = keep_receiving(adapter, stopped);
-    start(adapter, receiving)
+    let Ok(running) = start(adapter, receiving) else {
+        unreachable!()
+    };
+    running
 }
 
 /// Which of the outstanding queued commands failed, as the disk's log tells.
-fn read_log<A: Adapter>(adapter: &mut A, port: Port, outstanding: u32) -> Option<FailedSlot>
+fn read_log<A: Adapter>(adapter: &mut A, port: Port, outstanding: u32) -> Option<(Slot, u8, u8)>
     requires room { IsOnWithPortAndDriverMemory port.0 (A.device adapter.old) }
     requires may { PortMayAskForPage port.0 (A.device adapter.old) }
     requires some_machine_agrees { SomeMachineAgreesWith (λ uses. AllFree uses port.0) (A.device adapter.old) }
@@ -110,40 +114,36 @@ fn read_log<A: Adapter>(adapter: &mut A, port: Port, outstanding: u32) -> Option
     let Some(page) = read_page(adapter, port, Page::ErrorLog) else {
         return None;
     };
-    let Some(failed) = parse_log(&page) else {
+    let Some((tag, status, error)) = parse_log(&page) else {
         return None;
     };
-    if is_set(outstanding, u32::from(failed.slot.0)) {
-        Some(failed)
+    if is_set(outstanding, u32::from(tag)) {
+        Some((Slot(tag), status, error))
     } else {
         None
     }
 }
 
 /// Which plain command failed: the one that is outstanding, with status and error as the task file showed them.
-fn fault_of(outstanding: u32, fault: TaskFile) -> Option<FailedSlot>
-    ensures named { IfSome result (λ failed. (failed.slot.0 ≡ 0) × (bit outstanding 0 ≡ true)
-        × (failed.status ≡ fault.0 % 256) × (failed.error ≡ fault.0 / 256 % 256)) }
+fn fault_of(outstanding: u32, fault: TaskFile) -> Option<(Slot, u8, u8)>
+    ensures named { IfSome result (λ failed. (failed.0.0 ≡ 0) × (bit outstanding 0 ≡ true)
+        × (failed.1 ≡ fault.0 % 256) × (failed.2 ≡ fault.0 / 256 % 256)) }
     ensures none { IfNone result (bit outstanding 0 ≡ false) }
 {
     if !is_set(outstanding, 0) {
         return None;
     }
-    Some(FailedSlot {
-        slot: Slot(0),
-        status: fault.status(),
-        error: fault.error(),
-    })
+    Some((Slot(0), fault.status(), fault.error()))
 }
 
 /// The outstanding slots without the one that is named.
-fn others(outstanding: u32, failed: &Option<FailedSlot>) -> u32
+fn others(outstanding: u32, failed: &Option<(Slot, u8, u8)>) -> u32
     requires small { (slot : ℕ) → IsNamedSlot failed.now slot → slot < 32 }
     requires named { (slot : ℕ) → IsNamedSlot failed.now slot → bit outstanding slot ≡ true }
     ensures { SplitsOutstanding outstanding failed.now result }
 {
     match failed {
-        Some(named) => without_bit(outstanding, u32::from(named.slot.0)),
+        Some(named) => without_bit(outstanding, u32::from(named.0.0)),
         None => outstanding,
     }
 }

@@ -1,8 +1,8 @@
 -- A stopped port is booted, when its adapter is taken over or later.
-use Rattle.std.proofs.Common.{ℕ, ◌≡◌, ◌≢◌, ◌+◌, inl, inr, length, sym, ◌∙◌, ap, subst}
+use Rattle.std.proofs.Common.{ℕ, false, ◌≡◌, ◌≢◌, ◌+◌, inl, inr, length, sym, ◌∙◌, ap, subst}
 use Rattle.ata_types.specs.declared.Port.{Port}
 use Rattle.ata_types.specs.declared.PortState.{PortState as ShownState}
-use Rattle.ata_types.specs.declared.PortState.TheVariants.{Absent}
+use Rattle.ata_types.specs.declared.PortState.TheVariants.{Absent, Dead}
 use Rattle.hba_regs.specs.Bits.{bit, field}
 use Rattle.hba_regs.specs.declared.reg.Reg.TheVariants.{Cap, Px}
 use Rattle.adapter.specs.Access.{Access, Reads}
@@ -14,19 +14,19 @@ use Rattle.refinement.specs.Driver.{AllFree}
 use Rattle.identify.specs.declared.wanted.Wanted.{Wanted}
 use Rattle.identify.specs.declared.wanted.Wanted.TheVariants.{Nothing}
 use Rattle.port_control.specs.Engines.{Stops, StopsEachEngine}
-use Rattle.port_control.specs.Ports.{IsSerrOrIs, IsStopped, BacksFault, IsCommandRegister}
+use Rattle.port_control.specs.Ports.{FailsToStopPort, IsSerrOrIs, IsStopped, BacksFault, IsCommandRegister}
 use Rattle.port_control.specs.declared.PortFault.TheVariants.{NoDevice}
 use Rattle.port_boot.specs.States.{IsSimulatedBootTo, IsOnWithPortMemoryAndFreeSlots, IsBootAccess}
 use Rattle.host_boot.specs.Reboots.{RebootsPort, RebootsWithDet3OrFindsAbsent, EndsReadyOrUnready, IsCapPiOrBootAccess}
 use Rattle.host_boot.specs.Laws.{Laws}
 use Rattle.host_boot.specs.Laws.AccessPurpose.{ClearingSerrOrIs, Rebooting, ReadingCapAndPi}
-use Rattle.host_boot.specs.TakeOver.{IsSimulatedBootOrNothing, StopsAndBootsOrDoesNothing, ReadyPortHaltFitsTakenCommands, ReadsCapOrPi, BacksProbeResult, WroteSctlUnlessUnservedOrDead}
+use Rattle.host_boot.specs.TakeOver.{BootsAndFindsPort, IsSimulatedBootOrNothing, StopsAndBootsOrDoesNothing, ReadyPortHaltFitsTakenCommands, ReadsCapOrPi, BacksProbeResult, WroteSctlUnlessUnservedOrDead}
 use Rattle.host_boot.specs.declared.Booted.{Booted}
 use Rattle.host_boot.specs.declared.ProbeResult.{ProbeResult}
 use Rattle.host_boot.specs.declared.ProbeResult.TheVariants.{Unserved, Ready, Unready}
 use Rattle.host_boot.proofs.Hosting.{cap_on}
-use Rattle.host_boot.proofs.Stopping.{boot_sticks, bootable_over, ended_since, since_stop, still_there, then_boot, then_boot_to}
-use Rattle.host_boot.proofs.Stretching.{by_then, driven_as, same_over}
+use Rattle.host_boot.proofs.Stopping.{boot_sticks, bootable_over, ended_since, since_stop, still_there, stuck_boots, then_boot, then_boot_to}
+use Rattle.host_boot.proofs.Stretching.{by_none, by_then, driven_as, same_over}
 use Rattle.host_boot.proofs.Taking.{boots_same}
 
 -- a port that is left to the device stays stopped
@@ -101,6 +101,34 @@ module _ (laws : Laws) where
       b.stopped_state_ends_after_start,
       λ dead. boot_sticks (StopsEachEngine port) port old new (subst (λ (s : ShownState). IsSimulatedBootTo (StopsEachEngine port) port s old new) dead (then_boot_to laws port old mid stops new state b.boots)),
     )
+
+    pub finds_booted : (found : ProbeResult) → EndsReadyOrUnready wanted port found mid new → wanted ≢ Nothing → HasPort old port.0 → BootsAndFindsPort wanted port found old new
+    finds_booted found b wants there = record {
+      result_is_backed = found_stands found b wants there;
+      sctl_was_written_unless_unserved_or_dead = found_reset found b;
+      halt_fits_taken_commands = found_halts wanted port mid new found b;
+      boots = found_boots found b;
+      stops_and_boots = found_way found b;
+    }
+
+  -- or its engine is stuck
+  pub finds_stuck : (port : Port) (old new : Device) (wanted : Wanted) → wanted ≢ Nothing → HasPort old port.0 → (new.port port.0).st ≡ false → FailsToStopPort port old new → BootsAndFindsPort wanted port (Unready Dead) old new
+  finds_stuck port old new wanted wants there clear fails =
+      let b = stuck_boots laws port old new fails.is_simulated in
+      record {
+        result_is_backed = ((wants, (still_there port old new (boots_same laws port old new (Unready Dead) (inl b)) there).1), (clear, fails.stuck_is_backed));
+        sctl_was_written_unless_unserved_or_dead = tt;
+        halt_fits_taken_commands = λ info is. let z : Unready Dead ≡ Ready info = is in absurd cc;
+        boots = inl b;
+        stops_and_boots = (
+          new,
+          fails.is_simulated.is_simulated.is_driven,
+          by_none (IsBootAccess port) new,
+          λ none. absurd none,
+          λ none. absurd none,
+          λ dead. record { driven = b.is_simulated.is_driven; sticks = b.accesses_are_such },
+        );
+      }
 
   -- ---- later: CAP is read before
 

@@ -10,3 +10,4 @@ pub mod Showing
 pub mod Beginning
 pub mod Served
 pub mod Awaiting
+pub mod Tokens

@@ -3,3 +3,4 @@ pub mod TakeOver
 pub mod Reboots
 pub mod Resets
 pub mod Costs
+pub mod Tokens

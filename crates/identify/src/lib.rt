@@ -1,18 +1,15 @@
-//! Reads the pages by which a disk tells what it is, and which of its queued commands failed.
+//! Reads the page by which a disk tells what it is.
 //!
 //! `parse` reads the page of IDENTIFY DEVICE (ACS-3, 7.12.7), and tells the first of six causes
-//! why a disk is unfit. `Wanted` says which disk a port is to have. `parse_log` reads that of log
-//! 10h (ACS-3, A.14). Both take any 512 bytes.
+//! why a disk is unfit. It takes any 512 bytes. `Wanted` says which disk a port is to have.
 #![tactic(auto)]
 
 ghost use Rattle.std.specs.{Prelude.{◌≡◌, ◌<◌, ◌↔◌, IsTrue, IfOk, IfErr, sum}, Int.{bit_at}};
 ghost use Rattle.identify.specs.IdentityPage.{ZeroesAfterTrim, UnfitApplies, Describes, IsFitPage, IsFirstUnfit, IsSerial, unfit_number, sector_count, identity_word};
 
-mod error_log;
 mod wanted;
 
 use byteorder::{ByteOrder, LittleEndian};
-pub use error_log::{FailedSlot, parse_log};
 use thiserror::Error;
 pub use wanted::Wanted;
 
@@ -99,8 +96,8 @@ fn has_bit(identity_word: u16, place: u32) -> bool
     identity_word >> place & 1 == 1
 }
 
-/// The sum of the page's bytes.
-fn sum_of(page: &[u8; 512]) -> u32
+/// The sum of a page's bytes, by which its checksum is judged (ACS-3, 7.12.7 and A.14).
+pub fn sum_of(page: &[u8; 512]) -> u32
     ensures { result ≡ sum page.now }
 {
     let mut total = 0;

@@ -85,6 +85,9 @@ module _ (laws : Laws) where
   pub placed_bootable : (port : Port) (old mid : Device) → IsOnWithPortMemoryAndFreeSlots port old → IsSimulated (ReadsPortOrWrites IsCmdOrBaseRegister port) AnySlotStates old mid → IsOnWithPortMemoryAndFreeSlots port mid
   placed_bootable port old mid b first = bootable_after PlacingRegisters AnyUses port old mid first (λ uses free. tt) b
 
+  pub stopped_bootable : (port : Port) (old mid : Device) → IsOnWithPortMemoryAndFreeSlots port old → IsSimulated (ReadsPortOrWrites IsCommandRegister port) AnySlotStates old mid → IsOnWithPortMemoryAndFreeSlots port mid
+  stopped_bootable port old mid b stops = bootable_after CommandRegister AnyUses port old mid stops (λ uses free. tt) b
+
   module _ (port : Port) (old mid reset : Device) (b : IsOnWithPortMemoryAndFreeSlots port old) (first : IsSimulatedAlong (StopsReceiving port) (ReadsPortOrWrites IsCmdOrBaseRegister port) AnySlotStates old mid)
       (second : IsSimulated (ReadsPortOrWrites IsSctlSerrOrIs port) AnySlotStates mid reset) where
     pub reset_bootable : IsOnWithPortMemoryAndFreeSlots port reset

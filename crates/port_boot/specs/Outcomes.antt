@@ -1,6 +1,6 @@
--- What a boot of a stopped port comes to, and what its parts come to (this project's own; the way: AHCI 1.3.1, 10.1.2
+-- What a boot of a port comes to, and what its parts come to (this project's own; the way: AHCI 1.3.1, 10.1.2
 -- and 10.4.2).
-use Rattle.std.specs.Prelude.{ℕ, ◌≡◌, ◌≢◌, ◌≤◌, ◌⊎◌, List, Option, length}
+use Rattle.std.specs.Prelude.{ℕ, false, ◌≡◌, ◌≢◌, ◌≤◌, ◌⊎◌, List, Option, length}
 use Rattle.ata_types.specs.declared.Port.{Port}
 use Rattle.ata_types.specs.declared.PortState.{PortState}
 use Rattle.ata_types.specs.declared.PortState.TheVariants.{Dead}
@@ -10,7 +10,10 @@ use Rattle.refinement.specs.Driver.{AllFree}
 use Rattle.refinement.specs.Halting.{HaltFitsTakenCommands}
 use Rattle.identify.specs.declared.DiskInfo.{DiskInfo}
 use Rattle.port_control.specs.Engines.{Stops, StopsReceiving}
+use Rattle.port_control.specs.Ports.{FailsToStopPort, PortStops}
 use Rattle.port_boot.specs.States.{BacksState, EndsBeforeStart, EndsAfterStart, AsksDiskThenEnables, BringsReady, IsSimulatedBoot, IsSimulatedBootTo, IsWrittenInBootButCi, IsBroughtUp, IsBeforeStart, IsStateStoppedAfterStart, IsBootAccess, IsReadyAfterBoot, StaysRunningIfUndisturbed, ShowsOnlyGainedErrors, StopsReceivingAndStartedEngine, StopsWithLinkUpIfUndisturbed}
+
+-- ---- a port that was stopped
 
 -- A boot that leaves the port ready: what stands behind that; PxSCTL was written in it; what it is to a machine that
 -- agrees; and its way, with what the port shows of trouble; and what halts it is of a command that is taken.
@@ -29,6 +32,21 @@ pub record EndsUnready (wanted : Option (List ℕ)) (port : Port) (state : PortS
   pub boots : IsSimulatedBootTo (StopsReceivingAndStartedEngine port state) port state old new
   pub unstarted_state_ends_before_start : IsBeforeStart state → EndsBeforeStart port state old new
   pub stopped_state_ends_after_start : IsStateStoppedAfterStart state → EndsAfterStart port old new
+
+-- ---- any port
+
+-- It was stopped, and then booted, which left it ready.
+pub record StopsAndEndsReady (wanted : Option (List ℕ)) (port : Port) (info : DiskInfo) (old new : Device) :
+    Type 0 where
+  pub stopped : Device
+  pub stops : PortStops port old stopped
+  pub ends_ready : EndsReady wanted port info stopped new
+
+-- It was stopped, and then booted, which left it in another state; or it was to stop, and its engine is stuck.
+abbrev pub StopsAndEndsUnready : Option (List ℕ) → Port → PortState → Device → Device → Type 0
+StopsAndEndsUnready wanted port state old new =
+    ((stopped : Device) × PortStops port old stopped × EndsUnready wanted port state stopped new)
+    ⊎ ((state ≡ Dead) × ((new.port port.0).st ≡ false) × FailsToStopPort port old new)
 
 -- ---- the first part: FISes are received, COMRESET is sent, and the port is started
 

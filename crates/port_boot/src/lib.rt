@@ -1,15 +1,16 @@
-//! Boots a stopped port: finds out what its disk is, by COMRESET and IDENTIFY DEVICE.
+//! Boots a port: stops it, and finds out what its disk is, by COMRESET and IDENTIFY DEVICE.
 //!
-//! (AHCI 1.3.1, 10.1.2 and 10.4.2; ACS-3, 7.12; which states there are, and the steps' order, are
-//! this project's own.) A caller stops the port, and gives up its slots, before. What stands behind
-//! the state that is told goes on until the port is booted anew (`law_boot_findings_stay_until_next_port_boot`).
+//! (AHCI 1.3.1, 10.1.2, 10.3.1 and 10.4.2; ACS-3, 7.12; which states there are, and the steps' order,
+//! are this project's own.) A caller gives up the port's slots before. `boot_stopped` is for a port
+//! that was stopped already. What stands behind the state that is told goes on until the port is
+//! booted anew (`law_boot_findings_stay_until_next_port_boot`).
 #![tactic(auto)]
 
 ghost use Rattle.std.specs.Prelude.{Option, ◌≡◌, ◌↔◌, IsTrue, IfOk, IfErr, OnOk};
 ghost use Rattle.adapter.specs.{Access.{named_causes_mask}, Device.{Device}, Rules.{IsOn, HasPort}, AccessBounds.{MakesAtMost}};
 ghost use Rattle.refinement.specs.Fragments.{SomeMachineAgreesWith, AnySlotStates};
 ghost use Rattle.port_control.specs.{Ports.{IsStopped, ClearsStAlone}, Costs.{STOP_ACCESSES}};
-ghost use Rattle.port_boot.specs.{Outcomes.{EndsReady, EndsUnready, FailsToIdentify, BootFailsToBringUp, Identifies, BootBringsUp}, States.{IsStateOfFault, SerialMatches, IsFitAndWanted, IsStateByPage, IsOnWithPortMemoryAndFreeSlots, IsBroughtUp, IsStoppedAsOrStuck}, Costs.{BOOT_ACCESSES, IDENTIFY_ACCESSES, RECEIVE_COMRESET_AND_START_ACCESSES}};
+ghost use Rattle.port_boot.specs.{Outcomes.{EndsReady, EndsUnready, StopsAndEndsReady, StopsAndEndsUnready, FailsToIdentify, BootFailsToBringUp, Identifies, BootBringsUp}, States.{IsStateOfFault, SerialMatches, IsFitAndWanted, IsStateByPage, IsOnWithPortMemoryAndFreeSlots, IsBroughtUp, IsStoppedAsOrStuck}, Costs.{BOOT_ACCESSES, BOOT_STOPPED_ACCESSES, IDENTIFY_ACCESSES, RECEIVE_COMRESET_AND_START_ACCESSES}};
 
 use adapter::Adapter;
 use ata_types::{Port, PortState};
@@ -90,7 +91,10 @@ fn bring_up<A: Adapter>(adapter: &mut A, stopped: Stopped) -> Result<Running, Po
         Ok(receiving) => receiving,
         Err((fault, _receiving)) => return Err(state_of(fault)),
     };
-    Ok(start(adapter, receiving))
+    let Ok(running) = start(adapter, receiving) else {
+        unreachable!()
+    };
+    Ok(running)
 }
 
 /// Stops the port, which then is in this state; or `Dead`, where its engine is stuck.
@@ -146,28 +150,55 @@ fn identify_disk<A: Adapter>(
     }
 }
 
-/// Boots a stopped port, no slot of which is used: has it receive FISes, sends COMRESET, looks for an ATA disk that is
-/// idle, asks it for its page by IDENTIFY DEVICE, and, where the page is of a disk with the serial number that is named
-/// (20 characters, filled with spaces; any will do where none is), has the port tell of interrupts' causes, and leaves
-/// it running. What halts it then is of a command that is taken.
-///
-/// Else the state: `Absent`, `Unfit(1)` to `Unfit(9)` or `Foreign`, and the port is stopped; or `Dead` where an engine
-/// is stuck.
-pub fn boot<A: Adapter>(
+/// Boots a stopped port, no slot of which is used, as `boot` does once it has stopped one.
+pub fn boot_stopped<A: Adapter>(
     adapter: &mut A,
     stopped: Stopped,
     wanted: &Option<[u8; 20]>,
-) -> Result<DiskInfo, PortState>
+) -> Result<(Running, DiskInfo), PortState>
     requires bootable { IsOnWithPortMemoryAndFreeSlots stopped.port (A.device adapter.old) }
     requires stopped { IsStopped ((A.device adapter.old).port stopped.port.0) }
     ensures adapter_is_on { IsOn (A.device adapter.new) }
-    ensures ready { IfOk result (λ info. EndsReady wanted.now stopped.port info (A.device adapter.old)
+    ensures token_is_of_port { IfOk result (λ ready. ready.0.port ≡ stopped.port) }
+    ensures ready { IfOk result (λ ready. EndsReady wanted.now stopped.port ready.1 (A.device adapter.old)
         (A.device adapter.new)) }
     ensures unready { IfErr result (λ state. EndsUnready wanted.now stopped.port state (A.device adapter.old)
+        (A.device adapter.new)) }
+    ensures cost { MakesAtMost BOOT_STOPPED_ACCESSES (A.access_count adapter.old) (A.access_count adapter.new) }
+{
+    law_prerequisites();
+    let running = bring_up(adapter, stopped)?;
+    match identify_disk(adapter, running.port(), wanted) {
+        Ok(info) => Ok((running, info)),
+        Err(state) => Err(state),
+    }
+}
+
+/// Boots a port, no slot of which is used: stops it, has it receive FISes, sends COMRESET, looks for an ATA disk that is
+/// idle, asks it for its page by IDENTIFY DEVICE, and, if the page is of a disk with the serial number that is named (20
+/// characters, filled with spaces; any will do if none is), has the port tell of interrupts' causes, and leaves it
+/// running. It returns the port's token and what the disk says of itself. What halts the port then is of a command that
+/// is taken.
+///
+/// The error is the state of a port that isn't ready: `Absent`, `Unfit(1)` to `Unfit(9)` or `Foreign`, and the port is
+/// stopped; or `Dead`, if an engine is stuck.
+pub fn boot<A: Adapter>(
+    adapter: &mut A,
+    port: Port,
+    wanted: &Option<[u8; 20]>,
+) -> Result<(Running, DiskInfo), PortState>
+    requires bootable { IsOnWithPortMemoryAndFreeSlots port (A.device adapter.old) }
+    ensures adapter_is_on { IsOn (A.device adapter.new) }
+    ensures token_is_of_port { IfOk result (λ ready. ready.0.port ≡ port) }
+    ensures ready { IfOk result (λ ready. StopsAndEndsReady wanted.now port ready.1 (A.device adapter.old)
+        (A.device adapter.new)) }
+    ensures unready { IfErr result (λ state. StopsAndEndsUnready wanted.now port state (A.device adapter.old)
         (A.device adapter.new)) }
     ensures cost { MakesAtMost BOOT_ACCESSES (A.access_count adapter.old) (A.access_count adapter.new) }
 {
     law_prerequisites();
-    let running = bring_up(adapter, stopped)?;
-    identify_disk(adapter, running.port(), wanted)
+    let Ok(stopped) = stop(adapter, port) else {
+        return Err(PortState::Dead);
+    };
+    boot_stopped(adapter, stopped, wanted)
 }

@@ -2,9 +2,10 @@
 //!
 //! (AHCI 1.3.1, 10.1.2, 10.3 and 10.4.2.) Each call is of one port, and leaves the others to the
 //! device (`law_other_ports_are_untouched` of `refinement`). `Stopped`, `Receiving` and `Running` are
-//! tokens of a port's state. Each call tells what its very accesses showed: so a wait that is given
-//! up had 64 readings. `start` doesn't fail. `events` looks at a port, between its commands, and
-//! has what is wrong with one. The crate knows no client, and no command's contents.
+//! tokens of a port's state, and a fault hands back the one that was reached. Each call tells what
+//! its very accesses showed: so a wait that is given up had 64 readings. `events` looks at a port,
+//! between its commands, and has what is wrong with one. The crate knows no client, and no
+//! command's contents.
 #![tactic(auto)]
 
 ghost use Rattle.std.specs.Prelude.{ℕ, ◌≡◌, ◌≢◌, ◌<◌, ◌≤◌, ◌||◌, true, false, IfOk, IfErr, OnOk};
@@ -12,6 +13,7 @@ ghost use Rattle.hba_regs.specs.Bits.{bit};
 ghost use Rattle.adapter.specs.{Rules.{IsOn}, AccessBounds.{MakesAtMost}};
 ghost use Rattle.refinement.specs.{Fragments.{AnySlotStates, ReadsPortOrWrites, IsSimulated, IsSimulatedAlong}, Driver.{AllFree}, PortFacts.{IsQuiescentPort}};
 ghost use Rattle.port_control.specs.{Calls.{DetectsDeviceAfterClearingSerr, ResetsAndFindsDisk, ResetsAndFindsFault, MayBeginReceiving, MayBeStarted, MayClearErrorState, MayResetLink, StaysReceivingWithLinkUpIfDet3, Starts, StaysStoppedWithNotesButCmdKept}, Engines.{FailsToStopReceiving, StopsReceiving}, CallParts.{AwaitsIdle, ClearsFre, FindsAwaitedDevice, LeavesOnlyNewPlugErrors, MissesDevice, PlacesAreas, FindsDiskAfterReset, FindsFaultAfterReset, SendsComreset}};
+ghost use Rattle.port_control.specs.Faults.{port_fault_number};
 ghost use Rattle.port_control.specs.Ports.{FailsToStopPort, FailsToReceive, PortStops, BeginsReceiving, IsCommandRegister, IsCmdOrBaseRegister, IsSerrOrIs, IsSctlSerrOrIs, IsOnWithPortAndAgrees, IsStopped, IsStoppedReceiving, SawDeviceSinceSctlWrite, BacksFault, SameSctlAndNotesButCmd, ClearsStAlone, ClearsErrorState, programmed_bases};
 ghost use Rattle.port_control.specs.Costs.{FIND_ATA_DISK_ACCESSES, CLEAR_ACCESSES, COMRESET_ACCESSES, ERROR_STATE_ACCESSES, RECEIVE_ACCESSES, DETECT_ACCESSES, START_ACCESSES, STOP_ACCESSES};
 
@@ -71,6 +73,21 @@ impl Running {
     }
 }
 
+/// A port whose ST was cleared, and whose command engine was still running when it was last read.
+#[derive(Debug, Drop)]
+pub struct Stopping {
+    port: Port,
+}
+
+impl Stopping {
+    /// The port.
+    pub fn port(&self) -> Port
+        ensures { result ≡ self.now.port }
+    {
+        self.port
+    }
+}
+
 /// Why a port didn't get where it was to.
 #[derive(Clone, Copy, Debug, PartialEq, Eq)]
 pub enum PortFault {
@@ -84,6 +101,20 @@ pub enum PortFault {
     NotAta(u32),
 }
 
+impl PortFault {
+    /// The fault's number, 1 to 4 (this project's own).
+    pub fn number(self) -> u8
+        ensures { result ≡ port_fault_number self }
+    {
+        match self {
+            PortFault::NoDevice => 1,
+            PortFault::Busy => 2,
+            PortFault::EngineStuck => 3,
+            PortFault::NotAta(_) => 4,
+        }
+    }
+}
+
 /// Whether the device is busy or asks for a transfer, BSY or DRQ, so that ST may not be set (AHCI 1.3.1, 3.3.8 and
 /// 10.3.1).
 pub fn is_bsy_or_drq(task_file: TaskFile) -> bool
@@ -95,15 +126,15 @@ pub fn is_bsy_or_drq(task_file: TaskFile) -> bool
 /// Has a port's command engine stand: clears ST, and waits until CR is 0 (AHCI 1.3.1, 10.3.1). The other bits of PxCMD
 /// are written as they were read.
 ///
-/// `EngineStuck` where 64 readings find CR set: ST is 0 then, too.
-pub fn stop<A: Adapter>(adapter: &mut A, port: Port) -> Result<Stopped, PortFault>
+/// The fault is `EngineStuck`, if 64 readings find CR set: ST is 0 then, too.
+pub fn stop<A: Adapter>(adapter: &mut A, port: Port) -> Result<Stopped, (PortFault, Stopping)>
     requires on_and_agrees { IsOnWithPortAndAgrees AnySlotStates port (A.device adapter.old) }
     ensures adapter_is_on { IsOn (A.device adapter.new) }
     ensures st_is_cleared { ClearsStAlone ((A.device adapter.old).port port.0) ((A.device adapter.new).port port.0) }
     ensures token_is_of_port { IfOk result (λ token. token.port ≡ port) }
     ensures stops { OnOk result (PortStops port (A.device adapter.old) (A.device adapter.new)) }
-    ensures fails { IfErr result (λ fault. (fault ≡ PortFault.EngineStuck) × FailsToStopPort port (A.device adapter.old)
-        (A.device adapter.new)) }
+    ensures fails { IfErr result (λ fault. (fault.0 ≡ PortFault.EngineStuck) × (fault.1.port ≡ port)
+        × FailsToStopPort port (A.device adapter.old) (A.device adapter.new)) }
     ensures cost { MakesAtMost STOP_ACCESSES (A.access_count adapter.old) (A.access_count adapter.new) }
 {
     law_prerequisites();
@@ -115,7 +146,7 @@ pub fn stop<A: Adapter>(adapter: &mut A, port: Port) -> Result<Stopped, PortFaul
             return Ok(Stopped { port });
         }
     }
-    Err(PortFault::EngineStuck)
+    Err((PortFault::EngineStuck, Stopping { port }))
 }
 
 // Clears FRE, and waits until FR is 0 (AHCI 1.3.1, 10.3.2).
@@ -382,15 +413,19 @@ pub fn comreset<A: Adapter>(
 /// device with a link, which was neither busy nor asked for a transfer; and no slot of the port is used. The other bits
 /// of PxCMD are written as they were read.
 ///
-/// It doesn't fail: all that could keep a port from starting is known before, by readings. It reads no PxSIG, since to
-/// set ST again after an error needs no COMRESET.
-pub fn start<A: Adapter>(adapter: &mut A, receiving: Receiving) -> Running
+/// It answers no fault: all that could keep a port from starting is known before, by readings. It reads no PxSIG, since
+/// to set ST again after an error needs no COMRESET.
+pub fn start<A: Adapter>(
+    adapter: &mut A,
+    receiving: Receiving,
+) -> Result<Running, (PortFault, Receiving)>
     requires may { MayBeStarted receiving.port (A.device adapter.old) }
     ensures followed { IsSimulated (ReadsPortOrWrites IsCommandRegister receiving.port)
         (λ uses. AllFree uses receiving.port.0)
         (A.device adapter.old) (A.device adapter.new) }
     ensures adapter_is_on { IsOn (A.device adapter.new) }
-    ensures token_is_of_port { result.port ≡ receiving.port }
+    ensures never_fails { IfErr result (λ _. ⊥) }
+    ensures token_is_of_port { IfOk result (λ token. token.port ≡ receiving.port) }
     ensures starts { Starts receiving.port (A.device adapter.old) (A.device adapter.new) }
     ensures cost { MakesAtMost START_ACCESSES (A.access_count adapter.old) (A.access_count adapter.new) }
 {
@@ -398,5 +433,5 @@ pub fn start<A: Adapter>(adapter: &mut A, receiving: Receiving) -> Running
     let port = receiving.port;
     let command = PortCommand(adapter.read(Reg::Px(port, PortReg::Cmd)));
     adapter.write(Reg::Px(port, PortReg::Cmd), command.with_start().0);
-    Running { port }
+    Ok(Running { port })
 }

@@ -12,7 +12,7 @@ use Rattle.adapter.specs.Rules.{HasPort}
 use Rattle.refinement.specs.Fragments.{SomeMachineAgreesWith, AnySlotStates, IsSimulated}
 use Rattle.adapter.specs.OneCommand.{SlotHasNoCommand}
 use Rattle.dma_frames.specs.FrameTables.{OwnersAndLoans}
-use Rattle.identify.specs.declared.error_log.FailedSlot.{FailedSlot}
+use Rattle.ata_types.specs.declared.Slot.{Slot}
 use Rattle.error_recovery.specs.Recovery.{PlainUsesSlot0, PlainIsSlot0, PortMayRecover, RecoversOrStops, BacksFailure}
 use Rattle.error_recovery.specs.declared.Recovered.{Recovered}
 use Rattle.host_boot.specs.TakeOver.{probe_result_of}
@@ -53,8 +53,8 @@ its_use None is = absurd (false≢true is)
 its_use (Some used) is = (used, refl)
 
 -- whoever is named had its bit among those that were outstanding
-named_among : (queued : Bool) (port : Port) (outstanding : ℕ) (accesses : List Access) (old new : Device) (its : FailedSlot) → BacksFailure queued port outstanding accesses old new (Some its)
-    → (its.slot.0 < 32) × (bit outstanding its.slot.0 ≡ true)
+named_among : (queued : Bool) (port : Port) (outstanding : ℕ) (accesses : List Access) (old new : Device) (its : Slot × ℕ × ℕ) → BacksFailure queued port outstanding accesses old new (Some its)
+    → (its.0.0 < 32) × (bit outstanding its.0.0 ≡ true)
 named_among false port outstanding accesses old new its rests =
     (subst (λ (n : ℕ). n < 32) (sym rests.slot_is) (omega arith), subst (λ (n : ℕ). bit outstanding n ≡ true) (sym rests.slot_is) rests.is_outstanding)
 named_among true port outstanding accesses old new its rests = (rests.slot_in_range, rests.is_outstanding)
@@ -158,10 +158,10 @@ module _ (x : Troubled) where
           abbrev handling : RecoversOrStops x.port w.outstanding w.queued result f.found new
           handling = its_end.0
 
-          pub named : (its : FailedSlot) → result.failed ≡ Some its → (used : SlotUse) × (use_at a.u its.slot.0 ≡ Some used)
+          pub named : (its : Slot × ℕ × ℕ) → result.failed ≡ Some its → (used : SlotUse) × (use_at a.u its.0.0 ≡ Some used)
           named its is =
               let among = named_among w.queued x.port w.outstanding handling.accesses f.found new its (subst (BacksFailure w.queued x.port w.outstanding handling.accesses f.found new) is handling.tells.failure_is_backed) in
-              its_use (use_at a.u its.slot.0) (sym (mask_of a.u w.outstanding w.left its.slot.0 among.0) ∙ among.1)
+              its_use (use_at a.u its.0.0) (sym (mask_of a.u w.outstanding w.left its.0.0 among.0) ∙ among.1)
 
           pub mends_rest : (failed : Option FailedRequest) → IsFailedRequest a.u result.failed failed → AnswersDoneAndHandlesError x.port x.port_error a.before a.after failed result.next x.s a.t a.b a.u new
           mends_rest failed names = record {

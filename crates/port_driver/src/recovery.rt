@@ -1,11 +1,10 @@
 // The error handler of a port: it is recovered, where a command had failed, else stopped; and booted anew where it has
 // to be.
 ghost use Rattle.std.specs.Prelude.{ℕ, ◌≡◌, ◌≤◌, ◌+◌, ◌++◌, IsTrue, ◌↔◌, Some, List, AllPairs, IsPermutation, drop, length, take};
-ghost use Rattle.ata_types.specs.{declared.request.Reply.{Reply}, declared.Port.{Port}};
+ghost use Rattle.ata_types.specs.{declared.request.Reply.{Reply}, declared.Port.{Port}, declared.Slot.{Slot}};
 ghost use Rattle.port_driver.specs.{Recovery.{AnswersDoneAndHandlesError, IsInError, error_of}, Costs.{booting_accesses, handling_accesses}};
 ghost use Rattle.server_history.specs.{ServerState.{ServerState, probed_mode}, ErrorHandling.{AreAllQueuedAs, RebootsAfterErrorOrFindsAbsent, IsFailedRequest, IsFoundAfterError, IsRevalidation, IsDiskOfSameSerialAndSize, TellsRecoveryIfTaskFileErrorElseNamesNone}};
 ghost use Rattle.adapter.specs.{Rules.{IsOn}, AccessBounds.{MakesAtMost}};
-ghost use Rattle.identify.specs.declared.error_log.FailedSlot.{FailedSlot};
 ghost use Rattle.error_recovery.specs.Recovery.{MayHandleError, PortMayRecover, RecoversOrStops};
 ghost use Rattle.host_boot.specs.declared.ProbeResult.TheVariants.{Ready};
 ghost use Rattle.port_boot.specs.States.{IsOnWithPortMemoryAndFreeSlots};
@@ -19,9 +18,9 @@ use super::modes::{PLAIN_MODE, probed_mode};
 use super::served_port::{ServedPort, Shared};
 use super::slot_table::SlotTable;
 use adapter::Adapter;
-use ata_types::{MOST_READINGS, MOST_UNANSWERED_OF_ALL_CLIENTS, Port, PortState, Replies};
+use ata_types::{MOST_READINGS, MOST_UNANSWERED_OF_ALL_CLIENTS, Port, PortState, Replies, Slot};
 use block_machine::QueueMode;
-use error_recovery::{FailedSlot, Next, Recovered, recover, stop_for_reset};
+use error_recovery::{Next, Recovered, recover, stop_for_reset};
 use host_boot::{Booted, ProbeResult, reboot_if_present, reboot_port};
 use identify::{DiskInfo, Wanted};
 use ncq::done;
@@ -141,22 +140,22 @@ pub(crate) fn is_any_queued(slots: &SlotTable) -> bool
 /// The request of the slot whose command is named, with the bytes that were told of it.
 pub(crate) fn failed_request_in(
     slots: &SlotTable,
-    named: &Option<FailedSlot>,
+    named: &Option<(Slot, u8, u8)>,
 ) -> Option<FailedRequest>
-    requires { (its : FailedSlot) → named.now ≡ Some its → (used : SlotUse)
-        × (use_at slots.now its.slot.0 ≡ Some used) }
+    requires { (its : Slot × ℕ × ℕ) → named.now ≡ Some its → (used : SlotUse)
+        × (use_at slots.now its.0.0 ≡ Some used) }
     ensures { IsFailedRequest slots.now named.now result }
 {
-    let Some(its) = named else {
+    let Some((slot, status, error)) = *named else {
         return None;
     };
-    let Some(used) = slots.used_for(its.slot) else {
+    let Some(used) = slots.used_for(slot) else {
         unreachable!()
     };
     Some(FailedRequest {
         id: used.id,
-        status: its.status,
-        error: its.error,
+        status,
+        error,
     })
 }
 

@@ -8,7 +8,7 @@ use Rattle.hba_regs.specs.Bits.{bit}
 use Rattle.adapter.specs.Access.{Access}
 use Rattle.adapter.specs.Device.{Device}
 use Rattle.block_machine.specs.declared.due.QueueMode.{QueueMode}
-use Rattle.identify.specs.declared.error_log.FailedSlot.{FailedSlot}
+use Rattle.ata_types.specs.declared.Slot.{Slot}
 use Rattle.error_recovery.specs.Recovery.{RecoversOrStops, TellsRecovery}
 use Rattle.error_recovery.specs.declared.Next.{Next}
 use Rattle.error_recovery.specs.declared.Next.TheVariants as next
@@ -121,11 +121,11 @@ IsRevalidation port_error was found Dead = found ≡ Unready DeadState
 -- ---- what becomes of its requests
 
 -- the request whose command failed is that of the slot that recovery names, with status and error
-abbrev pub IsFailedRequest : PortSlots → Option FailedSlot → Option disposition.FailedRequest → Type 0
+abbrev pub IsFailedRequest : PortSlots → Option (Slot × ℕ × ℕ) → Option disposition.FailedRequest → Type 0
 IsFailedRequest slots None failed = failed ≡ None
 IsFailedRequest slots (Some its) failed =
-    (used : SlotUse) × (use_at slots its.slot.0 ≡ Some used)
-    × (failed ≡ Some (record { id = used.id; status = its.status; error = its.error }))
+    (used : SlotUse) × (use_at slots its.0.0 ≡ Some used)
+    × (failed ≡ Some (record { id = used.id; status = its.1; error = its.2 }))
 
 -- the port's requests, in order of acceptance
 abbrev pub requests_of : Port → List BookEntry → List BookEntry

@@ -22,7 +22,7 @@ use Rattle.block_machine.specs.Steps.{Step, WaitAgain, Answer, Issue}
 use Rattle.driver_history.specs.EvidenceHandling.{OnlyPortsShowingErrorRequeueAbortRevokeFault}
 use Rattle.driver_history.specs.Evidence.{IsEvidencedOf}
 use Rattle.error_recovery.specs.Evidence.{BringsLastLogPage, HasFailed}
-use Rattle.identify.specs.ErrorLog.{NamesQueuedCommand}
+use Rattle.error_recovery.specs.ErrorLog.{NamesQueuedCommand}
 use Rattle.driver_history.specs.Histories.{FindsDone, IsIssuedOn, IssuesDue, LosesNoPortError, RunsWellAnew, PortCorresponds}
 use Rattle.driver_history.specs.PortInvariants.{HasNoUnanswered}
 use Rattle.driver_history.specs.AccessTrace.{StaysInDriverFrames, LastSctlWritesResetLink}

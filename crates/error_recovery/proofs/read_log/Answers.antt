@@ -15,7 +15,7 @@ returns-in_default-clause-some_machine_agrees g c = let a = c.requires.some_mach
 
 pub is_set-requires : goal.is_set-requires
 is_set-requires g c =
-    let told = (c.in-Some-parse_log.ensures.failure_is_named c.in-Some-parse_log.failed).0 refl in
+    let told = (c.in-Some-parse_log.ensures.failure_is_named c.in-Some-parse_log.tag c.in-Some-parse_log.status c.in-Some-parse_log.error).0 refl in
     let small = tag_is_small _ _ _ _ told in
     let same = c.from.ensures in
     omega (arith, small, same)
@@ -40,7 +40,7 @@ returns-in_default-parse_log-clause-asks g c =
 
 pub returns-then-is_set-clause-asks : goal.returns-then-is_set-clause-asks
 returns-then-is_set-clause-asks g c =
-    let told = (c.in-Some-parse_log.ensures.failure_is_named c.in-Some-parse_log.failed).0 refl in
+    let told = (c.in-Some-parse_log.ensures.failure_is_named c.in-Some-parse_log.tag c.in-Some-parse_log.status c.in-Some-parse_log.error).0 refl in
     record {
       reads = (_, c.in-Some.ensures.gets.reads, told, ap (λ (n : ℕ). bit c.args.outstanding n) (sym c.from.ensures) ∙ (sym c.is_set.ensures ∙ c.if-is_set.true));
       leaves = c.in-Some.ensures.gets.leaves_running;
@@ -50,7 +50,7 @@ returns-then-is_set-clause-asks g c =
 
 pub returns-else-is_set-clause-asks : goal.returns-else-is_set-clause-asks
 returns-else-is_set-clause-asks g c =
-    let told = (c.in-Some-parse_log.ensures.failure_is_named c.in-Some-parse_log.failed).0 refl in
+    let told = (c.in-Some-parse_log.ensures.failure_is_named c.in-Some-parse_log.tag c.in-Some-parse_log.status c.in-Some-parse_log.error).0 refl in
     record {
       reads = inr (
         _,

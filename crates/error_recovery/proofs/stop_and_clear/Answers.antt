@@ -11,7 +11,7 @@ stop-requires g c = record {
 }
 
 pub returns-in_default-clause-sticks : goal.returns-in_default-clause-sticks
-returns-in_default-clause-sticks g c = read_stuck c.law_prerequisites.ensures c.args.port _ _ _ c.requires.room c.requires.may c.requires.some_machine_agrees c.read.ensures.does _ c.stop.ensures.st_is_cleared c.in_default.ensures.fails.1
+returns-in_default-clause-sticks g c = read_stuck c.law_prerequisites.ensures c.args.port _ _ _ c.requires.room c.requires.may c.requires.some_machine_agrees c.read.ensures.does _ c.stop.ensures.st_is_cleared c.in_default.ensures.fails.2
 
 pub clear_error_state-shown-requires : goal.clear_error_state-shown-requires
 clear_error_state-shown-requires g c = record {

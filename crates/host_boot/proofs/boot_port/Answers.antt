@@ -1,51 +1,40 @@
-use Rattle.std.proofs.Common.{rules, inl, true, ◌≡◌, ◌≢◌, sym, subst}
-use Rattle.ata_types.specs.declared.Port.{Port}
+use Rattle.std.proofs.Common.{ℕ, List, Option, rules, inl, inr, true, ◌≡◌, ◌≢◌, refl, sym, subst}
+use Rattle.ata_types.specs.declared.PortState.{PortState}
 use Rattle.ata_types.specs.declared.PortState.TheVariants.{Dead}
 use Rattle.hba_regs.specs.Bits.{bit}
 use Rattle.identify.specs.declared.wanted.Wanted.TheVariants.{Nothing}
-use Rattle.port_boot.specs.States.{IsOnWithPortMemoryAndFreeSlots, IsBootAccess}
-use Rattle.host_boot.specs.Reboots.{EndsReadyOrUnready}
-use Rattle.host_boot.proofs.Booting.{found_boots, found_halts, found_reset, found_stands, found_way}
-use Rattle.host_boot.proofs.Stopping.{bootable, still_there, stuck_boots}
-use Rattle.host_boot.proofs.Stretching.{by_none}
-use Rattle.host_boot.proofs.Taking.{boots_same}
+use Rattle.port_boot.specs.Outcomes.{StopsAndEndsReady, StopsAndEndsUnready}
+use Rattle.host_boot.specs.TakeOver.{BootsAndFindsPort}
+use Rattle.host_boot.proofs.Booting.{finds_booted, finds_stuck}
 use Rattle.host_boot.specs.declared.ProbeResult.TheVariants.{Ready, Unready}
 use Rattle.host_boot.proofs.boot_port.Goals as goal
 
-pub returns-in_default-clause-finds : goal.returns-in_default-clause-finds
-returns-in_default-clause-finds g c =
+pub boot-requires : goal.boot-requires
+boot-requires g c =
     let there : bit (g.A.Adapter.device c.args.adapter.now).pi c.args.port.0 ≡ true = search (c.if-not-is_set.ensures, c.from.ensures, c.requires.may.implemented_is_pi_of_device, rules) in
-    let wants : c.args.wanted.now ≢ Nothing = search (c.eq.ensures, c.if-eq.false, rules) in
+    let may = c.requires.may in
     record {
-      result_is_backed = ((wants, (still_there c.args.port _ _ (boots_same c.law_prerequisites.ensures c.args.port _ _ (Unready Dead) (inl (stuck_boots c.law_prerequisites.ensures c.args.port _ _ c.in_default.ensures.fails.1.is_simulated))) (c.requires.may.port_in_range, there)).1), (c.stop.ensures.st_is_cleared.st_is_clear, c.in_default.ensures.fails.1.stuck_is_backed));
-      sctl_was_written_unless_unserved_or_dead = tt;
-      halt_fits_taken_commands = λ info is. let z : Unready Dead ≡ Ready info = is in absurd cc;
-      boots = inl (stuck_boots c.law_prerequisites.ensures c.args.port _ _ c.in_default.ensures.fails.1.is_simulated);
-      stops_and_boots = (
-        g.A.Adapter.device c.stop.new.adapter,
-        c.in_default.ensures.fails.1.is_simulated.is_simulated.is_driven,
-        by_none (IsBootAccess c.args.port) _,
-        λ none. absurd none,
-        λ none. absurd none,
-        λ dead. let b = stuck_boots c.law_prerequisites.ensures c.args.port _ _ c.in_default.ensures.fails.1.is_simulated in record { driven = b.is_simulated.is_driven; sticks = b.accesses_are_such },
-      );
+      bootable = record { adapter_is_on = may.adapter_is_on; has_port = (may.port_in_range, there); driver_memory_fits = may.driver_memory_fits; machine_is_related = may.machine_is_related };
     }
 
-pub boot_stopped-requires-clause-bootable : goal.boot_stopped-requires-clause-bootable
-boot_stopped-requires-clause-bootable g c =
-    let there : bit (g.A.Adapter.device c.args.adapter.now).pi c.args.port.0 ≡ true = search (c.if-not-is_set.ensures, c.from.ensures, c.requires.may.implemented_is_pi_of_device, rules) in
-    let P : Port → Type 0 = λ p. IsOnWithPortMemoryAndFreeSlots p (g.A.Adapter.device c.stop.new.adapter) in
-    subst P (sym c.in-Ok.ensures.token_is_of_port) (bootable c.law_prerequisites.ensures c.args.port _ _ c.in-Ok.ensures.stops.is_simulated (c.requires.may.port_in_range, there) c.requires.may.driver_memory_fits c.requires.may.machine_is_related c.stop.ensures.adapter_is_on)
-
-pub returns-clause-finds : goal.returns-clause-finds
-returns-clause-finds g c =
+pub returns-in-Ok-clause-finds : goal.returns-in-Ok-clause-finds
+returns-in-Ok-clause-finds g c =
     let there : bit (g.A.Adapter.device c.args.adapter.now).pi c.args.port.0 ≡ true = search (c.if-not-is_set.ensures, c.from.ensures, c.requires.may.implemented_is_pi_of_device, rules) in
     let wants : c.args.wanted.now ≢ Nothing = search (c.eq.ensures, c.if-eq.false, rules) in
-    let B : Port → Type 0 = λ p. EndsReadyOrUnready c.args.wanted.now p c.boot_stopped.result (g.A.Adapter.device c.stop.new.adapter) (g.A.Adapter.device c.boot_stopped.new.adapter) in
-    record {
-      result_is_backed = found_stands c.law_prerequisites.ensures c.args.port _ _ c.in-Ok.ensures.stops.is_simulated _ _ c.boot_stopped.result (subst B c.in-Ok.ensures.token_is_of_port c.boot_stopped.ensures.boots) wants (c.requires.may.port_in_range, there);
-      sctl_was_written_unless_unserved_or_dead = found_reset c.law_prerequisites.ensures c.args.port _ _ c.in-Ok.ensures.stops.is_simulated _ _ c.boot_stopped.result (subst B c.in-Ok.ensures.token_is_of_port c.boot_stopped.ensures.boots);
-      halt_fits_taken_commands = found_halts c.args.wanted.now c.args.port _ _ c.boot_stopped.result (subst B c.in-Ok.ensures.token_is_of_port c.boot_stopped.ensures.boots);
-      boots = found_boots c.law_prerequisites.ensures c.args.port _ _ c.in-Ok.ensures.stops.is_simulated _ _ c.boot_stopped.result (subst B c.in-Ok.ensures.token_is_of_port c.boot_stopped.ensures.boots);
-      stops_and_boots = found_way c.law_prerequisites.ensures c.args.port _ _ c.in-Ok.ensures.stops.is_simulated _ _ c.boot_stopped.result (subst B c.in-Ok.ensures.token_is_of_port c.boot_stopped.ensures.boots);
-    }
+    let R : Option (List ℕ) → Type 0 = λ s. StopsAndEndsReady s c.args.port c.in-Ok.info (g.A.Adapter.device c.args.adapter.now) (g.A.Adapter.device c.boot.new.adapter) in
+    let e = subst R c.serial.ensures c.in-Ok.ensures.ready in
+    finds_booted c.law_prerequisites.ensures c.args.port _ _ e.stops.is_simulated c.args.wanted.now _ (Ready c.in-Ok.info) e.ends_ready wants (c.requires.may.port_in_range, there)
+
+pub returns-in-Err-clause-finds : goal.returns-in-Err-clause-finds
+returns-in-Err-clause-finds g c =
+    let laws = c.law_prerequisites.ensures in
+    let there : bit (g.A.Adapter.device c.args.adapter.now).pi c.args.port.0 ≡ true = search (c.if-not-is_set.ensures, c.from.ensures, c.requires.may.implemented_is_pi_of_device, rules) in
+    let wants : c.args.wanted.now ≢ Nothing = search (c.eq.ensures, c.if-eq.false, rules) in
+    let old = g.A.Adapter.device c.args.adapter.now in
+    let new = g.A.Adapter.device c.boot.new.adapter in
+    let R : Option (List ℕ) → Type 0 = λ s. StopsAndEndsUnready s c.args.port c.in-Err.state old new in
+    let F : PortState → Type 0 = λ s. BootsAndFindsPort c.args.wanted.now c.args.port (Unready s) old new in
+    elim (subst R c.serial.ensures c.in-Err.ensures.unready) [
+      | inl (mid, stops, ends) ↦ finds_booted laws c.args.port old mid stops.is_simulated c.args.wanted.now new (Unready c.in-Err.state) ends wants (c.requires.may.port_in_range, there)
+      | inr (dead, clear, fails) ↦ subst F (sym dead) (finds_stuck laws c.args.port old new c.args.wanted.now wants (c.requires.may.port_in_range, there) clear fails)
+    ]

@@ -1,10 +1,12 @@
 use Rattle.std.proofs.Common.{ℕ, ◌≡◌, ◌+◌, refl, sym, ◌∙◌, ap, subst, arith}
+use Rattle.std.proofs.lemmas.List.{length-set}
 use Rattle.hba_regs.specs.Bits.{bit, field}
 use Rattle.ata_types.specs.declared.Port.{Port}
 use Rattle.adapter.specs.Device.{Device}
 use Rattle.refinement.specs.PreservedParts.{SameAdapter}
 use Rattle.host_boot.specs.TakeOver.{ReadsCapOrPiOrSetsAe}
 use Rattle.host_boot.proofs.Taking.{IsUnderway, begins, boots_same, ends, next}
+use Rattle.host_boot.proofs.Tokens.{HaveTokens, tokens_more}
 use Rattle.host_boot.proofs.Ways.{IsOnWay, way_more, way_over}
 use Rattle.host_boot.proofs.take_over.Goals as goal
 use Rattle.host_boot.proofs.Stretching.{same_over}
@@ -25,13 +27,15 @@ loop-number-init g c =
         surveys = c.survey-implemented.ensures.surveys;
         boots = refl;
       };
+      four_tokens = refl;
+      tokens = λ port less. absurd (omega (arith, less));
       there = c.survey-implemented.ensures.told.1;
       capable = c.survey-implemented.ensures.told.0;
       cost = omega arith;
     }
 
-pub boot_port-requires : goal.boot_port-requires
-boot_port-requires g c =
+pub boot_port-found-requires : goal.boot_port-found-requires
+boot_port-found-requires g c =
     let u = c.loop-number.invariant.underway in
     record {
       may = record {
@@ -47,13 +51,15 @@ boot_port-requires g c =
 pub loop-number-preserved : goal.loop-number-preserved
 loop-number-preserved g c =
     let port : Port = record { 0 = c.loop-number.number } in
-    let same : SameAdapter (g.A.Adapter.device c.loop-number.adapter) (g.A.Adapter.device c.boot_port.new.adapter) =
-    boots_same c.law_prerequisites.ensures port _ _ c.boot_port.result c.boot_port.ensures.finds.boots in
+    let same : SameAdapter (g.A.Adapter.device c.loop-number.adapter) (g.A.Adapter.device c.boot_port-found.new.adapter) =
+    boots_same c.law_prerequisites.ensures port _ _ c.boot_port-found.result.0 c.boot_port-found.ensures.finds.boots in
     record {
-      underway = next c.law_prerequisites.ensures c.args.wanted.now c.loop-number.ports port c.loop-number-test.true _ _ _ c.boot_port.result c.loop-number.invariant.underway
-          c.boot_port.ensures.adapter_is_on c.boot_port.ensures.finds.result_is_backed c.boot_port.ensures.finds.sctl_was_written_unless_unserved_or_dead c.boot_port.ensures.finds.halt_fits_taken_commands c.boot_port.ensures.finds.boots;
-      way = way_more c.loop-number.ports c.loop-number.number c.boot_port.result _ _ _ c.loop-number.invariant.underway.long c.loop-number-test.true c.loop-number.invariant.way
-          c.boot_port.ensures.finds.stops_and_boots;
+      underway = next c.law_prerequisites.ensures c.args.wanted.now c.loop-number.ports port c.loop-number-test.true _ _ _ c.boot_port-found.result.0 c.loop-number.invariant.underway
+          c.boot_port-found.ensures.adapter_is_on c.boot_port-found.ensures.finds.result_is_backed c.boot_port-found.ensures.finds.sctl_was_written_unless_unserved_or_dead c.boot_port-found.ensures.finds.halt_fits_taken_commands c.boot_port-found.ensures.finds.boots;
+      way = way_more c.loop-number.ports c.loop-number.number c.boot_port-found.result.0 _ _ _ c.loop-number.invariant.underway.long c.loop-number-test.true c.loop-number.invariant.way
+          c.boot_port-found.ensures.finds.stops_and_boots;
+      four_tokens = length-set c.loop-number.running c.loop-number.number c.boot_port-found.result.1 ∙ c.loop-number.invariant.four_tokens;
+      tokens = tokens_more c.loop-number.ports c.loop-number.running c.loop-number.number c.boot_port-found.result.0 c.boot_port-found.result.1 c.loop-number.invariant.underway.long c.loop-number.invariant.four_tokens c.loop-number-test.true c.boot_port-found.ensures.token c.loop-number.invariant.tokens;
       there = c.loop-number.invariant.there ∙ sym same.pi;
       capable = c.loop-number.invariant.capable ∙ sym same.cap;
       cost = omega arith;
@@ -79,5 +85,6 @@ returns g c =
           (way_over c.loop-number.ports (g.A.Adapter.device c.args.adapter.now) d new c.loop-number.invariant.underway.long
           (subst (λ (n : ℕ). IsOnWay c.loop-number.ports n (g.A.Adapter.device c.args.adapter.now) d) four c.loop-number.invariant.way) c.enable_interrupts.ensures.enables);
       has_four_ports = c.loop-number.invariant.underway.long;
+      tokens = subst (λ (n : ℕ). HaveTokens c.loop-number.ports c.loop-number.running n) four c.loop-number.invariant.tokens;
       cost = omega (arith, four);
     }

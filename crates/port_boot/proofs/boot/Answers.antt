@@ -1,36 +1,25 @@
-use Rattle.std.proofs.Common.{◌≡◌, ◌∙◌, subst}
-use Rattle.std.specs.Prelude.{IfOk, IfErr}
+use Rattle.std.proofs.Common.{inr, refl, subst, sym}
 use Rattle.ata_types.specs.declared.Port.{Port}
-use Rattle.port_boot.specs.Outcomes.{EndsUnready, FailsToIdentify, Identifies}
-use Rattle.port_boot.proofs.Outcomes.{whole_identified, whole_stopped, early_alone, early_is_not_late, handed_on}
+use Rattle.port_boot.specs.States.{IsOnWithPortMemoryAndFreeSlots}
+use Rattle.port_control.specs.Ports.{IsStopped}
+use Rattle.port_boot.proofs.Bringing.{stopped_bootable}
 use Rattle.port_boot.proofs.boot.Goals as goal
 
-pub returns-clause-ready : goal.returns-clause-ready
-returns-clause-ready g c =
-    let risen = c.in_ok-running.ensures in
-    let P : Port → Type 0 = λ p. IfOk c.identify_disk.result (λ info. Identifies c.args.wanted.now p info (g.A.Adapter.device c.bring_up.new.adapter) (g.A.Adapter.device c.identify_disk.new.adapter))
-    × (((g.A.Adapter.device c.identify_disk.new.adapter).port p.0).notes.sctl_written_at ≡ ((g.A.Adapter.device c.bring_up.new.adapter).port p.0).notes.sctl_written_at) in
-    let then = subst P (c.port.ensures ∙ risen.names) (c.identify_disk.ensures.identifies, c.identify_disk.ensures.written) in
-    whole_identified c.law_prerequisites.ensures c.args.stopped.port _ _ _ risen.rises c.args.wanted.now then.1 c.identify_disk.result then.0
+pub stop-requires : goal.stop-requires
+stop-requires g c =
+    let b = c.requires.bootable in
+    record { on_and_agrees = record { adapter_is_on = b.adapter_is_on; has_port = b.has_port; machine_is_related = (b.machine_is_related.0, tt, b.machine_is_related.2) } }
 
-pub returns-clause-unready : goal.returns-clause-unready
-returns-clause-unready g c =
-    let risen = c.in_ok-running.ensures in
-    let P : Port → Type 0 = λ p. IfErr c.identify_disk.result (λ state. FailsToIdentify c.args.wanted.now p state (g.A.Adapter.device c.bring_up.new.adapter) (g.A.Adapter.device c.identify_disk.new.adapter))
-    × (((g.A.Adapter.device c.identify_disk.new.adapter).port p.0).notes.sctl_written_at ≡ ((g.A.Adapter.device c.bring_up.new.adapter).port p.0).notes.sctl_written_at) in
-    let then = subst P (c.port.ensures ∙ risen.names) (c.identify_disk.ensures.fails, c.identify_disk.ensures.written) in
-    whole_stopped c.law_prerequisites.ensures c.args.stopped.port _ _ _ risen.rises c.args.wanted.now then.1 c.identify_disk.result then.0
+pub returns-in_default-clause-unready : goal.returns-in_default-clause-unready
+returns-in_default-clause-unready g c = inr (refl, c.stop.ensures.st_is_cleared.st_is_clear, c.in_default.ensures.fails.2)
 
-pub returns-in_err-running-clause-unready : goal.returns-in_err-running-clause-unready
-returns-in_err-running-clause-unready g c =
-    let e = c.in_err-running.ensures.fails in
-    let state = c.in_err-running.field-0.0 in
-    handed_on (λ state. EndsUnready c.args.wanted.now c.args.stopped.port state (g.A.Adapter.device c.args.adapter.now) (g.A.Adapter.device c.bring_up.new.adapter))
-    c.from_residual.result state c.from_residual.ensures.1
-    (record {
-      state_is_backed = e.state_is_backed c.args.wanted.now;
-      sctl_written_in_boot = e.sctl_written_in_boot;
-      boots = e.boots;
-      unstarted_state_ends_before_start = early_alone c.args.stopped.port state _ _ e.dead_or_before_start;
-      stopped_state_ends_after_start = early_is_not_late c.args.stopped.port state _ _ e.dead_or_before_start;
-    })
+pub boot_stopped-requires : goal.boot_stopped-requires
+boot_stopped-requires g c =
+    let at = c.in-Ok.ensures.token_is_of_port in
+    let stops = c.in-Ok.ensures.stops in
+    let B : Port → Type 0 = λ p. IsOnWithPortMemoryAndFreeSlots p (g.A.Adapter.device c.stop.new.adapter) in
+    let S : Port → Type 0 = λ p. IsStopped ((g.A.Adapter.device c.stop.new.adapter).port p.0) in
+    record {
+      bootable = subst B (sym at) (stopped_bootable c.law_prerequisites.ensures c.args.port _ _ c.requires.bootable stops.is_simulated.is_simulated);
+      stopped = subst S (sym at) stops.stopped;
+    }

@@ -46,4 +46,4 @@ returns-clause-fails g c =
     let all : c.loop-reading._reading ≡ MOST_READINGS = omega arith in
     let low = w.low in
     let high = w.high (omega (arith, all)) in
-    (refl, record { is_simulated = told_awaits c.law_prerequisites.ensures 0 15 c.args.port _ all _ _ w.told; stuck_is_backed = omega (arith, all, low, high) })
+    (refl, refl, record { is_simulated = told_awaits c.law_prerequisites.ensures 0 15 c.args.port _ all _ _ w.told; stuck_is_backed = omega (arith, all, low, high) })

@@ -28,7 +28,7 @@ use Rattle.block_machine.specs.DueRequests.{due_of}
 use Rattle.driver_history.specs.EvidenceHandling.{OnlyPortsShowingErrorRequeueAbortRevokeFault, ToldOkOr}
 use Rattle.driver_history.specs.Histories.{IssuesDue}
 use Rattle.driver_history.specs.PortInvariants.{HasNoUnanswered}
-use Rattle.identify.specs.declared.error_log.FailedSlot.{FailedSlot}
+use Rattle.ata_types.specs.declared.Slot.{Slot}
 use Rattle.error_recovery.specs.declared.Next.{Next}
 use Rattle.error_recovery.specs.declared.Next.TheVariants.{Running, Restart, Dead as Stuck}
 use Rattle.host_boot.specs.TakeOver.{probe_result_of}
@@ -102,12 +102,12 @@ stopped_named port (Restart token) lives = first_here port []
 stopped_named port Stuck lives = absurd (lives refl)
 
 -- of an error that recovery names the request had a slot
-failed_used : (slots : PortSlots) (its : Option FailedSlot) (failed : Option FailedRequest) (x : FailedRequest) → IsFailedRequest slots its failed → failed ≡ Some x → (slot : ℕ) × (used : SlotUse) × (use_at slots slot ≡ Some used) × (x.id ≡ used.id)
+failed_used : (slots : PortSlots) (its : Option (Slot × ℕ × ℕ)) (failed : Option FailedRequest) (x : FailedRequest) → IsFailedRequest slots its failed → failed ≡ Some x → (slot : ℕ) × (used : SlotUse) × (use_at slots slot ≡ Some used) × (x.id ≡ used.id)
 failed_used slots None failed x names is = let z : None ≡ Some x = sym names ∙ is in absurd cc
 failed_used slots (Some its) failed x (used, at, names) is =
-    let z : Some (record { id = used.id; status = its.status; error = its.error }) ≡ Some x = sym names ∙ is in
-    let same : record { id = used.id; status = its.status; error = its.error } ≡ x = cc in
-    (its.slot.0, used, at, ap (λ (f : FailedRequest). f.id) (sym same))
+    let z : Some (record { id = used.id; status = its.1; error = its.2 }) ≡ Some x = sym names ∙ is in
+    let same : record { id = used.id; status = its.1; error = its.2 } ≡ x = cc in
+    (its.0.0, used, at, ap (λ (f : FailedRequest). f.id) (sym same))
 
 module _ (laws : PrerequisiteLaws) (port : Port) (replies : List Reply) (old new : ServerState) (k : InCallInvariant old) (ready : state_of (probe_result_of old.probe_results port.0) ≡ ReadyState) (r : HandlesPortError port replies old new)
     (looks : IsSimulated (IsPxisSstsOrOwnIsAccess port) AnySlotStates old.device r.has_resolved.error_handled.device_after_look) (k_mid : InCallInvariant r.server_after_resolving) where
@@ -203,7 +203,7 @@ module _ (laws : PrerequisiteLaws) (port : Port) (replies : List Reply) (old new
   pub nobody : a.error_handled.port_error ≢ TaskFileError → a.failed ≡ None
   nobody other =
       let none = (given_up a.error_handled.port_error port a.error_handled.outstanding a.error_handled.queued a.error_handled.result a.error_handled.recovers_or_stops.accesses a.server_after_handling.device a.device_after_handling a.error_handled.tells_error_handling other).0 in
-      subst (λ (f : Option FailedSlot). IsFailedRequest (slots_at a.server_after_handling.slots port.0) f a.failed) none a.failed_request_is
+      subst (λ (f : Option (Slot × ℕ × ℕ)). IsFailedRequest (slots_at a.server_after_handling.slots port.0) f a.failed) none a.failed_request_is
 
   -- where its disk was lost, no request goes on as on the same disk
   not_same : a.error_handled.port_error ≡ LinkChanged → a.revalidation ≢ Same

@@ -24,7 +24,7 @@ use Rattle.block_machine.specs.State.{Machine, Pending}
 use Rattle.block_machine.specs.Steps.{Answer, IsEnabled, Step}
 use Rattle.server_history.proofs.state.ListMembers.{contains_cases, contains_here, map_in, in_filter}
 use Rattle.driver_history.specs.Histories.{IsAnsweredFaulty, IsIssuedOn}
-use Rattle.identify.specs.declared.error_log.FailedSlot.{FailedSlot}
+use Rattle.ata_types.specs.declared.Slot.{Slot}
 use Rattle.error_recovery.specs.Recovery.{PortMayRecover, BacksFailure, TellsRecovery}
 use Rattle.error_recovery.specs.declared.Next.{Next}
 use Rattle.error_recovery.specs.declared.Next.TheVariants as next
@@ -184,10 +184,10 @@ module _ (laws : PrerequisiteLaws) (port : Port) (replies : List Reply) (old new
     in_its = in_filter (λ (y : BookEntry). is_of_port port y.request) a.server_after_handling.book request.request request.there (eq-eqb request.request.request.port.0 port.0 request.port_is)
 
     module _ (e : Pending) (here : Contains m.book e) (id_is : used.id ≡ e.request.id) where
-      told : (its_failure : FailedSlot) → x.result.failed ≡ Some its_failure → IsAnsweredFaulty e d.steps
-      told its_failure named = by (subst (λ (f : Option FailedSlot). IsFailedRequest (slots_at a.server_after_handling.slots port.0) f a.failed) named a.failed_request_is)
+      told : (its_failure : Slot × ℕ × ℕ) → x.result.failed ≡ Some its_failure → IsAnsweredFaulty e d.steps
+      told its_failure named = by (subst (λ (f : Option (Slot × ℕ × ℕ)). IsFailedRequest (slots_at a.server_after_handling.slots port.0) f a.failed) named a.failed_request_is)
         where
-          zero_named : its_failure.slot.0 ≡ 0
+          zero_named : its_failure.0.0 ≡ 0
           zero_named = (subst (λ (queued : Bool). BacksFailure queued port x.outstanding x.recovers_or_stops.accesses a.server_after_handling.device a.device_after_handling (Some its_failure)) mid_queued
               (subst (BacksFailure x.queued port x.outstanding x.recovers_or_stops.accesses a.server_after_handling.device a.device_after_handling) named x.recovers_or_stops.tells.failure_is_backed)).slot_is
 
@@ -195,8 +195,8 @@ module _ (laws : PrerequisiteLaws) (port : Port) (replies : List Reply) (old new
           by (other, at, names) =
               let z : Some other ≡ Some used = sym at ∙ ap (used_for a.server_after_handling.slots port.0) (zero_named ∙ sym is_zero) ∙ still in
               let same : other ≡ used = cc in
-              let failed : FailedRequest = record { id = other.id; status = its_failure.status; error = its_failure.error } in
-              let o : Outcome = outcome.DeviceError its_failure.status its_failure.error in
+              let failed : FailedRequest = record { id = other.id; status = its_failure.1; error = its_failure.2 } in
+              let o : Outcome = outcome.DeviceError its_failure.1 its_failure.2 in
               let disposition = failed_fate failed a.failed a.revalidation request.request.request names (ap (λ (u : SlotUse). u.id) same ∙ sym request.id_is) in
               let reply = fate_told (disposition_of a.failed a.revalidation) (requests_of port a.server_after_handling.book) r.later_replies (book_and_loans_of port a.server_after_handling) a.book_and_loans_after a.are_resolved request.request o in_its disposition in
               let w = map_in reply_of d.dispositions.tells.answers (reply_to request.request o) (subst (λ (list : List Reply). Contains list (reply_to request.request o)) d.dispositions.tells.replies_are_of_answers reply) in
@@ -205,12 +205,12 @@ module _ (laws : PrerequisiteLaws) (port : Port) (replies : List Reply) (old new
               let in_steps : Contains d.steps (Answer w.0.0 o) = subst (λ (y : Outcome). Contains d.steps (Answer w.0.0 y)) o_is (subst (λ (steps : List Step). Contains steps (Answer w.0.0 w.0.1)) (sym d.steps_are)
               (Contains-append_right d.issuing.steps (until_issues d.dispositions) (Answer w.0.0 w.0.1) (Contains-append_left d.dispositions.dispositions _ (Answer w.0.0 w.0.1) there))) in
               let its_id : w.0.0.request.id ≡ e.request.id = ap (λ (y : Reply). y.id) (sym w.2) ∙ request.id_is ∙ id_is in
-              (w.0.0, its_failure.status, its_failure.error, answered e here w.0.0 o in_steps its_id, in_steps)
+              (w.0.0, its_failure.1, its_failure.2, answered e here w.0.0 o in_steps its_id, in_steps)
 
       faulty : IsAnsweredFaulty e d.steps ⊎ ((ports_of new).state port ≡ DeadState)
       faulty = by x.result.next refl
         where
-          by_failed : x.result.next ≢ next.Dead → (f : Option FailedSlot) → x.result.failed ≡ f → IsAnsweredFaulty e d.steps
+          by_failed : x.result.next ≢ next.Dead → (f : Option (Slot × ℕ × ℕ)) → x.result.failed ≡ f → IsAnsweredFaulty e d.steps
           by_failed lives None none = absurd (healed.plain_is_named_unless_dead mid_queued outstanding lives none)
           by_failed lives (Some its_failure) named = told its_failure named
 

@@ -29,7 +29,7 @@ use Rattle.error_recovery.specs.Evidence.{HasFailed}
 use Rattle.error_recovery.specs.Recovery.{EndsAsNext, BacksFailure, TellsEngineOutcome}
 use Rattle.error_recovery.specs.declared.Next.{Next}
 use Rattle.error_recovery.specs.declared.Next.TheVariants as next
-use Rattle.identify.specs.declared.error_log.FailedSlot.{FailedSlot}
+use Rattle.ata_types.specs.declared.Slot.{Slot}
 use Rattle.host_boot.specs.TakeOver.{probe_result_of, wanted_of}
 use Rattle.host_boot.specs.declared.ProbeResult.TheVariants.{Ready, Unready}
 use Rattle.port_control.specs.Engines.{EngineSticks, Stops}
@@ -193,7 +193,7 @@ module _ (laws : PrerequisiteLaws) (port : Port) (replies : List Reply) (old new
   -- ---- faults
 
   -- Where a queued command is named, the port runs, with the disk that it had.
-  module _ (its_failure : FailedSlot) (named : x.result.failed ≡ Some its_failure) where
+  module _ (its_failure : Slot × ℕ × ℕ) (named : x.result.failed ≡ Some its_failure) where
     runs_then : x.queued ≡ true → (a.found ≡ Ready a.disk_before) × (r.server_after_resolving.device ≡ a.device_after_handling)
     runs_then queued = by x.result.next refl
       where
@@ -221,22 +221,22 @@ module _ (laws : PrerequisiteLaws) (port : Port) (replies : List Reply) (old new
         (All-weaker (IsEarlyPart port) (DoesNotWrite (Px port Cmd)) (λ access is. is.1) t.early.accesses t.early.accesses_are_of_kind) t.early.all_are_done t.late.all_are_done
 
     told_so : (queued : Bool) → x.queued ≡ queued → BacksFailure queued port x.outstanding part a.server_after_handling.device a.device_after_handling (Some its_failure) → (id : RequestId)
-        → IsFaultOfCommand queued port (accesses_in t) old.device new.device its_failure.slot.0 (record { id = id; status = its_failure.status; error = its_failure.error })
+        → IsFaultOfCommand queued port (accesses_in t) old.device new.device its_failure.0.0 (record { id = id; status = its_failure.1; error = its_failure.2 })
     told_so false is rests id = (rests.fault, stays_failed rests.fault rests.has_failed, rests.fault_slot_is ∙ sym rests.slot_is, rests.status_is, rests.error_is)
     told_so true is rests id = (
       (rests.fault, stays_failed rests.fault rests.has_failed),
       (rests.last_log_page, laws.log_page_is_of_whole port old.device a.server_after_handling.device a.device_after_handling new.device rests.last_log_page (grows_over laws t.early.accesses old.device a.server_after_handling.device t.early.all_are_done) (quiet_then is) rests.brings, rests.tells),
     )
 
-    tells_named : (used : SlotUse) → use_at (slots_at a.server_after_handling.slots port.0) its_failure.slot.0 ≡ Some used → IsFaultOfUsedSlot port (accesses_in t) old new (record { id = used.id; status = its_failure.status; error = its_failure.error })
+    tells_named : (used : SlotUse) → use_at (slots_at a.server_after_handling.slots port.0) its_failure.0.0 ≡ Some used → IsFaultOfUsedSlot port (accesses_in t) old new (record { id = used.id; status = its_failure.1; error = its_failure.2 })
     tells_named used there =
-        let alike : used.queued ≡ x.queued = x.are_queued_alike its_failure.slot.0 used there in
+        let alike : used.queued ≡ x.queued = x.are_queued_alike its_failure.0.0 used there in
         record {
-          slot = its_failure.slot.0;
+          slot = its_failure.0.0;
           used = used;
-          slot_use_is = slots_were laws port low x.done x.requests (record old { device = x.device_after_read }) a.server_after_handling (found_kept laws port replies old new k ready r looks kept) ready (done_over laws port replies old new k ready r looks kept) x.answers_each its_failure.slot.0 used there;
+          slot_use_is = slots_were laws port low x.done x.requests (record old { device = x.device_after_read }) a.server_after_handling (found_kept laws port replies old new k ready r looks kept) ready (done_over laws port replies old new k ready r looks kept) x.answers_each its_failure.0.0 used there;
           id_is = refl;
-          is_fault_of_command = subst (λ (queued : Bool). IsFaultOfCommand queued port (accesses_in t) old.device new.device its_failure.slot.0 (record { id = used.id; status = its_failure.status; error = its_failure.error })) (sym alike)
+          is_fault_of_command = subst (λ (queued : Bool). IsFaultOfCommand queued port (accesses_in t) old.device new.device its_failure.0.0 (record { id = used.id; status = its_failure.1; error = its_failure.2 })) (sym alike)
               (told_so x.queued refl (subst (BacksFailure x.queued port x.outstanding part a.server_after_handling.device a.device_after_handling) named x.recovers_or_stops.tells.failure_is_backed) used.id);
           port_is_not_dead_if_queued = λ queued. lives_then (sym alike ∙ queued);
         }
@@ -244,11 +244,11 @@ module _ (laws : PrerequisiteLaws) (port : Port) (replies : List Reply) (old new
   faults : (told : RequestFault) → Contains (faults_of a.failed) told → IsFaultOfUsedSlot port (accesses_in t) old new told
   faults told here = by a.failed refl here
     where
-      by_failure : (failed : failed_request.FailedRequest) → a.failed ≡ Some failed → (o : Option FailedSlot) → x.result.failed ≡ o → IsFailedRequest (slots_at a.server_after_handling.slots port.0) o a.failed
+      by_failure : (failed : failed_request.FailedRequest) → a.failed ≡ Some failed → (o : Option (Slot × ℕ × ℕ)) → x.result.failed ≡ o → IsFailedRequest (slots_at a.server_after_handling.slots port.0) o a.failed
           → IsFaultOfUsedSlot port (accesses_in t) old new (record { id = failed.id; status = failed.status; error = failed.error })
       by_failure failed is None none names = let z : Some failed ≡ None = sym is ∙ names in absurd cc
       by_failure failed is (Some its_failure) named names =
-          let same : failed ≡ record { id = names.0.id; status = its_failure.status; error = its_failure.error } = (let z : Some failed ≡ Some (record { id = names.0.id; status = its_failure.status; error = its_failure.error }) = sym is ∙ names.2 in cc) in
+          let same : failed ≡ record { id = names.0.id; status = its_failure.1; error = its_failure.2 } = (let z : Some failed ≡ Some (record { id = names.0.id; status = its_failure.1; error = its_failure.2 }) = sym is ∙ names.2 in cc) in
           subst (λ (f : failed_request.FailedRequest). IsFaultOfUsedSlot port (accesses_in t) old new (record { id = f.id; status = f.status; error = f.error })) (sym same) (tells_named its_failure named names.0 names.1)
 
       by : (f : Option failed_request.FailedRequest) → a.failed ≡ f → Contains (faults_of a.failed) told → IsFaultOfUsedSlot port (accesses_in t) old new told

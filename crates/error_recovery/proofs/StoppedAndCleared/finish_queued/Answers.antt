@@ -86,7 +86,7 @@ returns-in-Err-clause-finishes g c = record {
       let new = g.A.Adapter.device c.stop.new.adapter in
       let P : Port → Type 0 = λ p. LeavesPortWhileAsking p.0 start log × GainsNoMove p.0 Identify start log × ReadsLog p c.args.outstanding None start log × FailsToStopPort p log new × ClearsStAlone (log.port p.0) (new.port p.0) in
       let e = c.in_default.ensures in
-      let x = subst P same (e.asks.leaves, e.asks.no_identify_moves, e.asks.reads, c.in-Err.ensures.fails.1, c.stop.ensures.st_is_cleared) in
+      let x = subst P same (e.asks.leaves, e.asks.no_identify_moves, e.asks.reads, c.in-Err.ensures.fails.2, c.stop.ensures.st_is_cleared) in
       let R : recovered.Recovered → Type 0 = λ result. Recovers port c.args.outstanding true result old new in
       subst R (sym c.unnamed-in-Err.ensures)
       (gets_stuck c.law_prerequisites.ensures port c.args.outstanding true _ _ old _ r _ c.start_again-running.ensures.goes _ refl x.0 x.1 _ x.4 x.3 x.2);
