@@ -76,8 +76,8 @@ pub enum DeviceStep {
     Fetch(Port, Slot),
     /// Move the next 512 bytes of the slot's command.
     Move(Port, Slot),
-    /// Clear this many of the next sectors of the slot's trim, whose block was moved. An adapter may clear fewer of
-    /// them, but at least one.
+    /// Clear this many of the next sectors of the slot's trim, whose block was moved. At least one has to be left, even
+    /// if 0 are asked for. An adapter may clear fewer of them, but at least one unless 0 are asked for.
     Clear(Port, Slot, u32),
     /// End the slot's command, which has nothing left to move or to clear.
     Done(Port, Slot),
