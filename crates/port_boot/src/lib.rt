@@ -175,10 +175,10 @@ pub fn boot_stopped<A: Adapter>(
 }
 
 /// Boots a port, no slot of which is used. It stops the port, has it receive FISes, sends COMRESET, looks for an ATA
-/// disk that is idle, and asks the disk for its page by IDENTIFY DEVICE. If the page is of a disk with the serial number
-/// that is named (20 characters, filled with spaces; `None` allows any), it enables the causes of interrupts, and leaves
-/// the port running. It returns the port's token and what the disk says of itself. Only a command that is taken can halt
-/// the port then.
+/// disk that is idle, and asks the disk for its page by IDENTIFY DEVICE. If the page is of a disk with the serial
+/// number that is named (20 characters, filled with spaces; `None` allows any), it enables the causes of interrupts,
+/// and leaves the port running. It returns the port's token and what the disk says of itself. Only a command that is
+/// taken can halt the port then.
 ///
 /// The error is the state of a port that isn't ready: `Absent`, `Unfit(1)` to `Unfit(9)` or `Foreign`, and the port is
 /// stopped; or `Dead`, if an engine is stuck.
