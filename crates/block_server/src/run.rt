@@ -177,8 +177,6 @@ impl<A: Stepped> Server<A> {
         ensures done { OnOk result (RunsAsPromised A.device self.old self.new events.now out.old.items
             out.new.items) }
         ensures stopped { IfErr result (λ e. e.at < length events.now) }
-        ensures stops_only_without_room { IfErr result (λ e. (event : Call DeviceStep) (rest : List (Call DeviceStep))
-            → drop e.at events.now ≡ event ∷ rest → vec_capacity out.new < vec_len out.new + most_said_of event) }
         ensures never_stops_with_room { vec_len out.old + most_said_of_all events.now ≤ vec_capacity out.old
             → IsOk result }
         ensures events_before_stop_are_run { IfErr result
