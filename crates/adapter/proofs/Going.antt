@@ -40,7 +40,7 @@ clear_steps port slot most old new c = Steps-one (Clear port slot c.fetched_comm
 one_steps : (port slot : ℕ) (old new : Device) → DoesSlotStep PostsAnyBytesOrNone port slot old new → Steps old new
 one_steps port slot old new (inl f) = Steps-one (Fetch port slot f.meaning f.places) old new f.can f.effect
 one_steps port slot old new (inr (inl m)) = Steps-one (Move port slot m.fetched_command m.bytes) old new m.can m.effect
-one_steps port slot old new (inr (inr (inr c))) = clear_steps port slot c.0 old new c.1
+one_steps port slot old new (inr (inr (inr c))) = clear_steps port slot c.0 old new c.2
 one_steps port slot old new (inr (inr (inl e))) =
     Steps-trans (Steps-one (Done port slot e.done.cause_bit e.done.fetched_command) old e.after_end e.done.can e.done.effect)
     (post_steps port e.done.cause_bit e.done.fetched_command.meaning.operation e.after_end new e.posts)

@@ -27,12 +27,13 @@ pub record DoesMove (port slot : ℕ) (old new : Device) : Type 0 where
   pub can : Can (Move port slot fetched_command bytes) old
   pub effect : new ≡ device_after (Move port slot fetched_command bytes) old
 
--- so many sectors at the most of the slot's trim were cleared, and one at least: the next ones of its block
+-- so many sectors at the most of the slot's trim were cleared, and one at least unless none was asked for: the next
+-- ones of its block
 pub record DoesClear (port slot most : ℕ) (old new : Device) : Type 0 where
   pub fetched_command : FetchedCommand
   pub first : ℕ
   pub count : ℕ
-  pub count_is_positive : 1 ≤ count
+  pub count_is_positive_if_asked : (1 ≤ count) ⊎ (most ≡ 0)
   pub count_is_allowed : count ≤ most
   pub can : Can (Clear port slot fetched_command first count) old
   pub effect : new ≡ device_after (Clear port slot fetched_command first count) old
@@ -75,7 +76,7 @@ abbrev pub DoesSlotStep : ((port cause_bit : ℕ) → Operation → Device → D
     → Type 0
 DoesSlotStep Posts port slot old new =
     DoesFetch port slot old new ⊎ DoesMove port slot old new ⊎ EndsAndPosts Posts port slot old new
-    ⊎ ((most : ℕ) × DoesClear port slot most old new)
+    ⊎ ((most : ℕ) × (1 ≤ most) × DoesClear port slot most old new)
 
 -- so many steps of the slot's command, one after another, and nothing else
 abbrev pub DoesExactlySlotSteps : ((port cause_bit : ℕ) → Operation → Device → Device → Type 0) → ℕ → ℕ → ℕ → Device

@@ -73,8 +73,8 @@ pub enum DeviceStep {
     Fetch(Port, Slot),
     /// Move the next 512 bytes of the slot's command.
     Move(Port, Slot),
-    /// Clear so many of the next sectors of the slot's trim, whose block was moved. An adapter may clear fewer of them,
-    /// and one at least.
+    /// Clear so many of the next sectors of the slot's trim, whose block was moved; 0, too, while one is left. An
+    /// adapter may clear fewer of them, and one at least unless 0 are asked for.
     Clear(Port, Slot, u32),
     /// End the slot's command, of which nothing is left to move or to clear.
     Done(Port, Slot),

@@ -1,9 +1,7 @@
 // What a server is asked, and what it answers: as values, for lists of calls and for the lines of a script.
-use crate::{
-    ClientId, Frame, MOST_CALL_BYTES, MemFault, Port, PortState, Refusal, Replies, Request,
-    RequestId,
-};
+use crate::{ClientId, Frame, MOST_CALL_BYTES, Port, Request};
 use arrayvec::ArrayVec;
+use thiserror::Error;
 
 /// A call of the server. `S` are the steps that its device can be told to do.
 #[derive(Debug, Drop)]
@@ -46,26 +44,11 @@ pub enum Call<S> {
 }
 
 /// The adapter didn't end its reset.
-#[derive(Clone, Copy, PartialEq, Eq, Debug)]
+#[derive(Clone, Copy, PartialEq, Eq, Debug, Error)]
+#[error("the adapter didn't end its reset")]
 pub struct AdapterStuck;
 
 /// The client has no grant of this number.
-#[derive(Clone, Copy, Debug, PartialEq, Eq)]
-pub struct NoSuchGrant;
-
-/// What a call of the server answered. `R` is what stands for its replies: the replies, or `()` where they stand in a
-/// list aside.
-#[derive(Debug, Drop)]
-pub enum CallResult<R = Replies> {
-    Submitted(Result<RequestId, Refusal>),
-    Stored(Result<(), MemFault>),
-    Loaded(Result<ArrayVec<u8, MOST_CALL_BYTES>, MemFault>),
-    /// What a service or a tick answered.
-    Replied(R),
-    /// What a reset answered, if it ended.
-    WasReset(Result<R, AdapterStuck>),
-    /// What a revocation answered, if the grant was there.
-    WasRevoked(Result<R, NoSuchGrant>),
-    State(PortState),
-    Stepped(bool),
-}
+#[derive(Clone, Copy, Debug, PartialEq, Eq, Error)]
+#[error("the client has no grant of this number")]
+pub struct NoRow;

@@ -12,11 +12,12 @@ mod command_codes;
 mod grant;
 mod limits;
 mod memory;
+mod no_memory;
 mod range;
 mod refusal;
 mod request;
 
-pub use call::{AdapterStuck, Call, CallResult, NoSuchGrant};
+pub use call::{AdapterStuck, Call, NoRow};
 pub use command_codes::{
     DATA_SET_MANAGEMENT, FLUSH_CACHE_EXT, IDENTIFY_DEVICE, READ_DMA_EXT, READ_FPDMA_QUEUED,
     READ_LOG_EXT, WRITE_DMA_EXT, WRITE_FPDMA_QUEUED,
@@ -32,6 +33,7 @@ pub use memory::{
     RECEIVED_FIS_BYTES, RECEIVED_FIS_OFFSET, SCRATCH_FRAME, SCRATCH_OFFSET, TABLE_ALIGNMENT,
     TABLE_BYTES, TABLE_HEAD_BYTES, TABLES_OFFSET,
 };
+pub use no_memory::NoMemory;
 pub use range::{Range, Sector};
 pub use refusal::{FrameFault, MemFault, Refusal, Rule};
 pub use request::{ClientId, Frame, Op, Outcome, Replies, Reply, Request, RequestId};

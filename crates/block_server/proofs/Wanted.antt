@@ -23,7 +23,7 @@ use Rattle.block_server.specs.Calls.{ServicesEachPortOrResolvesIfStuck, Services
 use Rattle.block_server.specs.Resetting.{ResetsOrGetsStuck}
 use Rattle.block_server.specs.Revoking.{Revokes, RevokesAndIssuesDueOfItsPort}
 use Rattle.block_server.specs.ServerView.{ServerView, server_of}
-use Rattle.ata_types.specs.declared.call.NoSuchGrant.{NoSuchGrant}
+use Rattle.ata_types.specs.declared.call.NoRow.{NoRow}
 
 -- both want the same disks
 abbrev SameWanted : ServerState → ServerState → Type 0
@@ -95,7 +95,7 @@ module _ {A : Type 0} (device : A → Device) (old new : ServerView A) where
       ∙ ap (λ (s : ServerState). s.wanted) resets.0.is_reinitialized.server_is
   reset_wants replies (Err why) stuck = ap (λ (s : ServerState). s.wanted) stuck.1.server_is
 
-  pub revoke_wants : (client : ClientId) (number : ℕ) (replies : List Reply) (result : Result (Unit {0}) NoSuchGrant) → Revokes device old new client number replies result → new.wanted ≡ old.wanted
+  pub revoke_wants : (client : ClientId) (number : ℕ) (replies : List Reply) (result : Result (Unit {0}) NoRow) → Revokes device old new client number replies result → new.wanted ≡ old.wanted
   revoke_wants client number replies (Ok done) revokes = by old.stuck refl
     where
       r : RevokesAndIssuesDueOfItsPort device client number replies old new

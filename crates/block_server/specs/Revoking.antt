@@ -12,10 +12,10 @@ use Rattle.server_history.specs.Revoking.{RevokesGrant}
 use Rattle.server_history.specs.IssuingAndAnswering.{IssuesDueOfPort}
 use Rattle.server_history.specs.ServerState.{ServerState, mode_in}
 use Rattle.block_server.specs.ServerView.{ServerView, server_of}
-use Rattle.ata_types.specs.declared.call.NoSuchGrant.{NoSuchGrant}
+use Rattle.ata_types.specs.declared.call.NoRow.{NoRow}
 
 -- what a revocation says, by its replies
-abbrev pub revoke_result : Result (Unit {0}) NoSuchGrant → List Reply → AbstractCallResult
+abbrev pub revoke_result : Result (Unit {0}) NoRow → List Reply → AbstractCallResult
 revoke_result (Ok done) replies = WasRevoked (Some replies)
 revoke_result (Err none) replies = WasRevoked None
 
@@ -37,7 +37,7 @@ pub record RevokesAndIssuesDueOfItsPort {A : Type 0} (device : A → Device) (cl
 -- What a revocation says, and did: the client's grant was revoked, with these replies; or the client has none of this
 -- number, there is no reply, and nothing changed: neither server nor adapter.
 abbrev pub Revokes : {A : Type 0} → (A → Device) → ServerView A → ServerView A → ClientId → ℕ → List Reply
-    → Result (Unit {0}) NoSuchGrant → Type 0
+    → Result (Unit {0}) NoRow → Type 0
 Revokes device old new client number replies (Ok done) =
     RevokesAndIssuesDueOfItsPort device client number replies old new
     × (new.stuck ≡ old.stuck)

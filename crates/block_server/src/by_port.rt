@@ -7,14 +7,14 @@ ghost use Rattle.refinement.specs.Relation.{port_at};
 ghost use Rattle.request_queue.specs.BookEntries.{HasAnyOverdue, HasOverdueOn, is_among};
 ghost use Rattle.server_history.specs.{ErrorHandling.{HasAllSlotsFreeAndCountOfMode}, ServerState.{quarantined_at, plain_mode}, Turns.{is_ready}};
 
-use ata_types::{PORTS, Port};
+use ata_types::{NoMemory, PORTS, Port};
 use identify::Wanted;
 use port_driver::{Quarantine, ServedPort};
 use request_queue::Book;
-use std::alloc::{AllocError, Global};
+use std::alloc::Global;
 
 /// No loans of two ports.
-fn none_of_two(alloc: Global) -> Result<(Quarantine, Quarantine), AllocError>
+fn none_of_two(alloc: Global) -> Result<(Quarantine, Quarantine), NoMemory>
     ensures { IfOk result (λ two. (two.0 ≡ []) × (two.1 ≡ [])) }
 {
     let first = Quarantine::new(alloc)?;
@@ -28,7 +28,7 @@ fn none_of_two(alloc: Global) -> Result<(Quarantine, Quarantine), AllocError>
 }
 
 /// No loans of any port. The only error is want of memory.
-pub(crate) fn empty_quarantines(alloc: Global) -> Result<[Quarantine; PORTS], AllocError>
+pub(crate) fn empty_quarantines(alloc: Global) -> Result<[Quarantine; PORTS], NoMemory>
     ensures { IfOk result (λ kept. kept ≡ [] ∷ [] ∷ [] ∷ [] ∷ []) }
 {
     let (first, second) = none_of_two(alloc)?;

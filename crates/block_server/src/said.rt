@@ -6,7 +6,7 @@ ghost use Rattle.block_server.specs.declared.said.Said.TheVariants.{Reply as One
 use adapter::DeviceStep;
 use arrayvec::ArrayVec;
 use ata_types::{
-    AdapterStuck, Call, MOST_CALL_BYTES, MOST_UNANSWERED_OF_ALL_CLIENTS, MemFault, NoSuchGrant,
+    AdapterStuck, Call, MOST_CALL_BYTES, MOST_UNANSWERED_OF_ALL_CLIENTS, MemFault, NoRow,
     PortState, Refusal, Reply, RequestId,
 };
 
@@ -32,7 +32,7 @@ pub enum Said {
     /// A reset ended and answered so many requests, whose replies follow; or the adapter got stuck.
     WasReset(Result<usize, AdapterStuck>),
     /// A revocation answered so many requests, whose replies follow; or the client has no such grant.
-    WasRevoked(Result<usize, NoSuchGrant>),
+    WasRevoked(Result<usize, NoRow>),
     /// What `state` returned.
     State(PortState),
     /// Whether the device did the step.

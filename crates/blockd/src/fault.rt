@@ -1,9 +1,9 @@
 // Why the program ends without having played a script, and how it says so.
 ghost use Rattle.std.specs.Prelude.{◌≡◌, Some};
-ghost use Rattle.blockd.specs.{Faults.{fault_text, program_result_of, status_of}, declared.fault.BlockdError.TheVariants.{NoMemory}};
+ghost use Rattle.blockd.specs.{Faults.{fault_text, program_result_of, status_of}, declared.fault.BlockdError.TheVariants.{NoMemory as Refused}};
 
+use ata_types::NoMemory;
 use play::Ended;
-use std::alloc::AllocError;
 use std::{fmt, io};
 
 /// Why a run of the program doesn't end well.
@@ -25,10 +25,10 @@ pub enum BlockdError {
     Unwritten,
 }
 
-impl From<AllocError> for BlockdError {
-    ghost from_gives = { λ _ fault. fault ≡ NoMemory };
+impl From<NoMemory> for BlockdError {
+    ghost from_gives = { λ _ fault. fault ≡ Refused };
 
-    fn from(_error: AllocError) -> BlockdError {
+    fn from(_error: NoMemory) -> BlockdError {
         BlockdError::NoMemory
     }
 }

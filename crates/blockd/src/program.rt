@@ -6,10 +6,11 @@ ghost use Rattle.play.specs.PlayedScript.{EndsPlay};
 ghost use Rattle.blockd.specs.{Program.{IsImageAnd2048BlankSectors, Loads, RunsScript, ReportsEndOrUnwritten, file_fault_of}, declared.program.FileError.{FileError as UnreadOf}};
 
 use crate::fault::{BlockdError, program_result};
+use ata_types::NoMemory;
 use command_line::Args;
 use play::{Ended, PlayInputs, play_script};
 use sector_store::{DiskStore, FileStore, MemStore, SectorStore};
-use std::alloc::{AllocError, Global};
+use std::alloc::Global;
 use std::io::{self, BufWriter, Write};
 use thiserror::Error;
 
@@ -90,7 +91,7 @@ pub fn load<H: FileSource>(host: &mut H, args: &Args) -> Result<Inputs, BlockdEr
 pub fn image_and_2048_blank_sectors(
     alloc: Global,
     image: FileStore,
-) -> Result<(DiskStore, DiskStore), AllocError>
+) -> Result<(DiskStore, DiskStore), NoMemory>
     ensures { IfOk result (λ disks. IsImageAnd2048BlankSectors image disks.0 disks.1) }
 {
     let blank = MemStore::new(alloc, BLANK_SECTORS)?;

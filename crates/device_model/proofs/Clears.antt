@@ -27,6 +27,7 @@ use Rattle.device_model.specs.declared.clearing.SectorExtent.{SectorExtent}
 use Rattle.device_model.specs.declared.hardware.Hardware.{Hardware}
 use Rattle.device_model.specs.declared.model.Model.{Model}
 use Rattle.device_model.specs.declared.port.TakenCommand.{TakenCommand}
+use Rattle.device_model.proofs.Cleared.{clears_none}
 use Rattle.device_model.proofs.Finishing.{here_after, taken_after, next_has_clear, still_works}
 use Rattle.device_model.proofs.Doing.{IsFailed}
 use Rattle.device_model.proofs.Telling.{gains_none, gains_one}
@@ -35,17 +36,16 @@ use Rattle.device_model.proofs.TwoDisks.{has_disks, outside_kept, outside_zeros,
 
 -- where sectors can be cleared, each number of them that can be cleared at once, and is on the disk, may be
 pub may_clear : (d : Device) (port slot most first count : ℕ) (t : FetchedCommand) → HasClear d port slot most t → first ≡ next_uncleared t →
-    count ≤ next_run_length most t → first + count ≤ (d.port port).disk.sector_count → MayClear d port slot t first count
+    count ≤ next_run_length most t → (count ≡ 0) ⊎ (first + count ≤ (d.port port).disk.sector_count) → MayClear d port slot t first count
 may_clear d port slot most first count t has start few on_disk =
-    let some = has.count_is_positive in
     let enough = has.enough_are_left in
     record {
       works = has.works;
       trim = has.trim;
       block_is_moved = has.block_is_moved;
-      first_is_next = next_one t (omega (arith, some, enough)) ∙ ap (λ (k : ℕ). k ∷ []) (sym start);
+      first_is_next = next_one t has.some_are_left ∙ ap (λ (k : ℕ). k ∷ []) (sym start);
       sectors_follow = span_sectors most count t few enough ∙ ap (λ (k : ℕ). consecutive k count) (sym start);
-      inside = inr on_disk;
+      inside = on_disk;
     }
 
 -- and where a clear may be made, sectors can be cleared
@@ -59,10 +59,14 @@ can_clear d port slot first count t sized some can = record {
   works = can.works;
   trim = can.trim;
   block_is_moved = can.block_is_moved;
-  count_is_positive = some;
+  some_are_left = one (uncleared t) can.first_is_next;
   enough_are_left = by count (uncleared t) first can.sectors_follow;
 }
   where
+    one : (xs : List ℕ) → take 1 xs ≡ first ∷ [] → 1 ≤ length xs
+    one [] same = absurd (cc same)
+    one (x ∷ xs) same = omega arith
+
     by : (n : ℕ) (xs : List ℕ) (a : ℕ) → take n xs ≡ consecutive a n → n ≤ length xs
     by zero xs a same = omega arith
     by (suc n) [] a same = absurd (cc same)
@@ -103,7 +107,7 @@ module _ (old new : Device) (port slot most first count : ℕ) (t : FetchedComma
         };
         trim = has.trim;
         block_is_moved = has.block_is_moved;
-        count_is_positive = omega arith;
+        some_are_left = next.0;
         enough_are_left = next.0;
       }
 
@@ -115,11 +119,24 @@ pub found_clear : (h : Hardware) (o : AllMedia) (d : Device) (port slot most : �
     IsNextRun h port slot most run r → HasClear d port slot most (taken_of r)
 found_clear h o d port slot most run r has same is = next_has_clear h o d port slot most r has same is.works_on is.can_clear
 
+-- A clear is noted of so many sectors, of so many that were asked for.
+abbrev IsNoted : (most count : ℕ) → Type 0
+IsNoted most count = (1 ≤ count) ⊎ (most ≡ 0)
+
+noted_or_none : (most count : ℕ) → IsNoted most count ⊎ ((count ≡ 0) × (1 ≤ most))
+noted_or_none most (suc count) = inl (inl (omega arith))
+noted_or_none zero zero = inl (inr refl)
+noted_or_none (suc most) zero = inr (refl, omega arith)
+
+not_both : {X : Type 0} (most count : ℕ) → count ≡ 0 → 1 ≤ most → IsNoted most count → X
+not_both most count none asked (inl some) = absurd (omega (arith, none, some))
+not_both most count none asked (inr unasked) = absurd (omega (arith, asked, unasked))
+
 -- So many of the next sectors of a trim are cleared, or none: the rest is as it was, and the next one, if there is one, can be cleared.
 pub record IsPart {S : Type 0} (size : S → ℕ) (told : S → Option (ℕ → List ℕ)) (p : Port) (slot : Slot) (most first count : ℕ) (t : FetchedCommand) (old new : Model S) : Type 0 where
   pub before : count < next_run_length most t → (device_at size told new ≡ device_at size told old) ⊎ ClearsFewerSectorsThan p.0 slot.0 most (device_at size told old) (device_at size told new)
-  pub whole : 1 ≤ count → DoesClear p.0 slot.0 most (device_at size told old) (device_at size told new)
-  pub all : 1 ≤ count → count ≡ next_run_length most t → HasCleared (device_at size told old) (device_at size told new) p.0 slot.0 most
+  pub whole : IsNoted most count → DoesClear p.0 slot.0 most (device_at size told old) (device_at size told new)
+  pub all : IsNoted most count → count ≡ next_run_length most t → HasCleared (device_at size told old) (device_at size told new) p.0 slot.0 most
   pub more : count < next_run_length most t → HasClear (device_at size told new) p.0 slot.0 1 (record t { cleared = t.cleared + count })
   pub disk_size : ((device_at size told new).port p.0).disk.sector_count ≡ ((device_at size told old).port p.0).disk.sector_count
   pub gains_own_pages : GainsOwnPages size old new
@@ -147,16 +164,16 @@ module _ {S : Type 0} (size : S → ℕ) (told : S → Option (ℕ → List ℕ)
         ap (λ (x : AllMedia). device_of then_model.hardware x) (outside_zeros m then_model p.0 a b was items rest size told first count lasts zeros)
         ∙ (cleared o ∙ ap (λ (d : Device). device_after (Clear p.0 slot.0 (taken_of r) first count) d) (same o))
 
-    some_part : HasClear old_device p.0 slot.0 most (taken_of r) → first ≡ next_uncleared (taken_of r) → 1 ≤ count → count ≤ next_run_length most (taken_of r) →
-        first + count ≤ size a.disk.store → IsPart size told p slot most first count (taken_of r) m then_model
+    some_part : HasClear old_device p.0 slot.0 most (taken_of r) → first ≡ next_uncleared (taken_of r) → IsNoted most count → count ≤ next_run_length most (taken_of r) →
+        (count ≡ 0) ⊎ (first + count ≤ size a.disk.store) → IsPart size told p slot most first count (taken_of r) m then_model
     some_part has start some few on_disk =
-        let end : first + count ≤ (old_device.port p.0).disk.sector_count = let is = size_is in omega (arith, on_disk, is) in
+        let end : (count ≡ 0) ⊎ (first + count ≤ (old_device.port p.0).disk.sector_count) = subst (λ (n : ℕ). (count ≡ 0) ⊎ (first + count ≤ n)) (sym size_is) on_disk in
         let limit = span_most most (taken_of r) in
         let did : DoesClear p.0 slot.0 most old_device (device_at size told then_model) = record {
           fetched_command = taken_of r;
           first = first;
           count = count;
-          count_is_positive = some;
+          count_is_positive_if_asked = some;
           count_is_allowed = omega (arith, few, limit);
           can = may_clear old_device p.0 slot.0 most first count (taken_of r) has start few end;
           effect = clear_effect;
@@ -171,55 +188,66 @@ module _ {S : Type 0} (size : S → ℕ) (told : S → Option (ℕ → List ℕ)
         }
 
   -- none is
-  none_part : count ≡ 0 → then_model.hardware ≡ h → told b.disk.store ≡ told a.disk.store → size b.disk.store ≡ size a.disk.store →
+  none_part : count ≡ 0 → 1 ≤ most → then_model.hardware ≡ h → told b.disk.store ≡ told a.disk.store → size b.disk.store ≡ size a.disk.store →
       HasClear old_device p.0 slot.0 most (taken_of r) → IsPart size told p slot most first count (taken_of r) m then_model
-  none_part none left tells sizes has =
+  none_part none asked left tells sizes has =
       let around : all_media_at size told then_model ≡ all_media_at size told m = outside_kept m then_model p.0 a b was items rest size told sizes tells lasts in
       let kept : device_at size told then_model ≡ old_device = (λ i. device_of (left i) (around i)) ∙ same (all_media_at size told m) in
       let t : FetchedCommand = taken_of r in
       let here : t ≡ record t { cleared = t.cleared + count } =
       let number : t.cleared ≡ t.cleared + count = omega (arith, none) in ap (λ (n : ℕ). record t { cleared = n }) number in
-      let some = has.count_is_positive in
-      let enough = has.enough_are_left in
       let P : Device → Type 0 = λ d. HasClear d p.0 slot.0 1 t in
       record {
         before = λ _. inl kept;
-        whole = λ some. absurd (omega (arith, some, none));
-        all = λ some. absurd (omega (arith, some, none));
+        whole = λ noted. not_both most count none asked noted;
+        all = λ noted. not_both most count none asked noted;
         more = λ fewer.
             subst (λ (x : FetchedCommand). HasClear (device_at size told then_model) p.0 slot.0 1 x) here
             (subst P (sym kept)
-            (record { has_disks = has.has_disks; works = has.works; trim = has.trim; block_is_moved = has.block_is_moved; count_is_positive = omega arith; enough_are_left = omega (arith, some, enough) }));
+            (record { has_disks = has.has_disks; works = has.works; trim = has.trim; block_is_moved = has.block_is_moved; some_are_left = has.some_are_left; enough_are_left = has.some_are_left }));
         disk_size = ap (λ (d : Device). (d.port p.0).disk.sector_count) kept;
         gains_own_pages = gains_none size m then_model (ap (λ (d : Device). d.tape) kept);
       }
 
   -- as many as the store has cleared
   pub is_part : HasClear old_device p.0 slot.0 most (taken_of r) → first ≡ next_uncleared (taken_of r) → count ≤ next_run_length most (taken_of r) →
-      (1 ≤ count → first + count ≤ size a.disk.store) → (count ≡ 0 → then_model.hardware ≡ h) → (count ≡ 0 → told b.disk.store ≡ told a.disk.store) →
+      (count ≡ 0) ⊎ (first + count ≤ size a.disk.store) → (count ≡ 0 → 1 ≤ most → then_model.hardware ≡ h) → (count ≡ 0 → told b.disk.store ≡ told a.disk.store) →
       size b.disk.store ≡ size a.disk.store →
-      (1 ≤ count → (o : AllMedia) → device_of then_model.hardware (all_media_after_clear o p.0 first count) ≡ device_after (Clear p.0 slot.0 (taken_of r) first count) (device_of h o)) →
-      (1 ≤ count → new_disk ≡ disk_cleared old_disk first count) → IsPart size told p slot most first count (taken_of r) m then_model
+      (IsNoted most count → (o : AllMedia) → device_of then_model.hardware (all_media_after_clear o p.0 first count) ≡ device_after (Clear p.0 slot.0 (taken_of r) first count) (device_of h o)) →
+      new_disk ≡ disk_cleared old_disk first count → IsPart size told p slot most first count (taken_of r) m then_model
   is_part has start few on_disk left tells sizes cleared zeros =
-      elim (cases_lt 0 count) [
-        | inl some ↦ some_part (cleared (omega (arith, some))) (zeros (omega (arith, some))) has start (omega (arith, some)) few (on_disk (omega (arith, some)))
-        | inr none ↦ let zero : count ≡ 0 = omega (arith, none) in none_part zero (left zero) (tells zero) sizes has
+      elim (noted_or_none most count) [
+        | inl noted ↦ some_part (cleared noted) zeros has start noted few on_disk
+        | inr none ↦ none_part none.0 none.1 (left none.0 none.1) (tells none.0) sizes has
       ]
 
   -- of a run that the hardware has found, as far as it is on the disk
   pub cut_part : (run on : SectorExtent) (sectors : ℕ) → first ≡ run.first → IsNextRun h p.0 slot.0 most run r → sectors ≡ size a.disk.store → on.first + on.count ≤ sectors →
       on.count ≡ min run.count (sectors - run.first) → (1 ≤ on.count → on.first ≡ run.first) → count ≤ on.count →
       new_disk ≡ disk_cleared old_disk on.first count → (count ≡ 0 → told b.disk.store ≡ told a.disk.store) → size b.disk.store ≡ size a.disk.store →
-      (count ≡ 0 → then_model.hardware ≡ h) →
-      (1 ≤ count → (o : AllMedia) → device_of then_model.hardware (all_media_after_clear o p.0 first count) ≡ device_after (Clear p.0 slot.0 (taken_of r) first count) (device_of h o)) →
+      (count ≡ 0 → 1 ≤ most → then_model.hardware ≡ h) →
+      (IsNoted most count → (o : AllMedia) → device_of then_model.hardware (all_media_after_clear o p.0 first count) ≡ device_after (Clear p.0 slot.0 (taken_of r) first count) (device_of h o)) →
       IsPart size told p slot most first count (taken_of r) m then_model
   cut_part run on sectors at is listed inside cut begins few zeros tells sizes left cleared =
       let whole : run.count ≡ next_run_length most (taken_of r) = is.count_is in
       let start : first ≡ next_uncleared (taken_of r) = at ∙ is.first_is in
       let on_first : 1 ≤ count → on.first ≡ first = λ (some : 1 ≤ count). begins (omega (arith, some, few)) ∙ sym at in
       is_part (found_clear h (all_media_at size told m) old_device p.0 slot.0 most run r (has_disks size told m p.0 a was) (same (all_media_at size told m)) is) start
-      (omega (arith, few, cut, whole)) (λ some. let here = on_first some in omega (arith, here, inside, listed, few)) left tells sizes cleared
-      (λ some. zeros ∙ ap (λ (k : ℕ). disk_cleared old_disk k count) (on_first some))
+      (omega (arith, few, cut, whole)) (within on_first) left tells sizes cleared (zeros ∙ alike on_first)
+    where
+      within : (1 ≤ count → on.first ≡ first) → (count ≡ 0) ⊎ (first + count ≤ size a.disk.store)
+      within on_first = elim (cases_lt 0 count) [
+        | inl some ↦ let here = on_first (omega (arith, some)) in inr (omega (arith, here, inside, listed, few))
+        | inr none ↦ inl (omega (arith, none))
+      ]
+
+      alike : (1 ≤ count → on.first ≡ first) → disk_cleared old_disk on.first count ≡ disk_cleared old_disk first count
+      alike on_first = elim (cases_lt 0 count) [
+        | inl some ↦ ap (λ (k : ℕ). disk_cleared old_disk k count) (on_first (omega (arith, some)))
+        | inr none ↦
+            let zero : count ≡ 0 = omega (arith, none) in
+            ap (disk_cleared old_disk on.first) zero ∙ (clears_none old_disk on.first ∙ sym (ap (disk_cleared old_disk first) zero ∙ clears_none old_disk first))
+      ]
 
   -- the next one can't be: its command fails on it
   pub part_fails : (small : slot.0 < 32) → HasClear old_device p.0 slot.0 most (taken_of r) → IsPart size told p slot most first count (taken_of r) m then_model →

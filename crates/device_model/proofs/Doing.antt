@@ -1,5 +1,5 @@
 -- What a model makes of a step that it is told.
-use Rattle.std.proofs.Common.{ℕ, Bool, true, false, ◌≡◌, ◌≢◌, ◌<◌, ◌≤◌, ◌^◌, ◌⊎◌, ◌∙◌, List, Option, Some, ⊎_elim, refl, sym, ap, subst, inl, inr}
+use Rattle.std.proofs.Common.{ℕ, Bool, true, false, ◌≡◌, ◌≢◌, ◌<◌, ◌≤◌, ◌^◌, ◌⊎◌, ◌∙◌, List, Option, Some, ⊎_elim, refl, sym, ap, subst, inl, inr, arith}
 use Rattle.std.specs.Prelude.{option_map}
 use Rattle.adapter.specs.AskedSteps.{FailsAndPosts, DoesAtLeastOneSlotStep}
 use Rattle.adapter.specs.declared.access.DeviceStep.TheVariants as asked
@@ -294,7 +294,7 @@ module _ {S : Type 0} (size : S → ℕ) (told : S → Option (ℕ → List ℕ)
         on (inl same) =
             subst (λ (d : Device). (d ≡ device_at size told old) ⊎ DoesAtLeastOneSlotStep (SendsEnd slot.0) p.0 slot.0 (device_at size told old) d) (sym same)
             (before_it p slot did _ _ went stayed)
-        on (inr more) = inr (goes_next (SendsEnd slot.0) p.0 slot.0 _ _ last did went stayed (inr (inr (inr (most, more.0)))))
+        on (inr more) = inr (goes_next (SendsEnd slot.0) p.0 slot.0 _ _ last did went stayed (inr (inr (inr (most, (let few = more.1 in omega (arith, few)), more.0)))))
 
   -- ---- a command that is taken fails
 

@@ -196,7 +196,7 @@ module _ (port slot : ℕ) where
       let kind : is_queued m.fetched_command.meaning.operation ≡ true = ap (λ (x : FetchedCommand). is_queued x.meaning.operation) same ∙ queued in
       ap (λ (x : DevicePort). x.ci slot) there ∙ was m.fetched_command m.can.works.taken kind before
   no_more_on since mid new was (inr (inr (inl e))) t taken queued before = some-none taken (done_gone mid new e)
-  no_more_on since mid new was (inr (inr (inr (most, c)))) t taken queued before =
+  no_more_on since mid new was (inr (inr (inr (most, some, c)))) t taken queued before =
       let p : DevicePort = mid.port port in
       let u : FetchedCommand = record c.fetched_command { cleared = c.fetched_command.cleared + c.count } in
       let state : DevicePort = port_after_clear p slot c.fetched_command c.first c.count in
@@ -339,7 +339,12 @@ going_has_move d port slot left clears has going =
       has_disks = has;
     }
 
--- where a clear is left, one is possible
+-- where a clear is left, a sector is
+pub going_has_sector : (d : Device) (port slot clears : ℕ) → (going : IsInProgress d port slot 0 (suc clears)) → 1 ≤ length (uncleared going.fetched_command)
+going_has_sector d port slot clears going =
+    some_uncleared d.memory going.fetched_command clears (omega (arith, going.has_moves_left.moves_left_are)) going.has_trim_runs_left
+
+-- and it is possible
 pub going_has_clear : (d : Device) (port slot clears : ℕ) → HasDisks d port → (going : IsInProgress d port slot 0 (suc clears)) →
     HasClear d port slot (length (uncleared going.fetched_command)) going.fetched_command
 going_has_clear d port slot clears has going =
@@ -351,7 +356,7 @@ going_has_clear d port slot clears has going =
       works = subst (λ (o : Operation). WorksOn (d.port port) slot t o) trim going.works;
       trim = trim;
       block_is_moved = all;
-      count_is_positive = some_uncleared d.memory t clears all going.has_trim_runs_left;
+      some_are_left = going_has_sector d port slot clears going;
       enough_are_left = omega arith;
     }
 
@@ -364,7 +369,7 @@ clear_fits h o d port slot most t same clear =
     let w = holds h o port slot t (subst (λ (x : Operation). WorksOn ((device_of h o).port port) slot t x) (sym on_port.trim) on_port.works) in
     let Q : FetchedCommand → Type 0 = λ x. HasClear (device_of h o) port slot most x in
     let here : HasClear (device_of h o) port slot most (taken_of w.0) = subst Q w.2 on_port in
-    (w.0, w.1, record { trim = here.trim; block_is_moved = here.block_is_moved; count_is_positive = here.count_is_positive; enough_are_left = here.enough_are_left }, w.2)
+    (w.0, w.1, record { trim = here.trim; block_is_moved = here.block_is_moved; some_are_left = here.some_are_left; enough_are_left = here.enough_are_left }, w.2)
 
 -- and where the hardware finds one, it is possible on a port that has disks
 pub next_has_clear : (h : Hardware) (o : AllMedia) (d : Device) (port slot most : ℕ) (r : TakenCommand) → HasDisks d port → device_of h o ≡ d →
@@ -377,7 +382,7 @@ next_has_clear h o d port slot most r has same holds can =
       works = subst (λ (x : Operation). WorksOn ((device_of h o).port port) slot (taken_of r) x) trim (holds.works (o.media port));
       trim = trim;
       block_is_moved = can.block_is_moved;
-      count_is_positive = can.count_is_positive;
+      some_are_left = can.some_are_left;
       enough_are_left = can.enough_are_left;
     })
 
@@ -394,6 +399,12 @@ past_last [] k d past = refl
 past_last (x ∷ xs) zero d past = absurd (omega (arith, past))
 past_last (x ∷ xs) (suc k) d past = past_last xs k d (omega (arith, past))
 
+-- its engine stands
+pub stopped_past : (h : Hardware) (o : AllMedia) (port : ℕ) → length h.ports ≤ port → ((device_of h o).port port).cr ≡ true → ⊥
+stopped_past h o port past runs =
+    let off : (slice_index_or h.ports port reset_port_without_disk).cr ≡ false = ap (λ (p : PortModel). p.cr) (past_last h.ports port reset_port_without_disk past) in
+    true-false runs off
+
 -- nothing can be done on it
 pub never_past : (h : Hardware) (o : AllMedia) (port slot left clears : ℕ) → length h.ports ≤ port → MayFinish (device_of h o) port slot left clears → ⊥
 never_past h o port slot left clears past may = by may.is_begun_or_fetchable
@@ -402,7 +413,7 @@ never_past h o port slot left clears past may = by may.is_begun_or_fetchable
     d = device_of h o
 
     stopped : ((device_of h o).port port).cr ≡ true → ⊥
-    stopped runs = let off : (slice_index_or h.ports port reset_port_without_disk).cr ≡ false = ap (λ (p : PortModel). p.cr) (past_last h.ports port reset_port_without_disk past) in true-false runs off
+    stopped = stopped_past h o port past
 
     by : WorksOn (d.port port) slot may.fetched_command may.fetched_command.meaning.operation ⊎ (Can (Fetch port slot may.fetched_command.meaning may.fetched_command.places) d × (may.fetched_command ≡ newly_fetched may.fetched_command.meaning may.fetched_command.places)) → ⊥
     by (inl works) = stopped works.working.cr_is_set

@@ -139,7 +139,7 @@ one_settled port slot old new (inl f) =
 one_settled port slot old new (inr (inl m)) =
     settled_with old new port (port_after_move (old.port port) slot m.fetched_command m.bytes) (ap (λ (d : Device). d.hr) m.effect) (ap (λ (d : Device). d.port) m.effect)
     (same _ _ refl refl refl refl refl refl refl)
-one_settled port slot old new (inr (inr (inr (most, c)))) =
+one_settled port slot old new (inr (inr (inr (most, some, c)))) =
     settled_with old new port (port_after_clear (old.port port) slot c.fetched_command c.first c.count) (ap (λ (d : Device). d.hr) c.effect) (ap (λ (d : Device). d.port) c.effect)
     (same _ _ refl refl refl refl refl refl refl)
 one_settled port slot old new (inr (inr (inl e))) =

@@ -3,7 +3,7 @@ use Rattle.std.proofs.Common.{ℕ, length, Bool, zero, suc, true, false, ◌≡�
 use Rattle.std.proofs.lemmas.Bool.Decides.{eqb_tells}
 use Rattle.std.proofs.lemmas.List.Elements.{All-append, All-nil}
 use Rattle.std.specs.Prelude.{if◌then◌else◌, slice_index_or}
-use Rattle.adapter.specs.AskedSteps.{DoesFatal, DoesSlotStep, DoesExactlySlotSteps, FailsAndPosts, DoesAtLeastOneSlotStep, fatal_bit}
+use Rattle.adapter.specs.AskedSteps.{DoesClear, DoesFatal, DoesSlotStep, DoesExactlySlotSteps, FailsAndPosts, DoesAtLeastOneSlotStep, fatal_bit}
 use Rattle.adapter.specs.Commands.{Meaning, is_queued, sends_page}
 use Rattle.adapter.specs.Device.{DevicePort, Device, FetchedCommand}
 use Rattle.adapter.specs.Memory.{changed}
@@ -65,13 +65,16 @@ present_with q f port p same =
       | inr there ↦ ap (λ (x : DevicePort). x.present) (changed_other f port p q there.1)
     ]
 
+pub clear_keeps_present : (q : ℕ) (port slot most : ℕ) (old new : Device) → DoesClear port slot most old new → (new.port q).present ≡ (old.port q).present
+clear_keeps_present q port slot most old new c =
+    ap (λ (d : Device). (d.port q).present) c.effect ∙ present_with q old.port port (port_after_clear (old.port port) slot c.fetched_command c.first c.count) refl
+
 pub one_keeps_present : (q : ℕ) (port slot : ℕ) (old new : Device) → DoesSlotStep (SendsEnd slot) port slot old new → (new.port q).present ≡ (old.port q).present
 one_keeps_present q port slot old new (inl f) =
     ap (λ (d : Device). (d.port q).present) f.effect ∙ present_with q old.port port (port_after_fetch (old.port port) slot f.meaning f.places) refl
 one_keeps_present q port slot old new (inr (inl m)) =
     ap (λ (d : Device). (d.port q).present) m.effect ∙ present_with q old.port port (port_after_move (old.port port) slot m.fetched_command m.bytes) refl
-one_keeps_present q port slot old new (inr (inr (inr (most, c)))) =
-    ap (λ (d : Device). (d.port q).present) c.effect ∙ present_with q old.port port (port_after_clear (old.port port) slot c.fetched_command c.first c.count) refl
+one_keeps_present q port slot old new (inr (inr (inr (most, some, c)))) = clear_keeps_present q port slot most old new c
 one_keeps_present q port slot old new (inr (inr (inl e))) =
     ap (λ (d : Device). (d.port q).present) (end_rest port slot e.done.cause_bit e.done.fetched_command.meaning.operation e.after_end new e.posts)
     ∙ (ap (λ (d : Device). (d.port q).present) e.done.effect ∙ present_with q old.port port (port_with_lasting_after_operation (port_after_done_except_lasting (old.port port) slot e.done.cause_bit e.done.fetched_command.meaning.operation) e.done.fetched_command.meaning.operation (length old.tape)) refl)
@@ -135,7 +138,7 @@ module _ (P : Operation → List ℕ → Type 0) (is_plain : (o : Operation) (pl
       ap (λ (x : DevicePort). x.ci slot) there
       ∙ (ap (λ (b : Bool). (if b then (old.port port).ci else changed (old.port port).ci slot false) slot) plain ∙ changed_same (old.port port).ci slot false) in
       record { taken = λ t is. some-none is none; fetched = λ m places can. true-false can.fetchable.issued clear }
-  only_by_one old new (inr (inr (inr (most, c)))) only =
+  only_by_one old new (inr (inr (inr (most, some, c)))) only =
       let p : DevicePort = port_after_clear (old.port port) slot c.fetched_command c.first c.count in
       let u : FetchedCommand = record c.fetched_command { cleared = c.fetched_command.cleared + c.count } in
       only_with new p u (ap (λ (d : Device). d.port port) c.effect ∙ changed_same old.port port p) (changed_same (old.port port).taken slot (Some u))
@@ -166,7 +169,7 @@ module _ (P : Operation → List ℕ → Type 0) (is_page : (o : Operation) (pla
       let Sent : Device → Type 0 = λ d. SendsEnd slot port e.done.cause_bit t.meaning.operation d new in
       own_one (SendsPages held) (Done port slot e.done.cause_bit t) old new ((loose, is_page _ _ (only.taken t e.done.can.works.taken)), tt) e.done.can
       (subst Sent e.done.effect e.posts)
-  own_by_one old new (inr (inr (inr (most, c)))) only =
+  own_by_one old new (inr (inr (inr (most, some, c)))) only =
       true-false (is_page _ _ (only.taken c.fetched_command c.can.works.taken)) (ap sends_page c.can.trim)
 
   pub own_by_some : (n : ℕ) (old new : Device) → DoesExactlySlotSteps (SendsEnd slot) n port slot old new → IsOnly P old port slot → LeadsBySteps (SendsPages held) old new × IsOnly P new port slot

@@ -359,7 +359,7 @@ one_elsewhere port slot old new (inl f) k ne =
 one_elsewhere port slot old new (inr (inl m)) k ne =
     let p : DevicePort = port_after_move (old.port port) slot m.fetched_command m.bytes in
     weight_with old new port p k (ap (λ (d : Device). d.port port) m.effect ∙ changed_same old.port port p) refl (changed_other (old.port port).taken slot _ k ne)
-one_elsewhere port slot old new (inr (inr (inr (most, c)))) k ne =
+one_elsewhere port slot old new (inr (inr (inr (most, some, c)))) k ne =
     let p : DevicePort = port_after_clear (old.port port) slot c.fetched_command c.first c.count in
     weight_with old new port p k (ap (λ (d : Device). d.port port) c.effect ∙ changed_same old.port port p) refl (changed_other (old.port port).taken slot _ k ne)
 one_elsewhere port slot old new (inr (inr (inl e))) k ne =
@@ -405,7 +405,7 @@ one_apart port slot old new (inr (inl m)) = (
   ap (λ (d : Device). d.memory_size) m.effect,
   λ q ne. ap (λ (d : Device). d.port q) m.effect ∙ changed_other old.port port (port_after_move (old.port port) slot m.fetched_command m.bytes) q ne,
 )
-one_apart port slot old new (inr (inr (inr (most, c)))) = (
+one_apart port slot old new (inr (inr (inr (most, some, c)))) = (
   ap (λ (d : Device). d.memory_size) c.effect,
   λ q ne. ap (λ (d : Device). d.port q) c.effect ∙ changed_other old.port port (port_after_clear (old.port port) slot c.fetched_command c.first c.count) q ne,
 )

@@ -25,7 +25,7 @@ use Rattle.device_model.proofs.Absurd.{some-none, some_one, true-false}
 use Rattle.device_model.proofs.Doing.{whichs}
 use Rattle.device_model.proofs.TwoDisks.{each_port}
 use Rattle.device_model.proofs.Posting.{clearing_fails, moving_fails}
-use Rattle.device_model.proofs.Own.{fatal_keeps_present, fault_keeps_present, one_keeps_present, senseless_keeps_present, some_keep_present}
+use Rattle.device_model.proofs.Own.{clear_keeps_present, fatal_keeps_present, fault_keeps_present, one_keeps_present, senseless_keeps_present, some_keep_present}
 
 named_by : (w : DiskIndex) (number : ℕ) → number < 2 → w ≡ (if nat_eq number 0 then Disk0 else Disk1) → number ≡ disk_number w
 named_by w zero small e = sym (ap disk_number e)
@@ -72,7 +72,7 @@ still_empty : (s : DeviceStep) (old new : Device) (q : ℕ) (w : DiskIndex) (v :
     DoesAskedStep (SendsFisOfAskedEndOrFault s) s old new → (q ≡ asked_port s → disk_index_after s v ≡ Some w) → (new.port q).present ≡ false
 still_empty (asked.Fetch p s) old new q w v empty never may did same = one_keeps_present q p.0 s.0 old new (inl did) ∙ empty
 still_empty (asked.Move p s) old new q w v empty never may did same = one_keeps_present q p.0 s.0 old new (inr (inl did)) ∙ empty
-still_empty (asked.Clear p s n) old new q w v empty never may did same = one_keeps_present q p.0 s.0 old new (inr (inr (inr (n, did)))) ∙ empty
+still_empty (asked.Clear p s n) old new q w v empty never may did same = clear_keeps_present q p.0 s.0 n old new did ∙ empty
 still_empty (asked.Done p s) old new q w v empty never may did same = one_keeps_present q p.0 s.0 old new (inr (inr (inl did))) ∙ empty
 still_empty (asked.Finish p s) old new q w v empty never may did same = some_keep_present q (suc did.0) p.0 s.0 old new did.1 ∙ empty
 still_empty (asked.Fault p s error) old new q w v empty never may did same = fault_keeps_present q p.0 s.0 error 0 old new did ∙ empty
@@ -108,7 +108,7 @@ still_failed q (asked.Clear p s most) cached was now says later old new empty (m
   where
     by : (mid ≡ old) ⊎ ClearsFewerSectorsThan p.0 s.0 most old mid → (mid.port q).present ≡ (old.port q).present
     by (inl same) = ap (λ (d : Device). (d.port q).present) same
-    by (inr did) = one_keeps_present q p.0 s.0 old mid (inr (inr (inr (most, did.0))))
+    by (inr did) = clear_keeps_present q p.0 s.0 most old mid did.0
 still_failed q (asked.Finish p s) cached was now says later old new empty (mid, before, f) = by f ∙ (went before ∙ empty)
   where
     went : (mid ≡ old) ⊎ DoesAtLeastOneSlotStep (SendsEnd s.0) p.0 s.0 old mid → (mid.port q).present ≡ (old.port q).present

@@ -107,13 +107,14 @@ HasFirstGivenDiskOrNone size told (Some disks) p =
     × (p.plug_history ≡ disk_over Disk0 (size disks.first.store) (told disks.first.store) ∷ [])
     × (p.lasting ≡ record { sectors = told disks.first.store; tape_length = 0 })
 
--- A new adapter has what its configuration says, its ports too, and in each port the disk that is given for it. It is
--- switched off, its memory is zero, its ports are as after a reset, and nothing runs.
-pub record IsNewAdapter {S : Type 0} (config : ModelConfig) (size : S → ℕ) (told : S → Option (ℕ → List ℕ))
-    (disks : Disks S) (d : Device) : Type 0 where
+-- A new adapter has what its configuration says, the ports that are implemented, by the bits of PI, and in each port
+-- the disk that is given for it. It is switched off, its memory is zero, its ports are as after a reset, and nothing
+-- runs.
+pub record IsNewAdapter {S : Type 0} (config : ModelConfig) (implemented : ℕ) (size : S → ℕ)
+    (told : S → Option (ℕ → List ℕ)) (disks : Disks S) (d : Device) : Type 0 where
   pub memory_size_is : d.memory_size ≡ FRAME_BYTES * config.frames
-  pub cap : d.cap ≡ cap_of config.pi config.slots config.ncq
-  pub pi : d.pi ≡ config.pi
+  pub cap : d.cap ≡ cap_of implemented config.slots config.ncq
+  pub pi : d.pi ≡ implemented
   pub first_given_disks_are_in : (port : ℕ)
       → HasFirstGivenDiskOrNone size told (disks_given_for disks port) (d.port port)
   pub tape_is_empty : d.tape ≡ []
@@ -165,11 +166,11 @@ abbrev pub all_given_disks_tell : {S : Type 0} → (S → Option (ℕ → List �
 all_given_disks_tell told d = given_disks_tell told d.port0 &&
     (given_disks_tell told d.port1 && (given_disks_tell told d.port2 && given_disks_tell told d.port3))
 
--- A new model. Its adapter is new, with these disks. It tells its disks' sectors where all of their stores do. No port
--- is held, no step queued, no access made, and nothing left out for want of memory.
+-- A new model. Its adapter is new, with these ports and disks. It tells its disks' sectors where all of their stores
+-- do. No port is held, no step queued, no access made, and nothing left out for want of memory.
 pub record IsNewModel {S : Type 0} (size : S → ℕ) (told : S → Option (ℕ → List ℕ)) (config : ModelConfig)
-    (disks : Disks S) (m : Model S) : Type 0 where
-  pub adapter_is_new : IsNewAdapter config size told disks (device_at size told m)
+    (implemented : ℕ) (disks : Disks S) (m : Model S) : Type 0 where
+  pub adapter_is_new : IsNewAdapter config implemented size told disks (device_at size told m)
   pub holds_and_tells_bytes : HoldsBytesAndTellsDisks (device_at size told m)
   pub disks_tell_sectors_is : (device_at size told m).disks_tell_sectors ≡ all_given_disks_tell told disks
   pub bays_are_new : (port : ℕ) → IsNewBay config (disks_given_for disks port) (bay_of m port)

@@ -37,11 +37,11 @@ pub record WorksOnIn (p : PortModel) (slot : ℕ) (t : TakenCommand) : Type 0 wh
   pub is_taken : taken_in p.taken slot ≡ Some t
   pub works : (m : Media) → WorksOn (port_of p m) slot (taken_of t) t.operation
 
--- a trim whose block was moved, and of which at least so many sectors, one or more, are left to clear
+-- a trim whose block was moved, and of which at least so many sectors, and one at least, are left to clear
 pub record IsMovedTrimWithSectorsLeftAtLeast (t : TakenCommand) (most : ℕ) : Type 0 where
   pub trim : t.operation ≡ Trim
   pub block_is_moved : t.moved ≡ length (pieces t.prds)
-  pub count_is_positive : 1 ≤ most
+  pub some_are_left : 1 ≤ length (uncleared (taken_of t))
   pub enough_are_left : most ≤ length (uncleared (taken_of t))
 
 -- these sectors of it are cleared at once

@@ -46,14 +46,14 @@ next_uncleared t = slice_index (uncleared t) 0
 abbrev pub next_run_length : ℕ → FetchedCommand → ℕ
 next_run_length most t = first_run_length (take most (uncleared t))
 
--- The port, which has disks, works on this trim, whose block was moved, and so many sectors are left to clear, one at
--- least.
+-- The port, which has disks, works on this trim, whose block was moved, and so many sectors are left to clear, and one
+-- at least.
 pub record HasClear (d : Device) (port slot most : ℕ) (t : FetchedCommand) : Type 0 where
   pub has_disks : HasDisks d port
   pub works : WorksOn (d.port port) slot t Trim
   pub trim : t.meaning.operation ≡ Trim
   pub block_is_moved : t.moved ≡ length t.places
-  pub count_is_positive : 1 ≤ most
+  pub some_are_left : 1 ≤ length (uncleared t)
   pub enough_are_left : most ≤ length (uncleared t)
 
 -- ---- what a trim is going to clear

@@ -1,14 +1,14 @@
 // What a model is made from.
 use sector_store::pages::Trim;
-use std::alloc::AllocError;
+
+/// PI of an adapter with ports 0 to 3.
+pub const ALL_PORTS: u8 = 0x0f;
 
 /// The adapter and the disks that are modelled.
 #[derive(Clone, Copy, Debug, PartialEq, Eq)]
 pub struct ModelConfig {
     /// The memory, in frames: `FEWEST_FRAMES` to `MOST_FRAMES` of ata_types.
     pub frames: u16,
-    /// Which of ports 0 to 3 there are, by the bits of PI: 1 to 15.
-    pub pi: u8,
     /// The slots of each command list: 1 to 32.
     pub slots: u8,
     /// Whether adapter and disks know queued commands.
@@ -19,14 +19,4 @@ pub struct ModelConfig {
     pub trim: Trim,
     /// Whether the disks have a volatile write cache: `DeviceStep::LosePlug` loses what no flush has made lasting.
     pub cache: bool,
-}
-
-/// There was no memory left.
-#[derive(Clone, Copy, Debug, PartialEq, Eq)]
-pub struct NoMemory;
-
-impl From<AllocError> for NoMemory {
-    fn from(_error: AllocError) -> Self {
-        NoMemory
-    }
 }

@@ -37,7 +37,7 @@ mod taken;
 mod taped_adapter;
 mod trims;
 
-pub use config::{ModelConfig, NoMemory};
+pub use config::{ALL_PORTS, ModelConfig};
 pub use disks::{Disks, ModelDisk, PortDisks, Serial};
 pub use model::Model;
 pub use sector_store::pages::Trim;

@@ -9,7 +9,7 @@ ghost use Rattle.device_model.specs.{declared.port.TakenCommand.{TakenCommand}, 
 use crate::bay::{Bay, PAGE_BYTES, add_lie_of, end_lies, log_failed, note_end_of};
 use crate::clearing::SectorExtent;
 use crate::command_room::CommandBuffer;
-use crate::config::{ModelConfig, NoMemory};
+use crate::config::{ALL_PORTS, ModelConfig};
 use crate::disks::{DiskIndex, Disks, PortDisks};
 use crate::hardware::Hardware;
 use crate::operations::sectors_to_write;
@@ -18,7 +18,7 @@ use crate::steps::{BegunCommand, NextMove, PendingPageCommand};
 use adapter::{
     AccessCounter, Adapter, DeviceStep, DiskNumber, DiskPage, Entry, FatalError, Operation, Stepped,
 };
-use ata_types::{FEWEST_FRAMES, FRAME_BYTES, MOST_FRAMES, PORTS, Port, Slot};
+use ata_types::{FEWEST_FRAMES, FRAME_BYTES, MOST_FRAMES, NoMemory, PORTS, Port, Slot};
 use hba_regs::Reg;
 use sector_store::SectorStore;
 use sector_store::pages::{Abilities, LoggedError};
@@ -141,30 +141,30 @@ fn bays_for<S: SectorStore>(
 }
 
 impl<S: SectorStore> Model<S> {
-    /// An adapter as after its reset, with the ports that are asked for, memory of zeros, and two disks for port 0
-    /// alone: `IMAGEDISK` over the first store, which is in, and `BLANKDISK` over the second one.
+    /// An adapter as after its reset, with ports 0 to 3, memory of zeros, and two disks for port 0 alone: `IMAGEDISK`
+    /// over the first store, which is in, and `BLANKDISK` over the second one.
     pub fn new(alloc: Global, config: ModelConfig, image: S, blank: S) -> Result<Model<S>, NoMemory>
         requires frames { (FEWEST_FRAMES ≤ config.frames) × (config.frames ≤ MOST_FRAMES) }
-        requires ports { (1 ≤ config.pi) × (config.pi ≤ 15) }
         requires slots { (1 ≤ config.slots) × (config.slots ≤ 32) }
         requires depth { (1 ≤ config.depth) × (config.depth ≤ 32) }
-        ensures { IfOk result (IsNewModel S.size S.told config (port_0_alone image blank)) }
+        ensures { IfOk result (IsNewModel S.size S.told config ALL_PORTS (port_0_alone image blank)) }
     {
-        Model::with_disks(alloc, config, Disks::of_port_0(image, blank))
+        Model::with_disks(alloc, config, ALL_PORTS, Disks::of_port_0(image, blank))
     }
 
-    /// The same with these disks, of which those are in that are first in their ports. It tells its disks' sectors
-    /// where all of their stores do.
+    /// The same with the ports that are implemented, by the bits of PI, and with these disks, of which those are in
+    /// that are first in their ports. It tells its disks' sectors where all of their stores do.
     pub fn with_disks(
         alloc: Global,
         config: ModelConfig,
+        implemented: u8,
         disks: Disks<S>,
     ) -> Result<Model<S>, NoMemory>
         requires frames { (FEWEST_FRAMES ≤ config.frames) × (config.frames ≤ MOST_FRAMES) }
-        requires ports { (1 ≤ config.pi) × (config.pi ≤ 15) }
+        requires ports { (1 ≤ implemented) × (implemented ≤ 15) }
         requires slots { (1 ≤ config.slots) × (config.slots ≤ 32) }
         requires depth { (1 ≤ config.depth) × (config.depth ≤ 32) }
-        ensures { IfOk result (IsNewModel S.size S.told config disks) }
+        ensures { IfOk result (IsNewModel S.size S.told config implemented disks) }
     {
         let port0 = PortModel::new(alloc, disks.port0.is_some())?;
         let port1 = PortModel::new(alloc, disks.port1.is_some())?;
@@ -173,8 +173,8 @@ impl<S: SectorStore> Model<S> {
         let hardware = Hardware {
             memory: vec![in alloc; 0u8; FRAME_BYTES as usize * usize::from(config.frames)]?,
             ports: [port0, port1, port2, port3],
-            cap: capabilities(config.pi, config.slots, config.ncq),
-            pi: u32::from(config.pi),
+            cap: capabilities(implemented, config.slots, config.ncq),
+            pi: u32::from(implemented),
             hr: false,
             ae: false,
             ie: false,
@@ -470,7 +470,7 @@ impl<S: SectorStore> Model<S> {
         let count = bay.clear(on_disk);
         let first = run.first;
         self.hardware
-            .note_clear(port.0, slot.0, SectorExtent { first, count });
+            .note_clear(port.0, slot.0, SectorExtent { first, count }, most);
         if count == run.count {
             return StepOutcome::Done;
         }

@@ -1,5 +1,5 @@
 // Trims: what is left to clear of one, and that it is cleared.
-ghost use Rattle.std.specs.Prelude.{◌≡◌, ◌↔◌, ◌+◌, ◌^◌, ◌<◌, ◌≤◌, ℕ, IsTrue, IfSome, IsSomeAnd, None, Some, length, drop, slice_index_or};
+ghost use Rattle.std.specs.Prelude.{◌≡◌, ◌⊎◌, ◌↔◌, ◌+◌, ◌^◌, ◌<◌, ◌≤◌, ℕ, IsTrue, IfSome, IsSomeAnd, None, Some, length, drop, slice_index_or};
 ghost use Rattle.adapter.specs.{Decoding.{pieces}, Steps.{IsFinished, device_after}, Steps.DeviceTransition.{Clear as ClearStep}, Trim.{trim_sectors}};
 ghost use Rattle.device_model.specs.{TakenBlocks.{brought}, FetchedBytes.{bytes_of}, Finishing.{TapeHasRoom}, Slots.{IsMovedTrimWithSectorsLeftAtLeast, WorksOnIn, IsNextRun}, Trims.{HasRunsLeft, HasClearsLeft, trim_block_after_moves, sectors_left_to_clear, next_uncleared, next_run_length, uncleared}, PortView.{reset_port_without_disk, taken_of}, WholeAdapter.{AllMedia, device_of, all_media_after_clear}, declared.port.TakenCommand.{TakenCommand}};
 
@@ -106,7 +106,7 @@ pub fn clears_left_unless_too_many_cleared(
 }
 
 /// The sectors of a trim, whose block is this, that are cleared at once: of its next so many those that follow one
-/// another. `None` where there is none, and where fewer than so many are left.
+/// another. `None` where none is left, and where fewer than so many are.
 fn run_of_trim(command: &TakenCommand, block: &[u8], most: u32) -> Option<SectorExtent>
     requires block { block.now ≡ brought command.now.block }
     requires few { length block.now ≤ 512 }
@@ -119,7 +119,7 @@ fn run_of_trim(command: &TakenCommand, block: &[u8], most: u32) -> Option<Sector
     if !command.operation.is_trim() || command.moved != count_pieces(command.prds.as_slice()) {
         return None;
     }
-    let run = next_run(block, command.cleared, most);
+    let run = next_run(block, command.cleared, most.max(1));
     if run.count == 0 {
         return None;
     }
@@ -127,7 +127,10 @@ fn run_of_trim(command: &TakenCommand, block: &[u8], most: u32) -> Option<Sector
     if run.count < most && uncleared_of(command, block) < most {
         return None;
     }
-    Some(run)
+    Some(SectorExtent {
+        first: run.first,
+        count: run.count.min(most),
+    })
 }
 
 impl Hardware {
@@ -160,22 +163,23 @@ impl Hardware {
         run_of_trim(command, block, most)
     }
 
-    /// Sectors of a slot's trim were cleared: that is noted on the tape. Where there are none, nothing is.
-    pub fn note_clear(&mut self, port: u8, slot: u8, run: SectorExtent)
+    /// These sectors of a slot's trim were cleared, of so many that were asked for: that is noted on the tape. Where
+    /// there are none, though some were asked for, nothing is.
+    pub fn note_clear(&mut self, port: u8, slot: u8, run: SectorExtent, asked: u32)
         requires there { (port < 4) × (slot < 32) }
         requires slot_has_command { (t : TakenCommand)
             × WorksOnIn (slice_index_or self.old.ports port reset_port_without_disk) slot t
             × (t.cleared + run.count < 2 ^ 32) }
         requires room { TapeHasRoom self.old 1 }
-        ensures none_changes_nothing { run.count ≡ 0 → self.new ≡ self.old }
-        ensures cleared { 1 ≤ run.count → (o : AllMedia) (t : TakenCommand)
+        ensures none_changes_nothing { run.count ≡ 0 → 1 ≤ asked → self.new ≡ self.old }
+        ensures cleared { (1 ≤ run.count) ⊎ (asked ≡ 0) → (o : AllMedia) (t : TakenCommand)
             → WorksOnIn (slice_index_or self.old.ports port reset_port_without_disk) slot t →
             device_of self.new (all_media_after_clear o port run.first run.count)
             ≡ device_after (ClearStep port slot (taken_of t) run.first run.count) (device_of self.old o) }
         ensures room_is_left { (n : ℕ) → TapeHasRoom self.old (n + 1) → TapeHasRoom self.new n }
         ensures starved { self.new.starved ≡ self.old.starved }
     {
-        if run.count == 0 {
+        if run.count == 0 && asked > 0 {
             return;
         }
         let entry = Entry::Clear(Clear {

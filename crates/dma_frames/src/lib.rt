@@ -12,9 +12,11 @@ ghost use Rattle.dma_frames.specs.{Loan.{Lending}, LeastPlaces.{IsLeastPlace}, F
 mod frame_bits;
 
 use arrayvec::ArrayVec;
-use ata_types::{ClientId, Frame, FrameFault, MOST_FRAMES, MOST_REQUEST_FRAMES, RequestId};
+use ata_types::{
+    ClientId, Frame, FrameFault, MOST_FRAMES, MOST_REQUEST_FRAMES, NoMemory, RequestId,
+};
 use frame_bits::{BIT_WORDS, is_frame_bit_set, set_frame_bit};
-use std::alloc::{AllocError, Global};
+use std::alloc::Global;
 use std::marker::Model;
 
 /// The number of frames of the largest memory.
@@ -104,12 +106,12 @@ impl FrameTable {
     pub fn boxed(
         alloc: Global,
         runs: &[(ClientId, Frame, u16)],
-    ) -> Result<Box<FrameTable>, AllocError>
+    ) -> Result<Box<FrameTable>, NoMemory>
         requires extents { All IsValidExtent runs.now }
         requires apart { AllPairs ExtentsApart runs.now }
         ensures { IfOk result (λ table. IsUnlentTableOf runs.now table.value) }
     {
-        let mut table = Box::new(alloc, FrameTable::of_nobody())?;
+        let mut table = Box::new(alloc, FrameTable::of_nobody()).map_err(|_refused| NoMemory)?;
         table.mark_all(runs);
         Ok(table)
     }

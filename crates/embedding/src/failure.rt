@@ -1,8 +1,7 @@
 // Why the program ends early.
-use ata_types::{AdapterStuck, MemFault, NoSuchGrant, Refusal};
+use ata_types::{AdapterStuck, MemFault, NoMemory, NoRow, Refusal};
 use block_server::ServerError;
 use configuration::ConfigFault;
-use device_model::NoMemory;
 use std::alloc::AllocError;
 use std::io;
 use thiserror::Error;
@@ -19,7 +18,7 @@ pub enum Failure {
     #[error("a client may not reach a frame")]
     Frame(MemFault),
     #[error("a client has no such grant")]
-    Grant(NoSuchGrant),
+    Grant(NoRow),
     #[error("the adapter did not end its reset")]
     Reset(AdapterStuck),
     #[error("memory was refused")]
@@ -46,8 +45,8 @@ impl From<MemFault> for Failure {
     }
 }
 
-impl From<NoSuchGrant> for Failure {
-    fn from(missing: NoSuchGrant) -> Failure {
+impl From<NoRow> for Failure {
+    fn from(missing: NoRow) -> Failure {
         Failure::Grant(missing)
     }
 }

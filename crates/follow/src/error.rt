@@ -3,6 +3,7 @@
 ghost use Rattle.std.specs.Prelude.{◌≡◌, ◌≢◌};
 ghost use Rattle.follow.specs.declared.error.FollowError.TheVariants.{CommandLine};
 
+use ata_types::NoMemory;
 use play::Ended;
 use std::alloc::AllocError;
 use std::{fmt, io};
@@ -43,6 +44,12 @@ impl FollowError {
 
 impl From<AllocError> for FollowError {
     fn from(_error: AllocError) -> FollowError {
+        FollowError::NoMemory
+    }
+}
+
+impl From<NoMemory> for FollowError {
+    fn from(_error: NoMemory) -> FollowError {
         FollowError::NoMemory
     }
 }

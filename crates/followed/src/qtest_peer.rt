@@ -1,7 +1,8 @@
 // A peer that lines of text reach, as QEMU's qtest protocol spells them.
 use crate::peer::{Peer, PeerFault};
+use ata_types::NoMemory;
 use hba_regs::Reg;
-use std::alloc::{AllocError, Global};
+use std::alloc::Global;
 use std::io::{BufRead, Write};
 use std::str;
 
@@ -25,13 +26,8 @@ pub struct QtestPeer<R, W> {
 }
 
 impl<R: BufRead + Drop, W: Write + Drop> QtestPeer<R, W> {
-    /// A peer whose registers begin at this address. Nothing is asked yet.
-    pub fn new(
-        alloc: Global,
-        from: R,
-        to: W,
-        registers: u32,
-    ) -> Result<QtestPeer<R, W>, AllocError> {
+    /// A peer whose registers begin at this address. Nothing is asked yet. The only error is want of memory.
+    pub fn new(alloc: Global, from: R, to: W, registers: u32) -> Result<QtestPeer<R, W>, NoMemory> {
         let asked = Vec::with_capacity(alloc, 4 * CHUNK)?;
         let answer = Vec::with_capacity(alloc, 4 * CHUNK)?;
         Ok(QtestPeer {

@@ -12,7 +12,7 @@ ghost use Rattle.grants.specs.{NamedRows.{AreInOrder, IsPlaceOf, IsRowPlace, row
 
 mod key;
 
-use ata_types::{ClientId, GrantRow, Op, Request, Rule};
+use ata_types::{ClientId, GrantRow, NoMemory, Op, Request, Rule};
 use block_machine::{frame_count, is_allowed_count};
 use dma_frames::FrameTable;
 pub use key::Compared;
@@ -43,7 +43,7 @@ impl Model for Grants {
 
 impl Grants {
     /// Grants with these rows, at most 64. The only error is want of memory.
-    pub fn from_rows(alloc: Global, rows: &[GrantRow]) -> Result<Self, AllocError>
+    pub fn from_rows(alloc: Global, rows: &[GrantRow]) -> Result<Self, NoMemory>
         requires rows_are_at_most_64 { length rows.now ≤ 64 }
         requires names_differ { AllPairs DifferInName rows.now }
         ensures holds_same_rows { IfOk result (SameRows rows.now) }

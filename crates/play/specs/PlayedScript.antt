@@ -19,6 +19,7 @@ use Rattle.configuration.specs.declared.FaultKind.{FaultKind}
 use Rattle.device_model.specs.Disks.{port_0_alone}
 use Rattle.device_model.specs.ModelState.{IsNewModel, device_at, is_starved}
 use Rattle.device_model.specs.declared.config.ModelConfig.{ModelConfig}
+use Rattle.device_model.specs.declared.config.TheConstants.{ALL_PORTS}
 use Rattle.device_model.specs.declared.disks.Disks.{Disks}
 use Rattle.device_model.specs.declared.model.Model.{Model}
 use Rattle.script.specs.Script.{IsFirstBadLine, IsScript}
@@ -40,23 +41,22 @@ trim_config_word Full = codes "full"
 trim_config_word Weak = codes "weak"
 trim_config_word Without = codes "none"
 
--- The model is as the configuration says, and has all four ports.
+-- The model is made as the configuration says.
 pub record SettingsMatchConfig (config : Config) (settings : ModelConfig) : Type 0 where
   pub frames : settings.frames ≡ config.frames
-  pub pi_has_ports_0_to_3 : settings.pi ≡ 0x0f
   pub slots : settings.slots ≡ config.slots
   pub queuing : settings.ncq ≡ config.ncq
   pub depth : settings.depth ≡ config.depth
   pub trim : trim_config_word settings.trim ≡ string_bytes config.trim
   pub cache : settings.cache ≡ config.cache
 
--- The model is new and as the configuration says, with these disks.
+-- The model is new and as the configuration says, with ports 0 to 3 and these disks.
 pub record IsNewModelWithDisks {S : Type 0} (size : S → ℕ) (told : S → Option (ℕ
     → List ℕ)) (config : Config) (disks : Disks S)
     (m : Model S) : Type 0 where
   pub settings : ModelConfig
   pub settings_match_config : SettingsMatchConfig config settings
-  pub is_new_model : IsNewModel size told settings disks m
+  pub is_new_model : IsNewModel size told settings ALL_PORTS disks m
 
 -- the image is disk 0 of port 0, which is in it, and the blank disk is its disk 1; no other port has disks
 abbrev pub IsNewModelOfImage : {S : Type 0} → (S → ℕ) → (S → Option (ℕ → List ℕ)) → Config → (image blank : S) → Model S

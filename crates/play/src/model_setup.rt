@@ -5,13 +5,11 @@ ghost use Rattle.configuration.specs.Rules.{LacksEveryFault, IsTrimWord};
 ghost use Rattle.device_model.specs.ModelState.{device_at};
 ghost use Rattle.play.specs.PlayedScript.{IsNewModelOfImage, IsNewModelWithDisks, trim_config_word};
 
+use ata_types::NoMemory;
 use configuration::Config;
-use device_model::{Disks, Model, ModelConfig, NoMemory, Trim};
+use device_model::{ALL_PORTS, Disks, Model, ModelConfig, Trim};
 use sector_store::SectorStore;
 use std::alloc::Global;
-
-/// Ports 0 to 3 are there, as bits of PI.
-const ALL_PORTS: u8 = 0x0f;
 
 /// The promise on trims that a configuration's word names.
 fn trim_of(word: &str) -> Trim
@@ -54,12 +52,11 @@ pub fn new_model_of_disks<S: SectorStore>(
 {
     let settings = ModelConfig {
         frames: config.frames as u16,
-        pi: ALL_PORTS,
         slots: config.slots as u8,
         ncq: config.ncq,
         depth: config.depth as u8,
         trim: trim_of(config.trim.as_str()),
         cache: config.cache,
     };
-    Model::with_disks(alloc, settings, disks)
+    Model::with_disks(alloc, settings, ALL_PORTS, disks)
 }

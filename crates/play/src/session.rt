@@ -12,10 +12,11 @@ ghost use Rattle.play.specs.PlayedScript.{EndsPlay, IsWhyNothingIsPlayed, IsNewS
 use crate::model_setup::new_model;
 use crate::printed::{set_call_text, write_out};
 use adapter::{Adapter, Stepped};
+use ata_types::NoMemory;
 use block_server::laws::law_calls_that_extend_history_keep_promise;
 use block_server::{Event, MOST_SAID, Said, Server};
 use configuration::{Config, ConfigFault};
-use device_model::{Model, NoMemory, TapedAdapter};
+use device_model::{Model, TapedAdapter};
 use script::laws::law_lines_are_asked_in_turn;
 use script::{BadLine, CallBuffer, check_script, first_line, parse_script_line};
 use sector_store::SectorStore;

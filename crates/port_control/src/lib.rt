@@ -19,6 +19,7 @@ use adapter::Adapter;
 use ata_types::{DRIVER_BYTES, DRIVER_BYTES_PER_PORT, MOST_READINGS, Port, RECEIVED_FIS_OFFSET};
 use hba_regs::{ATA_SIGNATURE, PortCommand, PortReg, Reg, SataControl, SataStatus, TaskFile};
 use prerequisites::law_prerequisites;
+use thiserror::Error;
 
 pub mod events;
 pub mod laws;
@@ -72,15 +73,19 @@ impl Running {
 }
 
 /// Why a port didn't get where it was to.
-#[derive(Clone, Copy, Debug, PartialEq, Eq)]
+#[derive(Clone, Copy, Debug, PartialEq, Eq, Error)]
 pub enum PortFault {
     /// 64 readings found no device with a link.
+    #[error("64 readings found no device with a link")]
     NoDevice,
     /// 64 readings found the device busy, or asking for a transfer.
+    #[error("64 readings found the device busy, or asking for a transfer")]
     Busy,
     /// 64 readings found the engine running that was to stand.
+    #[error("64 readings found the engine running that was to stand")]
     EngineStuck,
     /// The device's signature, which is no ATA disk's.
+    #[error("the device's signature {0:#010x} is no ATA disk's")]
     NotAta(u32),
 }
 

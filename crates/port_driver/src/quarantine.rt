@@ -3,10 +3,10 @@
 ghost use Rattle.std.specs.Prelude.{◌≡◌, ◌<◌, ◌++◌, ◌∷◌, [], All, AllPairs, Contains, IfOk, length};
 ghost use Rattle.server_history.specs.{KeptLoans.{GivesBackLoans}, ServerState.{DifferInRequest, IsLentOut}};
 
-use ata_types::SLOTS;
+use ata_types::{NoMemory, SLOTS};
 use dma_frames::{FrameTable, Loan};
 use server_history::laws::law_giving_back_loans_composes;
-use std::alloc::{AllocError, Global};
+use std::alloc::Global;
 use std::marker::Model;
 
 /// The loans of one port that are kept, 32 at most, in the order in which they came. They can't be dropped:
@@ -27,8 +27,8 @@ impl Model for Quarantine {
 }
 
 impl Quarantine {
-    /// No loans, with room for 32: `AllocError` where the allocator refuses it. Nothing else takes memory.
-    pub fn new(alloc: Global) -> Result<Self, AllocError>
+    /// No loans, with room for 32. The only error is want of memory, and no other call takes memory.
+    pub fn new(alloc: Global) -> Result<Self, NoMemory>
         ensures { IfOk result (λ kept. kept ≡ []) }
     {
         let loans = Vec::with_capacity(alloc, SLOTS)?;

@@ -14,7 +14,7 @@ use crate::request_slab::{RequestSlab, as_unanswered};
 use arrayvec::ArrayVec;
 use ata_types::{
     ClientId, Frame, MOST_REQUEST_FRAMES, MOST_UNANSWERED_OF_A_CLIENT,
-    MOST_UNANSWERED_OF_ALL_CLIENTS, Port, RequestId,
+    MOST_UNANSWERED_OF_ALL_CLIENTS, NoMemory, Port, RequestId,
 };
 use block_machine::{QueueMode, Unanswered, is_plain};
 use dma_frames::{FrameTable, Loan};
@@ -26,10 +26,6 @@ const OVERDUE: u8 = 3;
 
 /// How many numbers of clients there are: 0 to 8.
 const COUNTS: usize = 9;
-
-/// Memory was refused.
-#[derive(Clone, Copy, Debug, PartialEq, Eq)]
-pub struct NoMemory;
 
 /// Unanswered requests of all ports, in order of acceptance. It can't be dropped, as it holds loans: `give_all_back`
 /// ends it.
@@ -64,21 +60,15 @@ impl Book {
     pub fn new(alloc: Global) -> Result<Self, NoMemory>
         ensures { IfOk result (λ book. book ≡ []) }
     {
-        let Ok(conflicts) = Conflicts::new(alloc) else {
-            return Err(NoMemory);
-        };
-        let Ok(blockers) = empty_blockers(alloc) else {
-            return Err(NoMemory);
-        };
-        match RequestSlab::new(alloc) {
-            Ok(store) => Ok(Book {
-                store,
-                conflicts,
-                blockers,
-                counts: [0; COUNTS],
-            }),
-            Err(_) => Err(NoMemory),
-        }
+        let conflicts = Conflicts::new(alloc)?;
+        let blockers = empty_blockers(alloc)?;
+        let store = RequestSlab::new(alloc)?;
+        Ok(Book {
+            store,
+            conflicts,
+            blockers,
+            counts: [0; COUNTS],
+        })
     }
 
     /// Whether there is no request.

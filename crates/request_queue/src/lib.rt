@@ -19,7 +19,7 @@ mod request_slab;
 mod sectors;
 
 use ata_types::{ClientId, Op, Port, Range, RequestId};
-pub use book::{Book, NoMemory};
+pub use book::Book;
 pub use disposition::{Disposition, FailedRequest, Revalidation};
 pub use due::DueIds;
 

@@ -3,7 +3,8 @@ ghost use Rattle.std.specs.Prelude.{◌≡◌, ◌<◌, ◌≤◌, ◌+◌, ◌^
 ghost use Rattle.sector_store.specs.{Stores.{AreSectors, HasRecordAndNotesOneMoreFailure, ReadsSector, WritesSector, filled_with_zeros_to_size}, declared.store.Failures.{Failures}};
 
 use crate::sector_file::copy;
-use std::alloc::{AllocError, Global};
+use ata_types::NoMemory;
+use std::alloc::Global;
 
 /// What a store tells of its calls that failed on sectors that are there.
 #[derive(Clone, Copy, Debug)]
@@ -73,8 +74,8 @@ pub struct MemStore {
 }
 
 impl MemStore {
-    /// That many sectors of zeros.
-    pub fn new(alloc: Global, sectors: u32) -> Result<MemStore, AllocError>
+    /// That many sectors of zeros. The only error is want of memory.
+    pub fn new(alloc: Global, sectors: u32) -> Result<MemStore, NoMemory>
         ensures size { IfOk result (λ s. s.size ≡ sectors) }
         ensures zeros { IfOk result (λ s.
             filled_with_zeros_to_size s.size s.written.items ≡ replicate sectors (replicate 512 0)) }

@@ -3,7 +3,7 @@ ghost use Rattle.std.specs.Prelude.{[], IfErr, IfOk, None, Ok, Err, Some};
 
 use super::Server;
 use adapter::Adapter;
-use ata_types::{ClientId, NoSuchGrant, Replies};
+use ata_types::{ClientId, NoRow, Replies};
 use request_queue::laws::{law_book_stays_well_formed, law_entries_stay_well_formed};
 use server_history::laws::{
     law_refusals_extend_history, law_requests_preserve_invariant, law_revocations_extend_history,
@@ -28,9 +28,9 @@ impl<A: Adapter> Server<A> {
     /// | the grant's port, if it is ready | What is due there by now is issued. Else no access is made. |
     ///
     /// Which requests go again `service`, `tick` and `reset` say. The replies stand in order of acceptance.
-    /// `NoSuchGrant` is told where the client has no grant of this number: then nothing changes, and no access is made.
+    /// `NoRow` is told where the client has no grant of this number: then nothing changes, and no access is made.
     /// No memory is taken. (All of this is this project's own.)
-    pub fn revoke(&mut self, client: ClientId, number: u8) -> Result<Replies, NoSuchGrant>
+    pub fn revoke(&mut self, client: ClientId, number: u8) -> Result<Replies, NoRow>
         ensures revoked { IfOk result (λ replies. Revokes A.device self.old self.new client number replies.items (Ok
             tt)) }
         ensures no_grant_changes_nothing { IfErr result
@@ -54,7 +54,7 @@ impl<A: Adapter> Server<A> {
         client: ClientId,
         number: u8,
         replies: &mut Replies,
-    ) -> Result<(), NoSuchGrant>
+    ) -> Result<(), NoRow>
         ensures revokes { Revokes A.device self.old self.new client number replies.new.items result }
         ensures extends_history { ExtendsHistory (server_of A.device self.old) (server_of A.device self.new)
             (RevokeOf client number)
@@ -71,7 +71,7 @@ impl<A: Adapter> Server<A> {
         law_refusals_extend_history();
         replies.clear();
         let Some(row) = self.grants.revoke(client, number) else {
-            return Err(NoSuchGrant);
+            return Err(NoRow);
         };
         self.shared.book.mark_revoked(client, number);
         self.shared

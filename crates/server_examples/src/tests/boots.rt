@@ -1,6 +1,7 @@
 // What the ports of a modelled adapter are found to be when it is taken over, and what is written and read for that.
-use super::watched::{ALL_PORTS, AdapterCall, Lie, NO_LIE, Watched, lie, model};
+use super::watched::{AdapterCall, Lie, NO_LIE, Watched, lie, model};
 use ata_types::{PORTS, Port, PortState};
+use device_model::ALL_PORTS;
 use hba_regs::{PortReg, Reg};
 use host_boot::{ProbeResult, take_over};
 use identify::{DiskInfo, Wanted};

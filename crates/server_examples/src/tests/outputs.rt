@@ -1,7 +1,8 @@
 // Outputs that fail, or are interrupted, while a script is played.
+use ata_types::NoMemory;
 use play::{Ended, PlayInputs, play_script};
 use sector_store::MemStore;
-use std::alloc::{AllocError, Global};
+use std::alloc::Global;
 use std::io;
 use std::test::Fail;
 
@@ -58,7 +59,7 @@ impl io::Write for InterruptedOutput {
 }
 
 /// How the play of a script ends that is printed to this output.
-fn ended<W: io::Write>(alloc: Global, script: &[u8], out: &mut W) -> Result<Ended, AllocError> {
+fn ended<W: io::Write>(alloc: Global, script: &[u8], out: &mut W) -> Result<Ended, NoMemory> {
     let image = MemStore::new(alloc, 8)?;
     let blank = MemStore::new(alloc, 0)?;
     let inputs = PlayInputs {

@@ -4,9 +4,10 @@ ghost use Rattle.std.specs.Prelude.{◌≤◌};
 ghost use Rattle.adapter.specs.Idle.{IsIdle};
 
 use super::boots::ONLY_IMAGE_DISK_WANTED;
-use super::watched::{ALL_PORTS, RegisterReadings, Watched, model};
+use super::watched::{RegisterReadings, Watched, model};
 use adapter::{Adapter, DeviceStep, DiskNumber};
 use ata_types::{DRIVER_BYTES, PORTS, Port, PortState};
+use device_model::ALL_PORTS;
 use hba_regs::{PortReg, Reg};
 use host_boot::laws::law_ready_ports_run_and_unusable_disks_show;
 use host_boot::{ProbeResult, take_over};

@@ -4,18 +4,14 @@ ghost use Rattle.adapter.specs.Idle.{IsIdle};
 
 use adapter::{Adapter, DeviceStep, DiskPage, Stepped};
 use ata_types::{DRIVER_BYTES, FEWEST_FRAMES, PORTS, Port};
-use device_model::{Model, ModelConfig, Trim};
+use device_model::{Disks, Model, ModelConfig, Trim};
 use hba_regs::Reg;
 use sector_store::MemStore;
 use std::alloc::Global;
 use std::test::Fail;
 
-/// PI of an adapter with ports 0 to 3.
-pub const ALL_PORTS: u8 = 0x0f;
-
 const CONFIG: ModelConfig = ModelConfig {
     frames: FEWEST_FRAMES,
-    pi: ALL_PORTS,
     slots: 32,
     ncq: true,
     depth: 32,
@@ -29,12 +25,9 @@ pub fn model(alloc: Global, pi: u8, sectors: u32) -> Result<Model<MemStore>, Fai
     ensures idle { IfOk result (λ m. IsIdle (⟦<Model<MemStore> as Adapter>⟧.device m)) }
     ensures room { IfOk result (λ m. DRIVER_BYTES ≤ (⟦<Model<MemStore> as Adapter>⟧.device m).memory_size) }
 {
-    Ok(Model::new(
-        alloc,
-        ModelConfig { pi, ..CONFIG },
-        MemStore::new(alloc, sectors)?,
-        MemStore::new(alloc, 0)?,
-    )?)
+    let image = MemStore::new(alloc, sectors)?;
+    let disks = Disks::of_port_0(image, MemStore::new(alloc, 0)?);
+    Ok(Model::with_disks(alloc, CONFIG, pi, disks)?)
 }
 
 /// Bits of a byte of a page, by the byte's offset: a disk lies of them. No bits are no lie.

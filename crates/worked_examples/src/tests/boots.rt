@@ -7,7 +7,7 @@ use adapter::{
     Adapter, DeviceStep, Direction, DiskNumber, DiskPage, Entry, Move, Operation, Stepped,
 };
 use ata_types::{DRIVER_BYTES, FEWEST_FRAMES, PORTS, Port, PortState, SCRATCH_OFFSET, Slot};
-use device_model::{Model, ModelConfig, Trim};
+use device_model::{Disks, Model, ModelConfig, Trim};
 use hba_regs::Reg;
 use host_boot::{ProbeResult, take_over};
 use identify::{DiskInfo, Wanted};
@@ -282,7 +282,6 @@ fn model(alloc: Global, pi: u8) -> Result<Model<MemStore>, Fail>
 {
     let config = ModelConfig {
         frames: FEWEST_FRAMES,
-        pi,
         slots: 32,
         ncq: true,
         depth: 32,
@@ -290,7 +289,8 @@ fn model(alloc: Global, pi: u8) -> Result<Model<MemStore>, Fail>
         cache: false,
     };
     let image = MemStore::new(alloc, SECTORS)?;
-    Ok(Model::new(alloc, config, image, MemStore::new(alloc, SECTORS)?)?)
+    let disks = Disks::of_port_0(image, MemStore::new(alloc, SECTORS)?);
+    Ok(Model::with_disks(alloc, config, pi, disks)?)
 }
 
 /// Whether a model of this case is found as the case says.

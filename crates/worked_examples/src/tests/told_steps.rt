@@ -1,8 +1,8 @@
 // What a new model does when it is told, and before an access. It isn't switched on, so that GHC alone is read and
 // written.
 use adapter::{Adapter, DeviceStep, DiskNumber, DiskPage, Entry, FatalError, Stepped};
-use ata_types::{AdapterStuck, FEWEST_FRAMES, Port, Slot};
-use device_model::{Model, ModelConfig, NoMemory, Trim};
+use ata_types::{AdapterStuck, FEWEST_FRAMES, NoMemory, Port, Slot};
+use device_model::{Model, ModelConfig, Trim};
 use hba_regs::Reg;
 use host_boot::reset;
 use sector_store::MemStore;
@@ -11,7 +11,6 @@ use std::test::Fail;
 
 const CONFIG: ModelConfig = ModelConfig {
     frames: FEWEST_FRAMES,
-    pi: 0x0f,
     slots: 32,
     ncq: true,
     depth: 32,

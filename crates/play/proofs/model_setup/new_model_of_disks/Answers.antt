@@ -34,7 +34,7 @@ returns-clause-is_ready_for_config g c = IfOk-weaker c.with_disks.result _ _ (λ
 -- the settings are those that the model was made with
 pub returns-clause-is_model : goal.returns-clause-is_model
 returns-clause-is_model g c = IfOk-weaker c.with_disks.result _ _ (λ m made. record {
-  settings = record { frames = c.args.config.now.frames; pi = 15; slots = c.args.config.now.slots; ncq = c.args.config.now.ncq; depth = c.args.config.now.depth; trim = c.trim_of.result; cache = c.args.config.now.cache };
-  settings_match_config = record { frames = refl; pi_has_ports_0_to_3 = refl; slots = refl; queuing = refl; depth = refl; trim = c.trim_of.ensures ∙ c.as_str.ensures.value; cache = refl };
+  settings = record { frames = c.args.config.now.frames; slots = c.args.config.now.slots; ncq = c.args.config.now.ncq; depth = c.args.config.now.depth; trim = c.trim_of.result; cache = c.args.config.now.cache };
+  settings_match_config = record { frames = refl; slots = refl; queuing = refl; depth = refl; trim = c.trim_of.ensures ∙ c.as_str.ensures.value; cache = refl };
   is_new_model = made;
 }) c.with_disks.ensures

@@ -1,6 +1,6 @@
 use Rattle.std.proofs.Common.{Some, subst}
 use Rattle.std.specs.declared.result.Result.{Result}
-use Rattle.ata_types.specs.declared.call.NoSuchGrant.{NoSuchGrant}
+use Rattle.ata_types.specs.declared.call.NoRow.{NoRow}
 use Rattle.block_machine.specs.Events.{RevokeOf, WasRevoked}
 use Rattle.server_history.specs.Histories.{ExtendsHistory}
 use Rattle.block_server.specs.Revoking.{revoke_result}
@@ -13,7 +13,7 @@ returns-in-Ok-clause-says g c =
     let count = c.len.ensures.value in
     let replies = c.as_slice.ensures.value in
     let says = c.say_with_replies.ensures.said in
-    let Extends : Result (Unit {0}) NoSuchGrant → Type 0 = λ r. ExtendsHistory (server_of g.A.Adapter.device c.args.self.now) (server_of g.A.Adapter.device c.revoke_into.new.self) (RevokeOf c.args.client c.args.number) (revoke_result r c.revoke_into.new.replies.items) in
+    let Extends : Result (Unit {0}) NoRow → Type 0 = λ r. ExtendsHistory (server_of g.A.Adapter.device c.args.self.now) (server_of g.A.Adapter.device c.revoke_into.new.self) (RevokeOf c.args.client c.args.number) (revoke_result r c.revoke_into.new.replies.items) in
     (WasRevoked (Some c.revoke_into.new.replies.items), subst Extends c.in-Ok.is c.revoke_into.ensures.extends_history, cc (says, count, replies))
 
 pub returns-in-Ok-clause-wanted_is_unchanged : goal.returns-in-Ok-clause-wanted_is_unchanged

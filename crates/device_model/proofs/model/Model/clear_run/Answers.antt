@@ -1,4 +1,5 @@
-use Rattle.std.proofs.Common.{ℕ, Bool, true, min, ◌-◌, ◌≡◌, ◌<◌, ◌≤◌, ◌+◌, ◌∙◌, Some, length, refl, sym, ap, subst, arith, inl, inr}
+use Rattle.std.proofs.Common.{rules, ℕ, Bool, true, min, ◌-◌, ◌≡◌, ◌<◌, ◌≤◌, ◌+◌, ◌⊎◌, ◌∙◌, Some, length, refl, sym, ap, subst, arith, inl, inr}
+use Rattle.std.proofs.lemmas.Bool.{cases_lt}
 use Rattle.adapter.specs.declared.access.DeviceStep.TheVariants as asked
 use Rattle.adapter.specs.Steps.{disk_cleared}
 use Rattle.device_model.specs.WriteCaches.{OneMoreCallFails, HasRoomForOldSectors}
@@ -12,18 +13,36 @@ use Rattle.device_model.proofs.Absurd.{some_one, true-false}
 use Rattle.device_model.proofs.Caching.{less_room}
 use Rattle.device_model.proofs.Growing.{grown_lasts, grown_left, room_here, room_there}
 use Rattle.device_model.proofs.Clears.{IsPart, cut_part, found_clear, part_fails}
-use Rattle.device_model.proofs.Doing.{IsFailed, is_failed}
+use Rattle.device_model.proofs.Doing.{IsFailed, is_failed, left_same}
 use Rattle.device_model.proofs.Faults.{did_fail, fine_on}
-use Rattle.device_model.proofs.Finishing.{clear_fits}
+use Rattle.device_model.proofs.Finishing.{clear_fits, stopped_past}
 use Rattle.device_model.proofs.Trimming.{span_some}
 use Rattle.std.specs.Vec.{with_item}
 use Rattle.std.specs.Prelude.{slice_set}
 use Rattle.device_model.specs.declared.bay.Bay.{Bay}
 use Rattle.device_model.specs.declared.model.Model.{Model}
-use Rattle.device_model.proofs.TwoDisks.{found_bay, has_disks, seat_is, seated_here, seated_others, store_fine, store_keeps, store_says, store_whichs, with_store}
+use Rattle.device_model.proofs.TwoDisks.{found_bay, has_disks, no_bay, no_disks, seat_is, seated_here, seated_others, store_fine, store_keeps, store_says, store_whichs, with_store}
 use Rattle.device_model.proofs.model.Model.clear_run.Given.{Over}
 use Rattle.device_model.proofs.model.Model.clear_run.Goals as goal
-use Rattle.device_model.proofs.model.Model.clear_run.Goals.{then-count-on_disk, else-count-on_disk}
+use Rattle.device_model.proofs.model.Model.clear_run.Goals.{then-count-on_disk, else-count-on_disk, then-place-ge-PORTS-via-then-place-ge-PORTS, then-place-ge-PORTS-via-else-place-ge-PORTS+then-not-has_disks}
+
+-- there is no such port, or it has no disks
+pub returns-then-place-ge-PORTS-clause-answers : goal.returns-then-place-ge-PORTS-clause-answers
+returns-then-place-ge-PORTS-clause-answers g c =
+    let m = c.args.self.now in
+    let o : AllMedia = all_media_at g.S.SectorStore.size g.S.SectorStore.told m in
+    let four : length m.hardware.ports ≡ 4 = search rules in
+    left_same g.S.SectorStore.size g.S.SectorStore.told g.S.SectorStore.failures _ m
+    (λ may.
+    elim c.then-place-ge-PORTS.branch [
+      | then-place-ge-PORTS-via-then-place-ge-PORTS w ↦
+          let past = w.if-place-ge-PORTS.true in
+          let at = c.from-place.ensures in
+          stopped_past m.hardware o c.args.port.0 (omega (arith, four, past, at)) may.2.works.working.cr_is_set
+      | then-place-ge-PORTS-via-else-place-ge-PORTS+then-not-has_disks w ↦
+          no_disks g.S.SectorStore.size g.S.SectorStore.told m c.args.port.0
+          (no_bay m c.from-place.result c.args.port.0 _ c.from-place.ensures w.as_slice.ensures.value (sym w.has_disks.ensures.disks ∙ w.if-not-has_disks.true)) may.2.has_disks
+    ])
 
 -- there is none that is possible
 pub returns-in_default-clause-answers : goal.returns-in_default-clause-answers
@@ -155,10 +174,12 @@ all g c =
     let found = c.in-Some.ensures.found in
     let p = whole_part g c in
     let able = whole_can g c in
-    let one = span_some c.args.most (taken_of found.0) able.count_is_positive able.enough_are_left in
     let whole : c.in-Some.run'.count ≡ next_run_length c.args.most (taken_of found.0) = found.1.count_is in
     let same = c.if-count-run.true in
-    let some : 1 ≤ c.clear-count.result = omega (arith, one, whole, same) in
+    let some : (1 ≤ c.clear-count.result) ⊎ (c.args.most ≡ 0) = elim (cases_lt 0 c.args.most) [
+      | inl asked ↦ let one = span_some c.args.most (taken_of found.0) (omega (arith, asked)) able.enough_are_left in inl (omega (arith, one, whole, same))
+      | inr none ↦ inr (omega (arith, none))
+    ] in
     let few = c.clear-count.ensures.zero.count_is_allowed in
     let cut = c.cut-on_disk.ensures.count in
     let cleared = p.all some (omega (arith, whole, same)) in (

@@ -22,7 +22,7 @@ use Rattle.device_model.proofs.Absurd.{true-false}
 use Rattle.adapter.proofs.Going.{goes_one, goes_next}
 use Rattle.device_model.proofs.Doing.{answered_true, done_whole, clear_fails, cut_short, did_it, left_it, left_same, meanwhile_on, move_fails}
 use Rattle.device_model.proofs.Paging.{finish_clears, finish_moves, page_asks_none, page_taken}
-use Rattle.device_model.proofs.Finishing.{never_past, cleared_goes, fetched_size, going_has_clear, holds, moved_goes, going_has_move, going_may_end, done_ended, done_frees, no_more_going}
+use Rattle.device_model.proofs.Finishing.{never_past, cleared_goes, fetched_size, going_has_clear, going_has_sector, holds, moved_goes, going_has_move, going_may_end, done_ended, done_frees, no_more_going}
 use Rattle.device_model.proofs.Telling.{gains_none}
 use Rattle.device_model.proofs.Caching.{no_room}
 use Rattle.device_model.proofs.Growing.{RoomAhead, cleared_room, grown_disks, grown_keeps, grown_left, grown_outside, moved_room, one_room, room_here, room_there, run_room}
@@ -223,8 +223,11 @@ loop-run-preserved g c =
     let going = subst P next is.going in
     let asks = finish_clears c.args.port c.args.slot _ c.in-Some-begin.field-0.remaining.moves c.in-Some-begin.field-0.remaining.clears (found_disks g.S.SectorStore.size g.S.SectorStore.told c.args.self.now c.from.result c.args.port.0 _ c.from.ensures c.as_slice.ensures.value (sym c.has_disks.ensures.disks ∙ c.if-not-has_disks.false)) c.requires
     (omega (arith, c.loop-run-test.true)) (c.in-Some-begin.ensures.begun.may_finish start) in
+    let all = as_many m.hardware o c.args.port.0 c.args.slot.0 0 (suc left) most going c.count_uncleared-most.ensures in
+    let one = going_has_sector d c.args.port.0 c.args.slot.0 left going in
+    let some : 1 ≤ most = omega (arith, all, one) in
     record {
-      did = λ _. goes_next (SendsEnd c.args.slot.0) c.args.port.0 c.args.slot.0 _ _ _ c.loop-run.did is.did is.refused (inr (inr (inr (most, whole.1.does_asked_step))));
+      did = λ _. goes_next (SendsEnd c.args.slot.0) c.args.port.0 c.args.slot.0 _ _ _ c.loop-run.did is.did is.refused (inr (inr (inr (most, some, whole.1.does_asked_step))));
       refused = λ never. absurd (let e : true ≡ false = never in cc);
       meanwhile = meanwhile_on g.S.SectorStore.size g.S.SectorStore.told g.S.SectorStore.failures c.args.port.0 _ _ _ is.meanwhile
           (record { held = step.held_ports_are; says = whole.1.page_source_is; which = step.disk_index_is; others = step.other_bays_are_kept; pages = step.gains_own_pages; keeps = step.step_keeps; starved = step.starved_is_kept });
@@ -232,8 +235,7 @@ loop-run-preserved g c =
       untouched = λ never. absurd (let e : true ≡ false = never in cc);
       fine = λ q which. whole.1.no_call_failed refl q which ∙ is.fine q which;
       room = c.clear_run.ensures.left c.in-Done-clear_run.is _ (omega (arith, is.room, c.loop-run-test.true));
-      going = cleared_goes c.args.port.0 c.args.slot.0 left d _ going most
-          (as_many m.hardware o c.args.port.0 c.args.slot.0 0 (suc left) most going c.count_uncleared-most.ensures) whole.1.does_asked_step whole.0;
+      going = cleared_goes c.args.port.0 c.args.slot.0 left d _ going most all whole.1.does_asked_step whole.0;
       ahead = cleared_room g.S.SectorStore.size g.S.SectorStore.told c.args.port.0 c.args.slot.0 m c.clear_run.new.self most whole.1.does_asked_step whole.0 is.ahead (c.clear_run.ensures.old_room c.in-Done-clear_run.is);
     }
 
