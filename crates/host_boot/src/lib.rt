@@ -152,8 +152,8 @@ fn enable_interrupts<A: Adapter>(adapter: &mut A)
 }
 
 /// Takes an idle adapter over: switches it on, boots each of the ports 0 to 3 that is wanted and that the adapter has,
-/// in rising number, and lets it interrupt. Ports that aren't served are left idle. Those that are ready come with their
-/// tokens.
+/// in rising number, and lets it interrupt. Ports that aren't served are left idle. Those that are ready come with
+/// their tokens.
 pub fn take_over<A: Adapter>(adapter: &mut A, wanted: &[Wanted; PORTS]) -> Host
     requires idle { IsIdle (A.device adapter.old) }
     requires driver_memory_fits { DRIVER_BYTES ≤ (A.device adapter.old).memory_size }

@@ -174,11 +174,11 @@ pub fn boot_stopped<A: Adapter>(
     }
 }
 
-/// Boots a port, no slot of which is used: stops it, has it receive FISes, sends COMRESET, looks for an ATA disk that is
-/// idle, asks it for its page by IDENTIFY DEVICE, and, if the page is of a disk with the serial number that is named (20
-/// characters, filled with spaces; any will do if none is), has the port tell of interrupts' causes, and leaves it
-/// running. It returns the port's token and what the disk says of itself. What halts the port then is of a command that
-/// is taken.
+/// Boots a port, no slot of which is used: stops it, has it receive FISes, sends COMRESET, looks for an ATA disk that
+/// is idle, asks it for its page by IDENTIFY DEVICE, and, if the page is of a disk with the serial number that is named
+/// (20 characters, filled with spaces; any will do if none is), has the port tell of interrupts' causes, and leaves it
+/// running. It returns the port's token and what the disk says of itself. What halts the port then is of a command
+/// that is taken.
 ///
 /// The error is the state of a port that isn't ready: `Absent`, `Unfit(1)` to `Unfit(9)` or `Foreign`, and the port is
 /// stopped; or `Dead`, if an engine is stuck.
