@@ -1,5 +1,6 @@
-use Rattle.std.proofs.Common.{ℕ, List, Option, rules, inl, inr, true, ◌≡◌, ◌≢◌, sym, subst}
+use Rattle.std.proofs.Common.{ℕ, List, Option, rules, inl, inr, true, ◌≡◌, ◌≢◌, refl, sym, subst}
 use Rattle.ata_types.specs.declared.PortState.{PortState}
+use Rattle.ata_types.specs.declared.PortState.TheVariants.{Dead}
 use Rattle.hba_regs.specs.Bits.{bit}
 use Rattle.identify.specs.declared.wanted.Wanted.TheVariants.{Nothing}
 use Rattle.port_boot.specs.Outcomes.{StopsAndEndsReady, StopsAndEndsUnready}
